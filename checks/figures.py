@@ -22,8 +22,8 @@ PAGES = ("README.md", "docs/PROVED.md", "docs/CLAUSES.md", "docs/THEOREM.md", "d
 LIMITS = (
     ("policy_file/specs/Reading.antt", r"if place == "),
     ("partition/specs/Plan.antt", r"partition_plan_of rows net = if nat_lt "),
-    ("command_inputs/specs/Codes.antt", r"program_most_file_bytes = "),
-    ("command_inputs/specs/Codes.antt", r"program_most_trace_bytes = "),
+    ("command_inputs/specs/Codes.antt", r"command_input_most_file_bytes = "),
+    ("command_inputs/specs/Codes.antt", r"command_input_most_trace_bytes = "),
     ("update_machine/specs/Full.antt", r"machine_journal_full_at = "),
     ("control_laws/specs/Sends.antt", r"StepsSendAtMost setting journal |StepsSendAtMost "),
     ("control_laws/specs/Sends.antt", r"control_messages_sent_count journal ≤ "),
@@ -81,7 +81,7 @@ def counts():
     for page in ("docs/PROVED.md", "docs/CLAUSES.md", "docs/FORMATS.md"):
         yield page, "eleven counts|eleven lines", counted
     yield "docs/THEOREM.md", "thirteen kinds of steps", variants("crates/steps/src/step.rt", "Step")
-    whole = fields("crates/packet_laws/specs/Whole.antt", "KeepVersionsWholeForPackets")
+    whole = fields("crates/packet_laws/specs/Whole.antt", "PacketLawsKeepVersionsWhole")
     yield "docs/THEOREM.md", "first fourteen are fields of its `versions`", whole
     laws = text_of("crates/wrong_journals/src/laws.rt")
     right = re.search(r"pub fn right_journals_hold.*?\{\}", laws, re.S)[0]
@@ -89,7 +89,7 @@ def counts():
     refused = body_of("crates/wire/specs/Assembly.antt", "pub data IsRefusedFrame")
     cases = len(re.findall(r"^  \w+ :", refused, re.M))
     yield "docs/CLAUSES.md", "six cases (`IsRefusedFrame`)", cases
-    grow = text_of("crates/update_machine/src/laws.rt").partition("pub fn journals_grow")[2]
+    grow = text_of("crates/update_machine/src/laws.rt").partition("pub fn machine_journals_grow")[2]
     ways = grow.partition("\n{}")[0].count("ensures ")
     yield "docs/CLAUSES.md", "five ways to read it", ways
     others = len(set(enums_with_memory()) - {"Failure"})
@@ -102,6 +102,9 @@ def counts():
     yield "docs/MAP.md", "longer chain than 14", int(re.search(r"LONGEST_CHAIN = (\d+)", paths)[1])
     most = int(re.search(r"MOST_PATHS = ([\d_]+)", paths)[1].replace("_", ""))
     yield "docs/MAP.md", "more than 25,000 paths", most
+    calls, ends = map(int, re.findall(r"\], (\d+)\),", text_of("checks/frames.py")))
+    yield "docs/MAP.md", "packet that enters, at most 14,", calls
+    yield "docs/MAP.md", "its last item, at most three", ends
 
 
 def number_in(phrase):

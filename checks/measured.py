@@ -76,8 +76,8 @@ FIXED = (
 )
 # A page and words with a figure, what is repeated there, and the least and the greatest ratio.
 REPEATED = (
-    ("README.md", r"about (an hour) on", "docs/GATE.md", r"(\d+ minutes) of wall time", 0.8, 1.2),
-    ("docs/FIRST_HOUR.md", r"takes (an hour) on", "docs/GATE.md", r"(\d+ minutes) of wall time",
+    ("README.md", r"about (30 minutes) on", "docs/GATE.md", r"(\d+ minutes) of wall time", 0.8, 1.2),
+    ("docs/FIRST_HOUR.md", r"takes (30 minutes) on", "docs/GATE.md", r"(\d+ minutes) of wall time",
      0.8, 1.2),
     ("README.md", r"(\d+ GB) of disk", "docs/GATE.md", r"(\d+ GB) of disk", 1, 1),
     ("README.md", r"(\d+ GB) of memory and", "docs/GATE.md", r"(\d+ GB) of memory", 1, 1.5),

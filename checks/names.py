@@ -28,7 +28,7 @@ LEAST = 8  # a smaller number may stand for anything
 # a line of a trace tells, and a switch is told of a stamp.
 WORDS = {
     "way": r"on_(its_|the_)?way|under_way|OnWay|OnTheWay|UnderWay|both_ways",
-    "told": r"^crates/trace_|IsToldStamp",
+    "told": r"^crates/trace_|IsToldToStampPackets",
 }
 
 

@@ -31,12 +31,12 @@ STOPS = {
     "StrongCause": "strong causes",
     "partition_plan_of": "plans",
     "applied": "changes of policies",
-    "IsPolicyOrAmendment": "what holds of each policy",
-    "PolicyRulesGiveOnly": "what holds of each policy",
-    "PrintCommand": "plans and tables in print",
+    "IsPolicyRulesOrAmendment": "what holds of each policy",
+    "PolicyFileRowsAre": "what holds of each policy",
+    "PrintArguments": "plans and tables in print",
     "Printing": "plans and tables in print",
     "PrintOutcome": "plans and tables in print",
-    "AuditCommand": "checks of traces",
+    "AuditArguments": "checks of traces",
     "CommandAuditInputs": "checks of traces",
     "ProgramAuditOutcome": "checks of traces",
     "IsCommandTraceGood": "checks of traces",
@@ -45,11 +45,11 @@ STOPS = {
     "command_flow_text_unless_full": "flow records",
     "CommandCountsFlows": "flow records",
     "CommandProposalOutcome": "placements that are proposed",
-    "HeldOnTheWay": "what held on the way",
-    "AreInputsWithinLimits": "limits of files",
+    "PacketLawsHeldThroughout": "what held on the way",
+    "AreCommandInputsWithinLimits": "limits of files",
     "KeepsForwarding": "recovery and rollouts",
     "IsCommandQuietVerdict": "quiet networks",
-    "command_asks_quiet": "quiet networks",
+    "program_asks_quiet": "quiet networks",
     "is_command_verdict_asked": "quiet networks",
     "command_of": "the grammar of the arguments",
     "net_file.net_of": "how the bytes of a file are read",
@@ -58,35 +58,35 @@ STOPS = {
     "policy_file.policy_file_of": "how the bytes of a file are read",
     "Files": "how files are held",
     "file_named": "how files are held",
-    "known_command_task": "the exact task, and refusals",
-    "load_command_inputs": "load cases",
+    "known_command_input_task": "the exact task, and refusals",
+    "command_inputs_of_load": "load cases",
     "load_case": "load cases",
     "summary_counts_text": "load cases",
-    "IsTaskAccepted": "refusals",
+    "IsCommandInputTaskAccepted": "refusals",
     "CommandStatusAccounts": "refusals",
     "CommandStatusNamesOneOf": "refusals",
     "names_in": "refusals",
-    "CommandRanOut": "running out of memory",
+    "ProgramMemoryRanOut": "running out of memory",
     "CommandGivesBackMeters": "meters",
     "NeedsReadFault": "faults",
     "CommandMayFollowFault": "faults",
     "command_most_reads": "reads",
-    "IsAfterReads": "reads",
+    "IsShelfAfterReads": "reads",
     "CommandReadsNothing": "reads",
 }
-CORE = ("IsRun", "HasCause", "AreEntered")
-HELD = ("HeldOnTheWay",)
+CORE = ("IsMachineRun", "HasMachineCause", "AreEntered")
+HELD = ("PacketLawsHeldThroughout",)
 MARK = "-- First tier. "  # with this a file of the first tier begins, and no other one
 DEFINES = re.compile(r"(?:abbrev pub|unfoldable pub|pub record|pub data|pub) ([^\s:]+)")
 TOKEN = re.compile(r"[A-Za-z_][\w-]*(?:\.[A-Za-z_][\w-]*)*")
 # the facts of which a wrong journal lacks one or two, and what its law says so by
-FACT = re.compile(r"`(IsRun|HasCause|AreEntered)`")
+FACT = re.compile(r"`(IsMachineRun|HasMachineCause|AreEntered)`")
 LINE = re.compile(r'codes " *([^"]*)"')
 PRINTS = re.compile(r"TriedJournalPrintsAs (\w+)\s+\((\w*printed_\w+)?(.*?)\}", re.S)
 REFUSES = {
-    "IsNoRun": ["IsRun"],
-    "IsNoRunNorCaused": ["IsRun", "HasCause"],
-    "WrongJournalLacksCause": ["HasCause"],
+    "WrongJournalIsNoRun": ["IsMachineRun"],
+    "WrongJournalLacksRunAndCause": ["IsMachineRun", "HasMachineCause"],
+    "WrongJournalLacksCause": ["HasMachineCause"],
     "WrongJournalLacksRow": ["AreEntered"],
 }
 # names of fields, which are no definitions

@@ -5,7 +5,7 @@ use Rattle.std.proofs.lemmas.Nat.{pow_below, or_lt}
 use Rattle.std.proofs.lemmas.Nat.Bits.{bit_at_and, bit_at_or, bit_at-lt, bit_at-zero, bit_at-pow_same, bit_at-pow_other, bit_at_above, same_from_bits, same_from_bits_below, bit_at-trailing_zeros, bit_at_xor}
 use Rattle.std.proofs.lemmas.List.FromFn.{get_or-range_with_len}
 use Rattle.std.proofs.Math.Bool.{or-false}
-use Rattle.base.specs.Exports.{MaskLaws, has, least_in, small_number_mask, number_set_where, only_if, switches}
+use Rattle.base.specs.Exports.{MaskLaws, has, least_in_number_set, small_number_mask, number_set_where, only_if, switches}
 
 -- ---- one switch of a mask
 
@@ -98,17 +98,17 @@ mask_where_lt test k (x ∷ xs) n fits = or_lt n _ _ (only_if_lt (test x) k n (o
 zero_test : (d : ℕ) → d ≡ 0 → (d == 1) ≡ false
 zero_test d e = grind (arith, nat_tests)
 
-pub least_lt : (mask : ℕ) → 0 < mask → mask < 2 ^ 64 → least_in mask < 64
-unfolding least_in
+pub least_lt : (mask : ℕ) → 0 < mask → mask < 2 ^ 64 → least_in_number_set mask < 64
+unfolding least_in_number_set
 least_lt mask some fits = (bit_at-trailing_zeros w64 mask some fits).0
 
-pub has_least : (mask : ℕ) → 0 < mask → mask < 2 ^ 64 → has mask (least_in mask) ≡ true
-unfolding least_in has
+pub has_least : (mask : ℕ) → 0 < mask → mask < 2 ^ 64 → has mask (least_in_number_set mask) ≡ true
+unfolding least_in_number_set has
 has_least mask some fits = eq-eqb _ 1 (bit_at-trailing_zeros w64 mask some fits).1
 
-pub least_below : (mask : ℕ) → 0 < mask → mask < 2 ^ 64 → (j : ℕ) → j < least_in mask →
+pub least_below : (mask : ℕ) → 0 < mask → mask < 2 ^ 64 → (j : ℕ) → j < least_in_number_set mask →
     has mask j ≡ false
-unfolding least_in has
+unfolding least_in_number_set has
 least_below mask some fits j below =
     zero_test _ ((bit_at-trailing_zeros w64 mask some fits).2 j below)
 

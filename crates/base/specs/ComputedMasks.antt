@@ -17,5 +17,5 @@ unfoldable pub small_number_mask : (ℕ → Bool) → ℕ
 small_number_mask test = number_set_where test 0 switches
 
 -- the least number of a set that isn't empty
-unfoldable pub least_in : ℕ → ℕ
-least_in mask = trailing_zeros w64 mask
+unfoldable pub least_in_number_set : ℕ → ℕ
+least_in_number_set mask = trailing_zeros w64 mask

@@ -1,6 +1,6 @@
 -- The definitions that others use: of this crate, and those of the library that its Prelude lacks.
 pub use Rattle.base.specs.ComputedMasks.{only_if}
-unfoldable pub use Rattle.base.specs.ComputedMasks.{least_in, small_number_mask, number_set_where}
+unfoldable pub use Rattle.base.specs.ComputedMasks.{least_in_number_set, small_number_mask, number_set_where}
 pub use Rattle.base.specs.Filled.{filled-take, zero_filled_list}
 pub use Rattle.base.specs.MaskLaws.{MaskLaws}
 unfoldable pub use Rattle.base.specs.Masks.{has, switches}

@@ -1,4 +1,4 @@
--- The laws of masks: `mask_laws` of the crate ensures them.
+-- The laws of masks: `small_number_mask_laws` of the crate ensures them.
 use Rattle.std.specs.Prelude.{◌<◌, ◌^◌, ◌≡◌, ◌≤◌, Bool, false, ℕ}
 use Rattle.base.specs.Masks.{has}
 use Rattle.base.specs.ComputedMasks.{small_number_mask}

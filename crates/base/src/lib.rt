@@ -29,7 +29,7 @@ mod shared_list;
 pub use error::Failure;
 pub use items::Items;
 pub use limits::{MAX_SWITCHES, MAX_VERSIONS};
-pub use masks::{has, mask_laws, only_if, with};
+pub use masks::{has, only_if, small_number_mask_laws, with};
 pub use row::InRow;
 pub use shared::Shared;
 pub use shared_list::SharedList;

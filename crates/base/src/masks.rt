@@ -39,6 +39,6 @@ pub fn with(mask: u64, k: u32) -> u64
 }
 
 /// The mask of a test has exactly the numbers below 64 that pass it, and no other mask has them.
-pub fn mask_laws()
+pub fn small_number_mask_laws()
     ensures { MaskLaws }
 {}

@@ -6,9 +6,9 @@ use Rattle.std.proofs.lemmas.Bool.Decides.{nat_tests}
 use Rattle.std.proofs.lemmas.Option.{slice_get-get_or}
 use Rattle.std.proofs.lemmas.Nat.{and_mod, and_shr, xor_mod, xor_shr}
 use Rattle.std.proofs.lemmas.Nat.Bits.{bit_at_and, bit_at_xor, bit_at-lt, bit_at_above}
-use Rattle.ternary.specs.Exports.{CoversLaws, ExactLaws, FreeLaws, IsWord, WordValue, words_agree_at, word_covers_of, exact_word, free_of, is_fixed_of}
+use Rattle.ternary.specs.Exports.{WordCoversLaws, ExactLaws, FreeLaws, IsWord, WordValue, words_agree_at, word_covers_of, exact_word, ternary_with_bit_freed, is_fixed_of}
 use Rattle.policy_rules.specs.declared.rules.Rule.{Rule}
-use Rattle.cache_maker.specs.Independent.{IsIndependentCacheWord, is_cache_word_apart, is_independent, widening_of}
+use Rattle.cache_maker.specs.Independent.{IsIndependentCacheWord, is_cache_word_apart, is_cache_word_independent, widening_of}
 use Rattle.cache_maker.specs.Differing.{cache_widening_difference, meets_widened_word}
 use Rattle.cache_maker.proofs.IndependentCacheWords.{is_independent_at}
 use Rattle.cache_maker.proofs.WidenedCacheWords.{widened_wider}
@@ -21,18 +21,18 @@ unfolding widening_of
 still_fixed exact free h region rules index zero j from below = exact.no_free_bit h j below
 still_fixed exact free h region rules index (suc n) j from below =
     let before = still_fixed exact free h region rules index n j (omega arith) below in
-    by_test (is_independent region rules index (free_of (widening_of h region rules index n) n))
+    by_test (is_cache_word_independent region rules index (ternary_with_bit_freed (widening_of h region rules index n) n))
     (omega arith)
     before
   where
     by_test : (b : Bool) → j ≢ n → IsTrue (is_fixed_of (widening_of h region rules index n) j)
-        → IsTrue (is_fixed_of (cond b (free_of (widening_of h region rules index n) n)
+        → IsTrue (is_fixed_of (cond b (ternary_with_bit_freed (widening_of h region rules index n) n)
         (widening_of h region rules index n)) j)
     by_test true other before = free.other_bit (widening_of h region rules index n) n j other
         ∙ before
     by_test false other before = before
 
-pub as_header : CoversLaws → FreeLaws → (h : ℕ) (region : WordValue) (rules : List Rule)
+pub as_header : WordCoversLaws → FreeLaws → (h : ℕ) (region : WordValue) (rules : List Rule)
     (index n j : ℕ) → IsTrue (is_fixed_of (widening_of h region rules index n) j)
     → bit_at (widening_of h region rules index n).value j ≡ bit_at h j
 unfolding widening_of is_fixed_of
@@ -87,20 +87,20 @@ and_one : (a b c : Bool) → a ≡ (b && c) → c ≡ true → a ≡ b
 and_one a b c e one = search rules
 
 freed_cover : FreeLaws → (a word : WordValue) (bit : ℕ) → IsTrue (word_covers_of a word)
-    → word_covers_of a (free_of word bit) ≡ not (is_fixed_of a bit)
+    → word_covers_of a (ternary_with_bit_freed word bit) ≡ not (is_fixed_of a bit)
 freed_cover free a word bit covered = and_one _ _ _ (free.freed_covered a word bit) covered
 
 pub test_parts : FreeLaws → (region : WordValue) (rules : List Rule) (index bit : ℕ)
     (word : WordValue) (d : Rule) → index < length rules → IsIndependentCacheWord region rules index word
     → ((not (is_fixed_of region bit) && not (is_fixed_of (get_or rules index d).word bit))
-    && is_cache_word_apart (free_of word bit) (take index rules)) ≡ is_independent region rules index
-    (free_of word bit)
+    && is_cache_word_apart (ternary_with_bit_freed word bit) (take index rules)) ≡ is_cache_word_independent region rules index
+    (ternary_with_bit_freed word bit)
 test_parts free region rules index bit word d within is =
-    sym (is_independent_at region rules index (free_of word bit) d within
-    ∙ ap (λ b. (b && word_covers_of (get_or rules index d).word (free_of word bit))
-    && is_cache_word_apart (free_of word bit) (take index rules))
+    sym (is_independent_at region rules index (ternary_with_bit_freed word bit) d within
+    ∙ ap (λ b. (b && word_covers_of (get_or rules index d).word (ternary_with_bit_freed word bit))
+    && is_cache_word_apart (ternary_with_bit_freed word bit) (take index rules))
     (freed_cover free region word bit is.in_region) ∙ ap (λ b. (not (is_fixed_of region bit) && b)
-    && is_cache_word_apart (free_of word bit) (take index rules)) (freed_cover free (get_or rules index d).word
+    && is_cache_word_apart (ternary_with_bit_freed word bit) (take index rules)) (freed_cover free (get_or rules index d).word
     word bit (subst (λ o. IsSomeAnd o (λ (rule : Rule). IsTrue (word_covers_of rule.word word)))
     (slice_get-get_or rules index d within) is.in_rule)))
 

@@ -15,17 +15,17 @@ use Rattle.std.proofs.Math.Pow.{pow-lt}
 use Rattle.std.proofs.lemmas.Nat.{or_lt, xor_lt}
 use Rattle.std.proofs.lemmas.Nat.Bits.{and_pow, bit_at_and, bit_at_or, bit_at_xor, bit_at-lt, bit_at-zero, bit_at_above, bit_at-pow_other, bit_at-pow_same, same_from_bits}
 use Rattle.ternary.proofs.TernaryCallerLemmas.{or_left, or_right}
-use Rattle.ternary.specs.Exports.{CoversLaws, ExactLaws, FreeLaws, IsWord, MeetLaws, WordValue, words_agree_at, exact_word, free_of, is_fixed_of, meet_of, meets}
+use Rattle.ternary.specs.Exports.{WordCoversLaws, ExactLaws, FreeLaws, IsWord, MeetLaws, WordValue, words_agree_at, exact_word, ternary_with_bit_freed, is_fixed_of, meet_of, meets}
 use Rattle.policy_rules.specs.declared.rules.Rule.{Rule}
-use Rattle.cache_maker.specs.Independent.{IsIndependentCacheWord, is_cache_word_apart, is_independent, widening_of}
-use Rattle.cache_maker.specs.Differing.{IsWideningWithoutReasons, cache_widening_difference, rule_meets_widened_word}
+use Rattle.cache_maker.specs.Independent.{IsIndependentCacheWord, is_cache_word_apart, is_cache_word_independent, widening_of}
+use Rattle.cache_maker.specs.Differing.{AreWidenedBitsWithoutReason, cache_widening_difference, rule_meets_widened_word}
 use Rattle.cache_maker.proofs.IndependentCacheWords.{true_not}
 use Rattle.cache_maker.proofs.WidenedCacheWords.{widened_independent, widened_word}
 use Rattle.cache_maker.proofs.CacheWordDifferences.{as_header, differs_at, past_header, same_at, still_fixed, test_parts}
 
 -- what `widen` is given: `closed` has the bits that the region or the rule fixes
 pub record IsGiven (h : ℕ) (region : WordValue) (rules : List Rule) (index closed : ℕ) : Type 0 where
-  pub covers : CoversLaws
+  pub covers : WordCoversLaws
   pub meet : MeetLaws
   pub exact : ExactLaws
   pub free : FreeLaws
@@ -82,14 +82,14 @@ unfolding widening_of
 kept_after free h region rules index n zero below = absurd (omega arith)
 kept_after free h region rules index n (suc m) below = elim (cases_lt n m) [
   | inl within ↦ let other : n ≢ m = omega arith in
-      by_test (is_independent region rules index (free_of (widening_of h region rules index m) m))
+      by_test (is_cache_word_independent region rules index (ternary_with_bit_freed (widening_of h region rules index m) m))
       other
       ∙ kept_after free h region rules index n m within
   | inr past ↦ let same : suc m ≡ suc n = omega arith in
       ap (λ k. is_fixed_of (widening_of h region rules index k) n) same
 ] where
   by_test : (b : Bool) → n ≢ m
-      → is_fixed_of (cond b (free_of (widening_of h region rules index m) m)
+      → is_fixed_of (cond b (ternary_with_bit_freed (widening_of h region rules index m) m)
       (widening_of h region rules index m)) n ≡ is_fixed_of (widening_of h region rules index m) n
   by_test true other = free.other_bit (widening_of h region rules index m) m n other
   by_test false other = refl
@@ -97,13 +97,13 @@ kept_after free h region rules index n (suc m) below = elim (cases_lt n m) [
 -- a bit stays fixed where it can't be freed in its turn
 turn : ExactLaws → FreeLaws → (h : ℕ) (region : WordValue) (rules : List Rule) (index n m : ℕ)
     → n < m → n < 104 → is_fixed_of (widening_of h region rules index m) n
-    ≡ not (is_independent region rules index (free_of (widening_of h region rules index n) n))
+    ≡ not (is_cache_word_independent region rules index (ternary_with_bit_freed (widening_of h region rules index n) n))
 unfolding widening_of
 turn exact free h region rules index n m before below =
     kept_after free h region rules index n m before
-    ∙ by_test (is_independent region rules index (free_of (widening_of h region rules index n) n))
+    ∙ by_test (is_cache_word_independent region rules index (ternary_with_bit_freed (widening_of h region rules index n) n))
   where
-    by_test : (b : Bool) → is_fixed_of (cond b (free_of (widening_of h region rules index n) n)
+    by_test : (b : Bool) → is_fixed_of (cond b (ternary_with_bit_freed (widening_of h region rules index n) n)
         (widening_of h region rules index n)) n ≡ not b
     by_test true = free.same_bit (widening_of h region rules index n) n
     by_test false = still_fixed exact free h region rules index n n (omega arith) below
@@ -117,10 +117,10 @@ independent_at {h} {region} {rules} {index} given n = search (rules, widened_ind
 at_last : {h : ℕ} {region : WordValue} {rules : List Rule} {index closed : ℕ}
     → IsGiven h region rules index closed → (n : ℕ) → n < 104
     → is_fixed_of (widening_of h region rules index 104) n ≡ not (not (bit_at closed n == 1)
-    && is_cache_word_apart (free_of (widening_of h region rules index n) n) (take index rules))
+    && is_cache_word_apart (ternary_with_bit_freed (widening_of h region rules index n) n) (take index rules))
 at_last {h} {region} {rules} {index} {closed} given n below =
     let word = widening_of h region rules index n in
-    let apart = is_cache_word_apart (free_of word n) (take index rules) in
+    let apart = is_cache_word_apart (ternary_with_bit_freed word n) (take index rules) in
     turn given.exact given.free h region rules index n 104 below below
     ∙ ap not (sym (ap (λ b. b && apart) (given.closes n)
     ∙ test_parts given.free region rules index n word given.d given.within (independent_at given n)))
@@ -132,7 +132,7 @@ met_if : {h : ℕ} {region : WordValue} {rules : List Rule} {index closed : ℕ}
     → IsGiven h region rules index closed → (n : ℕ) (rule : WordValue)
     → ((j : ℕ) → j ≢ n → IsTrue (is_fixed_of (widening_of h region rules index n) j)
     → bit_at (cache_widening_difference h rule) j ≡ 0)
-    → IsTrue (meets (free_of (widening_of h region rules index n) n) rule)
+    → IsTrue (meets (ternary_with_bit_freed (widening_of h region rules index n) n) rule)
 unfolding is_fixed_of words_agree_at
 met_if {h} {region} {rules} {index} given n rule none = (given.free.meets_others word rule n).1 agrees
   where
@@ -153,7 +153,7 @@ met_if {h} {region} {rules} {index} given n rule none = (given.free.meets_others
 
 met_only : {h : ℕ} {region : WordValue} {rules : List Rule} {index closed : ℕ}
     → IsGiven h region rules index closed → (n : ℕ) (rule : WordValue)
-    → IsTrue (meets (free_of (widening_of h region rules index n) n) rule)
+    → IsTrue (meets (ternary_with_bit_freed (widening_of h region rules index n) n) rule)
     → (j : ℕ) → j ≢ n → IsTrue (is_fixed_of (widening_of h region rules index n) j)
     → bit_at (cache_widening_difference h rule) j ≡ 0
 met_only {h} {region} {rules} {index} given n rule met j other fixed =
@@ -184,7 +184,7 @@ reason_meets : {h : ℕ} {region : WordValue} {rules : List Rule} {index closed 
     → AreFixed h closed (take index rules) fixed reasons → (n : ℕ) → n < 104
     → AreSameBelow fixed (widening_of h region rules index 104) n → bit_at fixed n ≡ 1
     → IsOfRule h (take index rules) (get_or reasons n 0)
-    → is_cache_word_apart (free_of (widening_of h region rules index n) n) (take index rules) ≡ false
+    → is_cache_word_apart (ternary_with_bit_freed (widening_of h region rules index n) n) (take index rules) ≡ false
 unfolding is_cache_word_apart
 reason_meets {h} {region} {rules} {index} {closed} {fixed} {reasons} given are n below same one of =
     elim (cases_Bool (is_cache_word_apart freed (take index rules))) [
@@ -195,7 +195,7 @@ reason_meets {h} {region} {rules} {index} {closed} {fixed} {reasons} given are n
     ]
   where
     freed : WordValue
-    freed = free_of (widening_of h region rules index n) n
+    freed = ternary_with_bit_freed (widening_of h region rules index n) n
 
     rule : Rule
     rule = get_or (take index rules) of.place of.d
@@ -215,7 +215,7 @@ unfixed_apart : {h : ℕ} {region : WordValue} {rules : List Rule} {index closed
     → IsGiven h region rules index closed → (fixed n : ℕ) → n < 104
     → All (λ rule. IsFalse (rule_meets_widened_word h fixed rule)) (take index rules)
     → AreSameBelow fixed (widening_of h region rules index 104) n → bit_at fixed n ≢ 1
-    → IsTrue (is_cache_word_apart (free_of (widening_of h region rules index n) n) (take index rules))
+    → IsTrue (is_cache_word_apart (ternary_with_bit_freed (widening_of h region rules index n) n) (take index rules))
 unfolding is_cache_word_apart
 unfixed_apart {h} {region} {rules} {index} {closed} given fixed n below told same unset =
     list_all-from_AllPass (λ rule. is_none (meet_of freed rule.word)) (take index rules)
@@ -223,7 +223,7 @@ unfixed_apart {h} {region} {rules} {index} {closed} given fixed n below told sam
     ∙ apart (get_or (take index rules) k d) (words k d within) (told k d within)))
   where
     freed : WordValue
-    freed = free_of (widening_of h region rules index n) n
+    freed = ternary_with_bit_freed (widening_of h region rules index n) n
 
     words : All (λ (rule : Rule). IsWord rule.word) (take index rules)
     words = All-take (λ (rule : Rule). IsWord rule.word) index rules given.words
@@ -272,7 +272,7 @@ same_bit {h} {region} {rules} {index} {closed} {fixed} {reasons} given are told 
     ])
   where
     apart : Bool
-    apart = is_cache_word_apart (free_of (widening_of h region rules index n) n) (take index rules)
+    apart = is_cache_word_apart (ternary_with_bit_freed (widening_of h region rules index n) n) (take index rules)
 
     caused : (bit_at closed n ≡ 1) ⊎ IsOfRule h (take index rules) (get_or reasons n 0)
         → bit_at fixed n ≡ 1 → not (not (bit_at closed n == 1) && apart) ≡ true
@@ -381,7 +381,7 @@ none_of_both a b j none set = let small = bit_at-lt b j in
     omega (arith, sym (bit_at_and a b j) ∙ ap (λ x. bit_at x j) none ∙ bit_at-zero j, set, small)
 
 -- a bit of the new ones
-new_is : (fixed : ℕ) (reasons : List ℕ) (b stays : ℕ) → IsWideningWithoutReasons fixed reasons b stays → (n : ℕ)
+new_is : (fixed : ℕ) (reasons : List ℕ) (b stays : ℕ) → AreWidenedBitsWithoutReason fixed reasons b stays → (n : ℕ)
     → bit_at (bit_or stays (2 ^ b)) n ≡ 1
     → (n ≡ b) ⊎ ((n ≢ b) × (bit_at fixed n ≡ 1) × (bit_at (get_or reasons n 0) b ≡ 0))
 new_is fixed reasons b stays without n set = elim (cases_eq n b) [
@@ -394,8 +394,8 @@ new_is fixed reasons b stays without n set = elim (cases_eq n b) [
 -- the closed bits have no reasons, so they stay with those that stay of the others
 pub without_open : {h closed fixed : ℕ} {earlier : List Rule} {reasons : List ℕ} {b kept : ℕ}
     → AreFixed h closed earlier fixed reasons → closed < 2 ^ 104
-    → IsWideningWithoutReasons (bit_xor fixed closed) reasons b kept
-    → IsWideningWithoutReasons fixed reasons b (bit_or closed kept)
+    → AreWidenedBitsWithoutReason (bit_xor fixed closed) reasons b kept
+    → AreWidenedBitsWithoutReason fixed reasons b (bit_or closed kept)
 without_open {h} {closed} {fixed} {earlier} {reasons} {b} {kept} are bound without = record {
   small = or_lt 104 closed kept bound without.small;
   gone = λ n one. elim (cases_eq (bit_at closed n) 1) [
@@ -418,7 +418,7 @@ without_open {h} {closed} {fixed} {earlier} {reasons} {b} {kept} are bound witho
 
 pub fixed_next : (h closed fixed : ℕ) (earlier : List Rule) (reasons : List ℕ)
     (reason b stays : ℕ) → AreFixed h closed earlier fixed reasons
-    → IsNewReason h fixed earlier reason b → IsWideningWithoutReasons fixed reasons b stays
+    → IsNewReason h fixed earlier reason b → AreWidenedBitsWithoutReason fixed reasons b stays
     → AreFixed h closed earlier (bit_or stays (2 ^ b)) (set reasons b reason)
 fixed_next h closed fixed earlier reasons reason b stays are new without = record {
   sized = length-set reasons b reason ∙ are.sized;
@@ -510,7 +510,7 @@ left_over fixed = 2 ^ 104 - rank fixed 104
 
 pub left_less : (h closed fixed : ℕ) (earlier : List Rule) (reasons : List ℕ) (reason b stays : ℕ)
     → AreFixed h closed earlier fixed reasons → IsNewReason h fixed earlier reason b
-    → IsWideningWithoutReasons fixed reasons b stays → left_over (bit_or stays (2 ^ b)) < left_over fixed
+    → AreWidenedBitsWithoutReason fixed reasons b stays → left_over (bit_or stays (2 ^ b)) < left_over fixed
 unfolding left_over
 left_less h closed fixed earlier reasons reason b stays are new without =
     let more = rank_more fixed (bit_or stays (2 ^ b)) b 104 new.within same
@@ -570,7 +570,7 @@ pub part_at_first : (fixed : ℕ) (reasons : List ℕ) (b : ℕ) → fixed < 2 ^
 part_at_first fixed reasons b small = search rules
 
 pub part_at_last : {fixed : ℕ} {reasons : List ℕ} {b stays : ℕ}
-    → IsPartWithout fixed reasons b stays 0 → IsWideningWithoutReasons fixed reasons b stays
+    → IsPartWithout fixed reasons b stays 0 → AreWidenedBitsWithoutReason fixed reasons b stays
 part_at_last part = search (rules, bit_at-zero)
 
 -- the bit n stays, since its reason doesn't have b

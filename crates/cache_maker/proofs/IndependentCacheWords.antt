@@ -5,11 +5,11 @@ use Rattle.std.proofs.lemmas.Bool.{and_parts, not-true}
 use Rattle.std.proofs.lemmas.Option.{slice_get_within, slice_get-get_or, get_or_from_slice_get}
 use Rattle.std.proofs.lemmas.List.Quantifiers.{position-Some}
 use Rattle.std.proofs.lemmas.List.Sums.{AllPass-from_list_all, list_all-from_AllPass, position_or_len_is}
-use Rattle.ternary.specs.Exports.{CoversLaws, IsWord, MeetLaws, WordValue, word_covers_of, exact_word, holds, meet_of}
+use Rattle.ternary.specs.Exports.{WordCoversLaws, IsWord, MeetLaws, WordValue, word_covers_of, exact_word, holds, meet_of}
 use Rattle.policy_rules.specs.declared.rules.Rule.{Rule}
 use Rattle.policy_rules.specs.Exports.{is_held}
 use Rattle.policy_rules.proofs.PolicyRulesCallerLemmas.{none_from_not_some}
-use Rattle.cache_maker.specs.Independent.{IsIndependentCacheWord, is_cache_word_apart, is_independent}
+use Rattle.cache_maker.specs.Independent.{IsIndependentCacheWord, is_cache_word_apart, is_cache_word_independent}
 
 -- ---- tests and facts
 
@@ -35,8 +35,8 @@ and_some index rules word = by_rule (slice_get rules index) where
   by_rule (Some rule) e = e
 
 pub test_true : (region : WordValue) (rules : List Rule) (index : ℕ) (word : WordValue)
-    → IsTrue (is_independent region rules index word) → IsIndependentCacheWord region rules index word
-unfolding is_independent is_cache_word_apart
+    → IsTrue (is_cache_word_independent region rules index word) → IsIndependentCacheWord region rules index word
+unfolding is_cache_word_independent is_cache_word_apart
 test_true region rules index word test =
     let both = and_parts _ _ test in
     let parts = and_parts _ _ both.0 in record {
@@ -47,8 +47,8 @@ test_true region rules index word test =
     }
 
 pub test_of : (region : WordValue) (rules : List Rule) (index : ℕ) (word : WordValue)
-    → IsIndependentCacheWord region rules index word → IsTrue (is_independent region rules index word)
-unfolding is_independent is_cache_word_apart
+    → IsIndependentCacheWord region rules index word → IsTrue (is_cache_word_independent region rules index word)
+unfolding is_cache_word_independent is_cache_word_apart
 test_of region rules index word is =
     let earlier = list_all-from_AllPass (λ rule. is_none (meet_of word rule.word))
     (take index rules) (λ k d within. true_not _ (is.earlier k d within)) in
@@ -56,7 +56,7 @@ test_of region rules index word is =
 
 -- ---- headers
 
-pub first_hit : CoversLaws → MeetLaws → (region : WordValue) (rules : List Rule) (index : ℕ)
+pub first_hit : WordCoversLaws → MeetLaws → (region : WordValue) (rules : List Rule) (index : ℕ)
     (word : WordValue) (h : ℕ) → IsIndependentCacheWord region rules index word → IsTrue (holds word h)
     → position (is_held h) rules ≡ Some index
 first_hit covers meet region rules index word h is held = by_rule (slice_get rules index) refl
@@ -89,7 +89,7 @@ first_hit covers meet region rules index word h is held = by_rule (slice_get rul
             apart (get_or rules k rule) (subst (λ (r : Rule). IsNone (meet_of word r.word))
             (get_or-take index rules k rule below) (is.earlier k rule there))
 
-pub smaller : CoversLaws → MeetLaws → (region : WordValue) (rules : List Rule) (index : ℕ)
+pub smaller : WordCoversLaws → MeetLaws → (region : WordValue) (rules : List Rule) (index : ℕ)
     (word part : WordValue) → IsTrue (word_covers_of word part) → IsIndependentCacheWord region rules index word
     → IsIndependentCacheWord region rules index part
 smaller covers meet region rules index word part inside is = record {
@@ -114,7 +114,7 @@ hit_within h (first ∷ rules) index hit at =
     cc ((slice_get-get_or (first ∷ rules) index first found.0), at)
 
 -- the word of a header that this rule is the first to hold
-pub exact_independent : CoversLaws → MeetLaws → (region : WordValue) (rules : List Rule)
+pub exact_independent : WordCoversLaws → MeetLaws → (region : WordValue) (rules : List Rule)
     (index h : ℕ) → IsWord region → All (λ rule. IsWord rule.word) rules → h < 2 ^ 104
     → IsTrue (holds region h) → position (is_held h) rules ≡ Some index
     → IsIndependentCacheWord region rules index (exact_word h)
@@ -141,8 +141,8 @@ exact_independent covers meet region rules index h region_word words bound held 
 
 -- the test, a part at a time
 pub is_independent_at : (region : WordValue) (rules : List Rule) (index : ℕ) (word : WordValue)
-    (d : Rule) → index < length rules → is_independent region rules index word
+    (d : Rule) → index < length rules → is_cache_word_independent region rules index word
     ≡ ((word_covers_of region word && word_covers_of (get_or rules index d).word word)
     && is_cache_word_apart word (take index rules))
-unfolding is_independent
+unfolding is_cache_word_independent
 is_independent_at region rules index word d within = cc (slice_get-get_or rules index d within)

@@ -2,23 +2,23 @@
 use Rattle.std.proofs.Common.{◌<◌, ◌^◌, ◌≡◌, ◌≤◌, Bool, IsTrue, List, arith, cond, eq-eqb, eqb-true, false, inl, inr, refl, subst, suc, sym, true, zero, ℕ, rules}
 use Rattle.std.specs.Int.{bit_at}
 use Rattle.std.proofs.lemmas.Bool.{cases_lt}
-use Rattle.ternary.specs.Exports.{CoversLaws, ExactLaws, FreeLaws, IsWord, MeetLaws, WordValue, word_covers_of, exact_word, free_of, holds, is_fixed_of}
+use Rattle.ternary.specs.Exports.{WordCoversLaws, ExactLaws, FreeLaws, IsWord, MeetLaws, WordValue, word_covers_of, exact_word, ternary_with_bit_freed, holds, is_fixed_of}
 use Rattle.policy_rules.specs.declared.rules.Rule.{Rule}
-use Rattle.cache_maker.specs.Independent.{IsIndependentCacheWord, is_independent, with_cache_bit_freed, widening_of}
+use Rattle.cache_maker.specs.Independent.{IsIndependentCacheWord, is_cache_word_independent, with_cache_bit_freed, widening_of}
 use Rattle.cache_maker.proofs.IndependentCacheWords.{test_true, test_of, smaller}
 
 -- a step widens
-freed_wider : CoversLaws → FreeLaws → (region : WordValue) (rules : List Rule) (index bit : ℕ)
+freed_wider : WordCoversLaws → FreeLaws → (region : WordValue) (rules : List Rule) (index bit : ℕ)
     (word : WordValue) → IsTrue (word_covers_of (with_cache_bit_freed region rules index bit word) word)
 freed_wider covers free region rules index bit word =
-    by_test (is_independent region rules index (free_of word bit))
+    by_test (is_cache_word_independent region rules index (ternary_with_bit_freed word bit))
   where
-    by_test : (b : Bool) → IsTrue (word_covers_of (cond b (free_of word bit) word) word)
+    by_test : (b : Bool) → IsTrue (word_covers_of (cond b (ternary_with_bit_freed word bit) word) word)
     by_test true = free.wider word bit
     by_test false = covers.reflexive word
 
 -- later words are wider
-pub widened_wider : CoversLaws → FreeLaws → (h : ℕ) (region : WordValue) (rules : List Rule)
+pub widened_wider : WordCoversLaws → FreeLaws → (h : ℕ) (region : WordValue) (rules : List Rule)
     (index n m : ℕ) → n ≤ m → IsTrue
     (word_covers_of (widening_of h region rules index m) (widening_of h region rules index n))
 unfolding widening_of
@@ -36,28 +36,28 @@ widened_wider covers free h region rules index n (suc m) upto = elim (cases_lt m
 ]
 
 -- a bit that is fixed at last could not be freed in its turn
-unfreed : CoversLaws → FreeLaws → (h : ℕ) (region : WordValue) (rules : List Rule) (index bit m : ℕ)
+unfreed : WordCoversLaws → FreeLaws → (h : ℕ) (region : WordValue) (rules : List Rule) (index bit m : ℕ)
     → bit < m → IsTrue (is_fixed_of (widening_of h region rules index m) bit)
-    → is_independent region rules index (free_of (widening_of h region rules index bit) bit) ≡ false
+    → is_cache_word_independent region rules index (ternary_with_bit_freed (widening_of h region rules index bit) bit) ≡ false
 unfolding widening_of is_fixed_of
 unfreed covers free h region rules index bit m within fixed =
     let wider = widened_wider covers free h region rules index (suc bit) m (omega arith) in
     let still = ((covers.bitwise _ _).0 wider bit (eqb-true _ _ fixed)).0 in
-    by_test (is_independent region rules index (free_of (widening_of h region rules index bit) bit))
+    by_test (is_cache_word_independent region rules index (ternary_with_bit_freed (widening_of h region rules index bit) bit))
     refl still
   where
-    by_test : (b : Bool) → is_independent region rules index
-        (free_of (widening_of h region rules index bit) bit) ≡ b
-        → bit_at (cond b (free_of (widening_of h region rules index bit) bit)
+    by_test : (b : Bool) → is_cache_word_independent region rules index
+        (ternary_with_bit_freed (widening_of h region rules index bit) bit) ≡ b
+        → bit_at (cond b (ternary_with_bit_freed (widening_of h region rules index bit) bit)
         (widening_of h region rules index bit)).mask bit ≡ 1 → b ≡ false
     by_test true is one = let free_bit = free.same_bit (widening_of h region rules index bit) bit in
         let fixed_bit = eq-eqb _ _ one in cc
     by_test false is one = refl
 
 -- and can't be freed at last
-pub widest : CoversLaws → MeetLaws → FreeLaws → (h : ℕ) (region : WordValue) (rules : List Rule)
+pub widest : WordCoversLaws → MeetLaws → FreeLaws → (h : ℕ) (region : WordValue) (rules : List Rule)
     (index bit : ℕ) → bit < 104 → IsTrue (is_fixed_of (widening_of h region rules index 104) bit)
-    → IsIndependentCacheWord region rules index (free_of (widening_of h region rules index 104) bit) → ⊥
+    → IsIndependentCacheWord region rules index (ternary_with_bit_freed (widening_of h region rules index 104) bit) → ⊥
 widest covers meet free h region rules index bit within fixed is =
     let wider = free.monotone _ _ bit
     (widened_wider covers free h region rules index bit 104 (omega arith)) in
@@ -65,7 +65,7 @@ widest covers meet free h region rules index bit within fixed is =
     let not_then = unfreed covers free h region rules index bit 104 within fixed in cc
 
 -- the header is held all along
-pub widened_holds : CoversLaws → ExactLaws → FreeLaws
+pub widened_holds : WordCoversLaws → ExactLaws → FreeLaws
     → (h : ℕ) (region : WordValue) (rules : List Rule) (index n : ℕ) → h < 2 ^ 104
     → IsTrue (holds (widening_of h region rules index n) h)
 unfolding widening_of
@@ -77,14 +77,14 @@ widened_holds covers exact free h region rules index n bound = covers.held _ (ex
 
 pub turn_independent : (region : WordValue) (rules : List Rule) (index bit : ℕ) (test : Bool)
     (word after : WordValue) → IsIndependentCacheWord region rules index word
-    → test ≡ is_independent region rules index (free_of word bit)
-    → after ≡ cond test (free_of word bit) word → IsIndependentCacheWord region rules index after
+    → test ≡ is_cache_word_independent region rules index (ternary_with_bit_freed word bit)
+    → after ≡ cond test (ternary_with_bit_freed word bit) word → IsIndependentCacheWord region rules index after
 turn_independent region rules index bit true word after is tested made = rw made
-    (test_true region rules index (free_of word bit) (sym tested))
+    (test_true region rules index (ternary_with_bit_freed word bit) (sym tested))
 turn_independent region rules index bit false word after is tested made = rw made is
 
 pub turn_word : FreeLaws → (bit : ℕ) (test : Bool) (word after : WordValue) → IsWord word
-    → after ≡ cond test (free_of word bit) word → IsWord after
+    → after ≡ cond test (ternary_with_bit_freed word bit) word → IsWord after
 turn_word free bit test word after is made = search rules
 
 -- ---- all turns so far
@@ -95,7 +95,7 @@ pub widened_independent : (h : ℕ) (region : WordValue) (rules : List Rule) (in
 unfolding widening_of
 widened_independent h region rules index zero start = start
 widened_independent h region rules index (suc n) start = turn_independent region rules index n
-    (is_independent region rules index (free_of (widening_of h region rules index n) n))
+    (is_cache_word_independent region rules index (ternary_with_bit_freed (widening_of h region rules index n) n))
     (widening_of h region rules index n) (widening_of h region rules index (suc n))
     (widened_independent h region rules index n start) refl refl
 
@@ -104,6 +104,6 @@ pub widened_word : FreeLaws → (h : ℕ) (region : WordValue) (rules : List Rul
 unfolding widening_of
 widened_word free h region rules index zero start = start
 widened_word free h region rules index (suc n) start =
-    turn_word free n (is_independent region rules index
-    (free_of (widening_of h region rules index n) n)) (widening_of h region rules index n)
+    turn_word free n (is_cache_word_independent region rules index
+    (ternary_with_bit_freed (widening_of h region rules index n) n)) (widening_of h region rules index n)
     (widening_of h region rules index (suc n)) (widened_word free h region rules index n start) refl

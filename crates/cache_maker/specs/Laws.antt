@@ -1,13 +1,13 @@
--- The laws of independent words and of `widen`: `x_laws` of the crate ensures the record of each.
+-- The laws of independent words and of `widen`: a function of `src` ensures each record.
 use Rattle.std.specs.Prelude.{◌<◌, ◌^◌, ◌↔◌, ◌≡◌, All, IsTrue, List, Some, position, ℕ}
-use Rattle.ternary.specs.Exports.{IsWord, WordValue, word_covers_of, free_of, holds, is_fixed_of}
+use Rattle.ternary.specs.Exports.{IsWord, WordValue, word_covers_of, ternary_with_bit_freed, holds, is_fixed_of}
 use Rattle.policy_rules.specs.declared.rules.Rule.{Rule}
 use Rattle.policy_rules.specs.Exports.{is_held}
-use Rattle.cache_maker.specs.Independent.{IsIndependentCacheWord, is_independent, widen}
+use Rattle.cache_maker.specs.Independent.{IsIndependentCacheWord, is_cache_word_independent, widen}
 
 pub record IndependentCacheWordLaws : Type 0 where
   pub test : (region : WordValue) (rules : List Rule) (index : ℕ) (word : WordValue)
-      → IsTrue (is_independent region rules index word) ↔ IsIndependentCacheWord region rules index word
+      → IsTrue (is_cache_word_independent region rules index word) ↔ IsIndependentCacheWord region rules index word
   -- whatever header the word holds, this rule is the first to hold it
   pub first_hit : (region : WordValue) (rules : List Rule) (index : ℕ) (word : WordValue) (h : ℕ)
       → IsIndependentCacheWord region rules index word → IsTrue (holds word h) →
@@ -34,7 +34,7 @@ pub record IsWidestWord (h : ℕ) (region : WordValue) (rules : List Rule) (inde
   pub header : IsTrue (holds word h)
   pub independent : IsIndependentCacheWord region rules index word
   pub widest : (bit : ℕ) → bit < 104 → IsTrue (is_fixed_of word bit)
-      → ¬ IsIndependentCacheWord region rules index (free_of word bit)
+      → ¬ IsIndependentCacheWord region rules index (ternary_with_bit_freed word bit)
 
 -- what `widen` ensures of its result, for proofs in which no call runs
 pub record WidenLaws : Type 0 where

@@ -2,15 +2,15 @@ ghost use Rattle.std.specs.Prelude.{ℕ, ◌≡◌, ◌^◌, ◌/◌, ◌%◌, �
 ghost use Rattle.five_tuple.specs.Header.{number_of};
 ghost use Rattle.ternary.specs.Word.{holds};
 ghost use Rattle.ternary.specs.WordBits.{IsWord};
-ghost use Rattle.ternary.specs.Meets.{is_fixed_of, free_of};
+ghost use Rattle.ternary.specs.Meets.{is_fixed_of, ternary_with_bit_freed};
 ghost use Rattle.policy_rules.specs.Rules.{is_held};
 ghost use Rattle.policy_rules.specs.declared.rules.Rule.{Rule};
 ghost use Rattle.cache_maker.specs.Independent.{IsIndependentCacheWord, widen};
-ghost use Rattle.cache_maker.specs.Differing.{IsWideningWithoutReasons, cache_widening_difference, meets_widened_word, rule_meets_widened_word};
+ghost use Rattle.cache_maker.specs.Differing.{AreWidenedBitsWithoutReason, cache_widening_difference, meets_widened_word, rule_meets_widened_word};
 
 use five_tuple::Header;
 use policy_rules::Rule;
-use ternary::{Word, covers_laws, exact_laws, free_laws, meet_laws};
+use ternary::{Word, covers_laws, free_laws, meet_laws, ternary_exact_laws};
 
 /// The least number that has bits in its upper half.
 const HALF: u128 = 1 << 64;
@@ -35,22 +35,22 @@ pub fn widen(h: &Header, region: &Word, rules: &[Rule], index: u32) -> Word
     ensures header { IsTrue (holds result (number_of h.now)) }
     ensures independent { IsIndependentCacheWord region.now rules.now index result }
     ensures widest { (bit : ℕ) → bit < 104 → IsTrue (is_fixed_of result bit)
-        → ¬ IsIndependentCacheWord region.now rules.now index (free_of result bit) }
+        → ¬ IsIndependentCacheWord region.now rules.now index (ternary_with_bit_freed result bit) }
     ensures word { IsWord result }
 {
-    words_are_sound(region, rules);
+    cache_maker_words_are_sound(region, rules);
     covers_laws();
     meet_laws();
-    exact_laws();
+    ternary_exact_laws();
     free_laws();
     let number = h.number();
     let index = index as usize;
     let closed = region.mask() | rules[index].word.mask();
     let earlier = &rules[..index];
     let mut fixed = closed;
-    let mut reasons = no_reasons();
+    let mut reasons = no_cache_word_reasons();
     let mut from = 0;
-    while let Some(place) = next_overlapped_rule(number, fixed, earlier, from) {
+    while let Some(place) = next_cache_word_overlap(number, fixed, earlier, from) {
         let reason = differing(number, &earlier[place].word);
         let bit = reason.ilog2();
         fixed = closed | without(fixed ^ closed, &reasons, bit) | 1 << bit;
@@ -60,7 +60,7 @@ pub fn widen(h: &Header, region: &Word, rules: &[Rule], index: u32) -> Word
     Word::new(number & fixed, fixed).unwrap()
 }
 
-fn no_reasons() -> [u128; 104]
+fn no_cache_word_reasons() -> [u128; 104]
     ensures { result ≡ replicate 104 0 }
 {
     [0; 104]
@@ -68,20 +68,20 @@ fn no_reasons() -> [u128; 104]
 
 // The place of a rule that the word of these bits of the header meets; `None` if there is none. The
 // search begins at the rule at `from`, and then at the first.
-fn next_overlapped_rule(h: u128, fixed: u128, rules: &[Rule], from: usize) -> Option<usize>
+fn next_cache_word_overlap(h: u128, fixed: u128, rules: &[Rule], from: usize) -> Option<usize>
     requires { from ≤ length rules.now }
     ensures met { IfSome result (λ place. (place < length rules.now)
         × IsSomeAnd (slice_get rules.now place) (λ rule. IsTrue (rule_meets_widened_word h fixed rule))) }
     ensures none { IsNone result → All (λ rule. IsFalse (rule_meets_widened_word h fixed rule)) rules.now }
 {
     let (before, after) = rules.split_at(from);
-    match first_overlapped_rule(h, fixed, after) {
+    match first_cache_word_overlap(h, fixed, after) {
         Some(place) => Some(from + place),
-        None => first_overlapped_rule(h, fixed, before),
+        None => first_cache_word_overlap(h, fixed, before),
     }
 }
 
-fn first_overlapped_rule(h: u128, fixed: u128, rules: &[Rule]) -> Option<usize>
+fn first_cache_word_overlap(h: u128, fixed: u128, rules: &[Rule]) -> Option<usize>
     ensures { result ≡ position (rule_meets_widened_word h fixed) rules.now }
 {
     rules
@@ -93,32 +93,33 @@ fn first_overlapped_rule(h: u128, fixed: u128, rules: &[Rule]) -> Option<usize>
 fn meets_widened_word(h: u128, fixed: u128, word: &Word) -> bool
     ensures { result ≡ meets_widened_word h fixed word.now }
 {
-    let upper = (upper_word_half(h) ^ upper_word_half(word.value())) & upper_word_half(word.mask());
-    upper & upper_word_half(fixed) == 0
-        && are_same(
-            lower_word_half(h),
-            lower_word_half(word.value()),
-            lower_word_half(word.mask()),
-            lower_word_half(fixed),
+    let upper = (upper_cache_word_half(h) ^ upper_cache_word_half(word.value()))
+        & upper_cache_word_half(word.mask());
+    upper & upper_cache_word_half(fixed) == 0
+        && cache_word_halves_meet(
+            lower_cache_word_half(h),
+            lower_cache_word_half(word.value()),
+            lower_cache_word_half(word.mask()),
+            lower_cache_word_half(fixed),
         )
 }
 
 // Whether h and the value are the same in the bits of the mask that are fixed. Not inlined, because
 // the compiler would then compare both halves at once.
 #[inline(never)]
-fn are_same(h: u64, value: u64, mask: u64, fixed: u64) -> bool
+fn cache_word_halves_meet(h: u64, value: u64, mask: u64, fixed: u64) -> bool
     ensures { result ≡ (bit_and (bit_and (bit_xor h value) mask) fixed == 0) }
 {
     (h ^ value) & mask & fixed == 0
 }
 
-fn upper_word_half(n: u128) -> u64
+fn upper_cache_word_half(n: u128) -> u64
     ensures { result ≡ n / 2 ^ 64 }
 {
     (n >> 64) as u64
 }
 
-fn lower_word_half(n: u128) -> u64
+fn lower_cache_word_half(n: u128) -> u64
     ensures { result ≡ n % 2 ^ 64 }
 {
     (n % HALF) as u64
@@ -135,7 +136,7 @@ fn differing(h: u128, word: &Word) -> u128
 fn without(fixed: u128, reasons: &[u128; 104], bit: u32) -> u128
     requires fixed { fixed < 2 ^ 104 }
     requires bit { bit < 104 }
-    ensures { IsWideningWithoutReasons fixed reasons.now bit result }
+    ensures { AreWidenedBitsWithoutReason fixed reasons.now bit result }
 {
     let mut stays = fixed;
     let mut left = fixed;
@@ -150,7 +151,7 @@ fn without(fixed: u128, reasons: &[u128; 104], bit: u32) -> u128
 }
 
 // For the proof: the region and the words of the rules satisfy `IsWord`.
-fn words_are_sound(region: &Word, rules: &[Rule])
+fn cache_maker_words_are_sound(region: &Word, rules: &[Rule])
     ensures region { IsWord region.now }
     ensures rules { All (λ (rule : Rule). IsWord rule.word) rules.now }
 {

@@ -1,9 +1,9 @@
 ghost use Rattle.cache_maker.specs.Laws.{IndependentCacheWordLaws, WidenLaws};
 
-use ternary::{covers_laws, exact_laws, free_laws, meet_laws};
+use ternary::{covers_laws, free_laws, meet_laws, ternary_exact_laws};
 
 /// The rule at the place of an independent word decides each header that the word holds.
-pub fn independent_laws()
+pub fn independent_cache_word_laws()
     ensures { IndependentCacheWordLaws }
 {
     covers_laws();
@@ -16,6 +16,6 @@ pub fn widen_laws()
 {
     covers_laws();
     meet_laws();
-    exact_laws();
+    ternary_exact_laws();
     free_laws();
 }

@@ -1,4 +1,5 @@
-//! The word of a cache rule: as wide as can be, with every header that it holds decided as before.
+//! The word of the cache rule that a decision brings: as wide as can be, with every header that it
+//! holds decided as before.
 //!
 //! An authority switch that decided a header sends the ingress a rule for all headers of a word.
 //! The same rule of the partition is the first hit of each of them, so the word overlaps no earlier
@@ -13,4 +14,4 @@ mod cache_word;
 mod laws;
 
 pub use cache_word::widen;
-pub use laws::{independent_laws, widen_laws};
+pub use laws::{independent_cache_word_laws, widen_laws};

@@ -5,14 +5,14 @@ use Rattle.schedule.specs.Case.{IsPlayableCase, LoadCase, CaseNamesPort}
 use Rattle.net_file.specs.Exports.{IsNet, NetPortLaws, port_mask}
 use Rattle.update_machine.specs.Exports.{Action, Add, Change, Edit, Event, IsSetting, NamesSettingPort, Net, PolicyFile, Remove, Row, Setting, Whole, setting_of}
 use Rattle.partition.specs.Plan.{Hosted, partition_plan_of}
-use Rattle.policy_file.specs.Exports.{policy_file_length, policy_file_names_port}
+use Rattle.policy_file.specs.Exports.{policy_file_length, policy_names_only_ports}
 use Rattle.policy_rules.specs.declared.policy.Action.TheVariants as action
-use Rattle.policy_rules.specs.Exports.{EditAddsOnly, PolicyRulesGiveOnly, IsPolicy, IsPolicyOrAmendment, NoPolicyPlan}
+use Rattle.policy_rules.specs.Exports.{EditAddsOnly, PolicyFileRowsAre, IsPolicy, IsPolicyRulesOrAmendment, NoPolicyPlan}
 use Rattle.steps.specs.Exports.{IsEvent, max_events}
 use Rattle.world.specs.Exports.{WorldRefinesJournal, WorldValue, first_policy, world_setting_at}
 use Rattle.shelf.specs.Exports.{Files, ShelfState}
-use Rattle.command_inputs.specs.Exports.{CommandStatusAccounts, CommandEndsRead, Inputs, IsCommandNetOf, IsCommandReplayOf, NeedsReadFault, CommandStopsCheck, and_then_input, load_command_files, first_plan, command_replay_inputs, input_plan_from, read_files, read_net, read_schedule, command_status_of}
-use Rattle.command_line.specs.Exports.{MayBePolicyArguments, ReplayCommand, most_policy_arguments, argument_names_seen}
+use Rattle.command_inputs.specs.Exports.{CommandStatusAccounts, CommandInputReadEnds, Inputs, IsCommandNetOf, AreCommandInputsOfReplay, NeedsReadFault, CommandInputStopsCheck, and_then_input, load_case_files, first_plan, command_replay_inputs, input_plan_from, read_files, read_net, read_schedule, command_status_of}
+use Rattle.command_line.specs.Exports.{MayBePolicyArguments, ReplayArguments, most_policy_arguments, argument_names_seen}
 use Rattle.command_inputs.specs.declared.status.Refusal.{Refusal}
 use Rattle.command_inputs.specs.declared.status.Status.{Status}
 use Rattle.command_inputs.specs.declared.status.Status.TheVariants as status
@@ -22,7 +22,7 @@ use Rattle.command_inputs.specs.declared.status.Stop.TheVariants as stop
 -- ---- ports
 
 own_port : NetPortLaws → (net : Net) (files : List PolicyFile) → IsNet net → (a : Action)
-    → IsTrue (policy_file_names_port (port_mask net.switches) a) → NamesSettingPort (setting_of net files) a
+    → IsTrue (policy_names_only_ports (port_mask net.switches) a) → NamesSettingPort (setting_of net files) a
 own_port laws net files sound action.Drop has = tt
 own_port laws net files sound (action.Out port) has = sym (laws.mask net port sound) ∙ has
 
@@ -33,18 +33,18 @@ adds_weaker weaker (Remove priority) given = tt
 adds_weaker weaker (Add row) given = weaker row given
 
 gives_weaker : {P Q : Row → Type 0} → ((row : Row) → P row → Q row) → (file : PolicyFile)
-    → PolicyRulesGiveOnly P file → PolicyRulesGiveOnly Q file
+    → PolicyFileRowsAre P file → PolicyFileRowsAre Q file
 gives_weaker weaker (Whole rows) given = λ i d within. weaker _ (given i d within)
 gives_weaker weaker (Change edits) given = λ i d within. adds_weaker weaker _ (given i d within)
 
 pub own_ports : NetPortLaws → (net : Net) (files : List PolicyFile) → IsNet net
-    → All (PolicyRulesGiveOnly (λ row. IsTrue (policy_file_names_port (port_mask net.switches) row.action))) files
-    → All (PolicyRulesGiveOnly (λ row. NamesSettingPort (setting_of net files) row.action)) files
+    → All (PolicyFileRowsAre (λ row. IsTrue (policy_names_only_ports (port_mask net.switches) row.action))) files
+    → All (PolicyFileRowsAre (λ row. NamesSettingPort (setting_of net files) row.action)) files
 own_ports laws net files sound has = λ i d within.
     gives_weaker (λ row. own_port laws net files sound row.action) _ (has i d within)
 
 drawn_port : NetPortLaws → (net : Net) → IsNet net → (a : Action) → CaseNamesPort net a
-    → IsTrue (policy_file_names_port (port_mask net.switches) a)
+    → IsTrue (policy_names_only_ports (port_mask net.switches) a)
 drawn_port laws net sound action.Drop names = refl
 drawn_port laws net sound (action.Out port) names = laws.mask net port sound ∙ names
 
@@ -58,9 +58,9 @@ all_whole P policies given = λ i d within.
 -- the files of a load case begin with a policy, are sound, and name ports of its network alone
 pub record AreDrawn (load : LoadCase) (files : List PolicyFile) : Type 0 where
   pub first : IsSome (first_policy files)
-  pub sound : All IsPolicyOrAmendment files
-  pub ports : All (PolicyRulesGiveOnly (λ row.
-      IsTrue (policy_file_names_port (port_mask load.net.switches) row.action))) files
+  pub sound : All IsPolicyRulesOrAmendment files
+  pub ports : All (PolicyFileRowsAre (λ row.
+      IsTrue (policy_names_only_ports (port_mask load.net.switches) row.action))) files
 
 first_drawn : (policies : List (List Row)) → 1 ≤ length policies
     → IsSome (first_policy (map Whole policies))
@@ -68,14 +68,14 @@ first_drawn [] some = absurd (omega (arith, some))
 first_drawn (rows ∷ policies) some = refl
 
 pub are_drawn : NetPortLaws → (load : LoadCase) (files : List PolicyFile) → 1 ≤ length load.policies
-    → All IsPolicy load.policies → IsPlayableCase load → files ≡ load_command_files load → AreDrawn load files
+    → All IsPolicy load.policies → IsPlayableCase load → files ≡ load_case_files load → AreDrawn load files
 are_drawn laws load files some sound may same =
     let HasPort : Row → Type 0 =
-    λ row. IsTrue (policy_file_names_port (port_mask load.net.switches) row.action) in
+    λ row. IsTrue (policy_names_only_ports (port_mask load.net.switches) row.action) in
     subst (AreDrawn load) (sym same) (record {
       first = first_drawn load.policies some;
-      sound = all_whole IsPolicyOrAmendment load.policies sound;
-      ports = all_whole (PolicyRulesGiveOnly HasPort) load.policies (λ i d within j e inside.
+      sound = all_whole IsPolicyRulesOrAmendment load.policies sound;
+      ports = all_whole (PolicyFileRowsAre HasPort) load.policies (λ i d within j e inside.
           drawn_port laws load.net may.net _ (may.ports i d within j e inside));
     })
 
@@ -118,11 +118,11 @@ few_named owned may =
 -- ---- the inputs of a replay
 
 -- they are as the command asks for them
-pub asked_for : (args : ReplayCommand) (net : Net) (read : List PolicyFile) (events : List Event)
+pub asked_for : (args : ReplayArguments) (net : Net) (read : List PolicyFile) (events : List Event)
     (setting : Setting) → IsCommandNetOf args.net net → setting ≡ setting_of net read
     → length read ≡ length args.policies → length args.policies ≤ most_policy_arguments → length events
     ≤ max_events → All (λ file. policy_file_length file ≤ 2000) read
-    → IsCommandReplayOf args (record { setting = setting; events = events; report = args.report })
+    → AreCommandInputsOfReplay args (record { setting = setting; events = events; report = args.report })
 asked_for args net read events setting named own many some few short = record {
   net = subst (λ s. IsCommandNetOf args.net s.net) (sym own) named;
   policies = named_each;
@@ -143,13 +143,13 @@ and_then_ok (Ok x) result is = refl
 and_then_ok (Err refusal) result is = cc is
 
 -- what a replay is to play, where its files are read and the first policy is planned
-abbrev pub planned_inputs : ReplayCommand → Net → List PolicyFile → List Event
+abbrev pub planned_inputs : ReplayArguments → Net → List PolicyFile → List Event
     → Result Inputs Refusal
 planned_inputs args net read events = and_then_input (first_plan args.policies net read)
     (λ hosted. Ok (record { setting = setting_of net read; events = events; report = args.report }))
 
 -- where all is read, what is left is to plan the first policy
-pub inputs_then : (known middle later : Option Files) (args : ReplayCommand) (net : Net)
+pub inputs_then : (known middle later : Option Files) (args : ReplayArguments) (net : Net)
     (read : List PolicyFile) (events : List Event) (count ports : ℕ) → middle ≡ known
     → later ≡ known → count ≡ length args.policies → ports ≡ port_mask net.switches
     → ForSome known (λ files. read_net files args.net ≡ Ok net)
@@ -165,7 +165,7 @@ inputs_then known middle later args net read events count ports first second man
     rw (net_is files is, own_events, own_files) refl
 
 -- the inputs are what the files state, where these are known
-pub inputs_are : (known : Option Files) (args : ReplayCommand) (net : Net)
+pub inputs_are : (known : Option Files) (args : ReplayArguments) (net : Net)
     (read : List PolicyFile) (events : List Event) (setting : Setting)
     → ForSome known (λ files. command_replay_inputs files args ≡ planned_inputs args net read events)
     → IsOk (first_plan args.policies net read) → setting ≡ setting_of net read
@@ -183,7 +183,7 @@ then_accounts read next stop.ReadFault is = tt
 then_accounts read next stop.NoMemory is = tt
 
 -- where the first policy has no plan, what the files state accounts for the stop
-pub plan_accounts : (known : Option Files) (args : ReplayCommand) (net : Net)
+pub plan_accounts : (known : Option Files) (args : ReplayArguments) (net : Net)
     (read : List PolicyFile) (events : List Event) (why : Stop)
     → ForSome known (λ files. command_replay_inputs files args ≡ planned_inputs args net read events)
     → CommandStatusAccounts (first_plan args.policies net read) (command_status_of why)
@@ -208,9 +208,9 @@ no_fault_needed (Some files) status.NoMemory never needs = needs
 -- a reading that ends at a check of what was read
 pub ends_in_check : {X V Y : Type 0} (read : Files → Result X Refusal) (seen : V → X)
     (checked : Result Y Refusal) (old new : ShelfState) (why : Stop) (result : Result V Stop)
-    → IsErrAnd result (λ stop. stop ≡ why) → CommandStopsCheck checked why
+    → IsErrAnd result (λ stop. stop ≡ why) → CommandInputStopsCheck checked why
     → ForSome old.files (λ files. CommandStatusAccounts (read files) (command_status_of why))
-    → CommandEndsRead old.files read seen old new result
+    → CommandInputReadEnds old.files read seen old new result
 ends_in_check read seen checked old new why (Ok value) is check accounts = absurd is
 ends_in_check read seen checked old new why (Err stop) is check accounts =
     rw is (accounts, λ needs. absurd (no_fault_needed old.files (command_status_of why) check.1 needs))

@@ -1,8 +1,8 @@
 -- Readings one after another, and where they stop.
 use Rattle.std.proofs.Common.{◌∙◌, ◌≡◌, ◌⊎◌, Err, IsErrAnd, List, None, Ok, Option, Result, Some, refl, subst, sym, ℕ}
 use Rattle.base.proofs.Exports.{ForSome}
-use Rattle.shelf.specs.Exports.{Files, IsAfterReads, ShelfState}
-use Rattle.command_inputs.specs.Exports.{IsCalmCommandRead, CommandMayFollowFault, CommandStatusNamesOneOf, ReadsFiles, RefusesInput, missing_file_code, command_status_of, too_long}
+use Rattle.shelf.specs.Exports.{Files, IsShelfAfterReads, ShelfState}
+use Rattle.command_inputs.specs.Exports.{IsCalmCommandInputRead, CommandMayFollowFault, CommandStatusNamesOneOf, ReadsFiles, RefusesInput, command_input_missing_file_code, command_status_of, too_long}
 use Rattle.command_inputs.specs.declared.status.Refusal.{Refusal}
 use Rattle.command_inputs.specs.declared.status.Stop.{Stop}
 use Rattle.command_inputs.specs.declared.status.Stop.TheVariants as stop
@@ -15,7 +15,7 @@ IsCalmStop old new why = ¬ CommandMayFollowFault old.files (command_status_of w
 -- a reading that ends with this stop
 pub stops_with : {V : Type 0} (few all : List (List ℕ)) (most : ℕ) (old new : ShelfState)
     (why : Stop) (result : Result V Stop) → IsErrAnd result (λ stop. stop ≡ why)
-    → AreAmong few all → IsAfterReads most old new → IsCalmStop old new why
+    → AreAmong few all → IsShelfAfterReads most old new → IsCalmStop old new why
     → CommandStatusNamesOneOf few (command_status_of why) → ReadsFiles all most old new result
 stops_with few all most old new why (Ok value) is wider after calm named = absurd is
 stops_with few all most old new why (Err stop) is wider after calm named = rw is (record {
@@ -27,8 +27,8 @@ stops_with few all most old new why (Err stop) is wider after calm named = rw is
 -- one that ends with the stop of the last of its readings, before which no fault was counted
 pub stops_behind : {V : Type 0} {n m : ℕ} (few all : List (List ℕ)) (most : ℕ)
     (old middle new : ShelfState) (why : Stop) (result : Result V Stop)
-    → IsErrAnd result (λ stop. stop ≡ why) → AreAmong few all → IsAfterReads most old new
-    → IsAfterReads n old middle → middle.faults ≡ old.faults → IsAfterReads m middle new
+    → IsErrAnd result (λ stop. stop ≡ why) → AreAmong few all → IsShelfAfterReads most old new
+    → IsShelfAfterReads n old middle → middle.faults ≡ old.faults → IsShelfAfterReads m middle new
     → IsCalmStop middle new why → CommandStatusNamesOneOf few (command_status_of why)
     → ReadsFiles all most old new result
 stops_behind few all most old middle new why result is wider after first none second calm named =
@@ -38,18 +38,18 @@ stops_behind few all most old middle new why result is wider after first none se
 
 -- none was counted at all
 pub all_calm : {V : Type 0} (old new : ShelfState) (result : Result V Stop)
-    → new.faults ≡ old.faults → IsCalmCommandRead old new result
+    → new.faults ≡ old.faults → IsCalmCommandInputRead old new result
 all_calm old new (Ok value) calm = calm
 all_calm old new (Err why) calm = λ may. calm
 
 -- a refusal of an absent file, or of one too long, may follow a fault where files aren't known
 pub refused_calm : (old new : ShelfState) (given : Refusal) (why : Stop)
-    → (given.code ≡ missing_file_code) ⊎ (given.code ≡ too_long) → RefusesInput given why
+    → (given.code ≡ command_input_missing_file_code) ⊎ (given.code ≡ too_long) → RefusesInput given why
     → ForSome old.files (λ files. new.faults ≡ old.faults) → IsCalmStop old new why
 refused_calm old new given why code refuses known = by old.files refl where
   follows : (why : Stop) → RefusesInput given why → CommandMayFollowFault None (command_status_of why)
   follows (stop.Refused refusal) is =
-      subst (λ (other : Refusal). (other.code ≡ missing_file_code) ⊎ (other.code ≡ too_long)) (sym is)
+      subst (λ (other : Refusal). (other.code ≡ command_input_missing_file_code) ⊎ (other.code ≡ too_long)) (sym is)
       code
   follows stop.NoMemory is = tt
   follows stop.ReadFault is = absurd is

@@ -7,7 +7,7 @@ use Rattle.policy_file.specs.Exports.{first_in_policy_file, first_policy_row_wit
 use Rattle.policy_file.specs.declared.error.PolicyRefusal.{PolicyRefusal}
 use Rattle.policy_file.specs.declared.ports.NoPort.{NoPort}
 use Rattle.world.specs.Exports.{own_policy}
-use Rattle.command_inputs.specs.Exports.{CommandStatusAccounts, CommandStopsText, and_then_input, input_file_stated, first_command_input_stated, input_read_from, input_stated_as, command_status_of, input_with_ports}
+use Rattle.command_inputs.specs.Exports.{CommandStatusAccounts, CommandInputStopsText, and_then_input, input_file_stated, first_command_input_stated, input_read_from, input_stated_as, command_status_of, input_with_ports}
 use Rattle.command_inputs.specs.declared.status.Refusal.{Refusal}
 use Rattle.command_inputs.specs.declared.status.Stop.{Stop}
 use Rattle.command_inputs.specs.declared.status.Stop.TheVariants as stop
@@ -15,7 +15,7 @@ use Rattle.command_inputs.specs.declared.status.Stop.TheVariants as stop
 -- a stop at the text is one of all that is read from it
 pub text_accounts : {X Y R : Type 0} (code : R → ℕ) (name : List ℕ) (read : Result X (InRow R))
     (next : X → Result Y Refusal) (error : Failure (InRow R)) (why : Stop) → IsCallRefusal read error
-    → CommandStopsText code name error why
+    → CommandInputStopsText code name error why
     → CommandStatusAccounts (and_then_input (input_read_from code name read) next) (command_status_of why)
 text_accounts code name read next (failure.Refused row) (stop.Refused refusal) is same =
     rw is (ap Err (sym same))

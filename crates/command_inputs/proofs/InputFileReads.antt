@@ -2,11 +2,11 @@
 use Rattle.std.proofs.Common.{[], ◌++◌, ◌+◌, ◌<◌, ◌==◌, ◌∙◌, ◌∷◌, ◌≡◌, ◌≤◌, Bool, Bor, Err, IsErrAnd, IsSome, List, None, Ok, Option, Result, Some, add-one, ap, append-nil, append_assoc, arith, drop, drop-cons, false, get_or, length, length-append, ne_eqb, refl, subst, sym, true, ℕ}
 use Rattle.base.proofs.Exports.{ForSome, get_or-map, length-map}
 use Rattle.update_machine.specs.Exports.{PolicyFile}
-use Rattle.shelf.specs.Exports.{Files, IsAfterReads, ShelfState}
+use Rattle.shelf.specs.Exports.{Files, IsShelfAfterReads, ShelfState}
 use Rattle.world.specs.Exports.{first_policy, own_policy}
 use Rattle.command_inputs.proofs.InputShelfReads.{reads_then}
 use Rattle.command_line.specs.Exports.{argument_names_seen}
-use Rattle.command_inputs.specs.Exports.{CommandStatusAccounts, CommandEndsRead, and_then_input, command_file_reads, read_file, read_files, command_status_of, command_files_to_refusal}
+use Rattle.command_inputs.specs.Exports.{CommandStatusAccounts, CommandInputReadEnds, and_then_input, command_file_reads, read_file, read_files, command_status_of, input_files_to_refusal}
 use Rattle.command_inputs.specs.declared.status.Refusal.{Refusal}
 use Rattle.command_inputs.specs.declared.status.Stop.{Stop}
 use Rattle.command_inputs.specs.declared.status.Stop.TheVariants as stop
@@ -38,7 +38,7 @@ pub record HasRead (ports : ℕ) (names left : List (List ℕ)) (own : List Poli
     (old now : ShelfState) : Type 0 where
   pub value : ForSome old.files (λ files. read_files true ports files names
       ≡ and_more own (read_files (is_none own) ports files left))
-  pub after : IsAfterReads (length own) old now
+  pub after : IsShelfAfterReads (length own) old now
   pub most : command_file_reads true ports old.files names
       ≡ length own + command_file_reads (is_none own) ports old.files left
 
@@ -94,7 +94,7 @@ first_behind (one ∷ own) file i is_first many none so_far next = so_far (omega
 pub one_read : (ports : ℕ) (names left : List (List ℕ)) (name : List ℕ) (own : List PolicyFile)
     (file : PolicyFile) (old middle now : ShelfState) → HasRead ports names (name ∷ left) own old
     middle → ForSome middle.files (λ files. read_file (is_none own) ports files name ≡ Ok file)
-    → IsAfterReads 1 middle now → HasRead ports names left (own ++ file ∷ []) old now
+    → IsShelfAfterReads 1 middle now → HasRead ports names left (own ++ file ∷ []) old now
 one_read ports names left name own file old middle now so_far read then =
     let this : ForSome old.files (λ files. read_file (is_none own) ports files name ≡ Ok file) =
     λ files is. read files (so_far.after.same_files ∙ is) in
@@ -129,9 +129,9 @@ pub stops_at : {V : Type 0} (ports : ℕ) (names left : List (List ℕ)) (name :
     (own : List PolicyFile) (seen : V → List PolicyFile) (old middle now : ShelfState)
     (given : Stop) (result : Result V Stop) → IsErrAnd result (λ stop. stop ≡ given)
     → HasRead ports names (name ∷ left) own old middle
-    → CommandEndsRead middle.files (λ files. read_file (is_none own) ports files name)
+    → CommandInputReadEnds middle.files (λ files. read_file (is_none own) ports files name)
     (λ (file : PolicyFile). file) middle now (Err given)
-    → CommandEndsRead old.files (λ files. read_files true ports files names) seen old now result
+    → CommandInputReadEnds old.files (λ files. read_files true ports files names) seen old now result
 stops_at ports names left name own seen old middle now given (Ok value) same so_far ends =
     absurd same
 stops_at ports names left name own seen old middle now given (Err stop) same so_far ends = rw same (
@@ -146,13 +146,13 @@ some_read : (is_first : Bool) (ports : ℕ) (known : Option Files) (name : List 
     (left : List (List ℕ)) → 1 ≤ command_file_reads is_first ports known (name ∷ left)
 some_read is_first ports None name left = omega arith
 some_read is_first ports (Some files) name left = by _ _ where
-  by : (accepted : Bool) (others : List Bool) → 1 ≤ command_files_to_refusal (accepted ∷ others)
+  by : (accepted : Bool) (others : List Bool) → 1 ≤ input_files_to_refusal (accepted ∷ others)
   by true others = omega arith
   by false others = omega arith
 
 pub reads_at : (ports : ℕ) (names left : List (List ℕ)) (name : List ℕ) (own : List PolicyFile)
     (old middle now : ShelfState) → HasRead ports names (name ∷ left) own old middle
-    → IsAfterReads 1 middle now → IsAfterReads (command_file_reads true ports old.files names) old now
+    → IsShelfAfterReads 1 middle now → IsShelfAfterReads (command_file_reads true ports old.files names) old now
 reads_at ports names left name own old middle now so_far then =
     reads_then (length own) 1 _ old middle now
     (omega (arith, so_far.most, some_read (is_none own) ports old.files name left)) so_far.after
@@ -171,6 +171,6 @@ none_left is_first ports (Some files) = refl
 
 pub reads_all : (ports : ℕ) (names : List (List ℕ)) (own : List PolicyFile)
     (old now : ShelfState) → HasRead ports names [] own old now
-    → IsAfterReads (command_file_reads true ports old.files names) old now
-reads_all ports names own old now so_far = subst (λ (n : ℕ). IsAfterReads n old now)
+    → IsShelfAfterReads (command_file_reads true ports old.files names) old now
+reads_all ports names own old now so_far = subst (λ (n : ℕ). IsShelfAfterReads n old now)
     (omega (arith, so_far.most, none_left (is_none own) ports old.files)) so_far.after

@@ -5,7 +5,7 @@ use Rattle.partition.specs.Plan.{Hosted, partition_plan_of}
 use Rattle.policy_rules.specs.Hosted as no_plan
 use Rattle.policy_rules.specs.Exports.{NoPolicyPlan}
 use Rattle.world.specs.Exports.{first_policy}
-use Rattle.command_inputs.specs.Exports.{IsOneOfCommandFiles, CommandStatusNamesOneOf, CommandStopNamesOneOf, CommandStopsCheck, first_plan, input_plan_from, input_plan_on, command_refused_whole_file, command_status_of}
+use Rattle.command_inputs.specs.Exports.{IsOneOfCommandInputNames, CommandStatusNamesOneOf, CommandInputStopNamesOneOf, CommandInputStopsCheck, first_plan, input_plan_from, input_plan_on, input_file_refused_whole, command_status_of}
 use Rattle.command_inputs.specs.declared.status.Refusal.{Refusal}
 use Rattle.command_inputs.specs.declared.status.Status.{Status}
 use Rattle.command_inputs.specs.declared.status.Status.TheVariants as status
@@ -29,24 +29,24 @@ own_plan name net rows = by (partition_plan_of rows net) where
   by (Ok hosted) = λ refusal is. absurd (cc is)
   by (Err (no_plan.NoRoom partition)) = own_refusal name
       (record { file = name; code = machine_plan_code (no_plan.NoRoom partition); row = partition }) refl
-  by (Err why) = own_refusal name (command_refused_whole_file name (machine_plan_code why)) refl
+  by (Err why) = own_refusal name (input_file_refused_whole name (machine_plan_code why)) refl
 
 -- a check of what the file of this name says
 by_check : {X : Type 0} (name : List ℕ) (read : Result X Refusal) (why : Stop) → IsOwn name read
-    → CommandStopsCheck read why → CommandStatusNamesOneOf (name ∷ []) (command_status_of why)
+    → CommandInputStopsCheck read why → CommandStatusNamesOneOf (name ∷ []) (command_status_of why)
 by_check name read (stop.Refused refusal) own is =
     (inl (own refusal is.0), λ code. absurd (is.1 code))
 by_check name read stop.ReadFault own is = tt
 by_check name read stop.NoMemory own is = tt
 
 plan_check : (name : List ℕ) (net : Net) (rows : List Row) (why : Stop)
-    → CommandStopsCheck (input_plan_on name net rows) why → CommandStatusNamesOneOf (name ∷ []) (command_status_of why)
+    → CommandInputStopsCheck (input_plan_on name net rows) why → CommandStatusNamesOneOf (name ∷ []) (command_status_of why)
 plan_check name net rows why is =
     by_check name (input_plan_on name net rows) why (own_plan name net rows) is
 
 -- so it is where a plan is made, or there is none
 pub plan_read : {V : Type 0} (name : List ℕ) (net : Net) (rows : List Row) (read : Result V Stop)
-    → IfErr read (CommandStopsCheck (input_plan_on name net rows)) → CommandStopNamesOneOf (name ∷ []) read
+    → IfErr read (CommandInputStopsCheck (input_plan_on name net rows)) → CommandInputStopNamesOneOf (name ∷ []) read
 plan_read name net rows (Ok value) is = tt
 plan_read name net rows (Err why) is = plan_check name net rows why is
 
@@ -54,37 +54,37 @@ plan_read name net rows (Err why) is = plan_check name net rows why is
 
 -- each of these names is one of those
 abbrev pub AreAmong : (few all : List (List ℕ)) → Type 0
-AreAmong few all = (file : List ℕ) → IsOneOfCommandFiles few file → IsOneOfCommandFiles all file
+AreAmong few all = (file : List ℕ) → IsOneOfCommandInputNames few file → IsOneOfCommandInputNames all file
 
-pub among_front : (few more : List (List ℕ)) (file : List ℕ) → IsOneOfCommandFiles few file
-    → IsOneOfCommandFiles (few ++ more) file
+pub among_front : (few more : List (List ℕ)) (file : List ℕ) → IsOneOfCommandInputNames few file
+    → IsOneOfCommandInputNames (few ++ more) file
 among_front [] more file is = absurd is
 among_front (name ∷ few) more file (inl is) = inl is
 among_front (name ∷ few) more file (inr is) = inr (among_front few more file is)
 
-among_back : (few more : List (List ℕ)) (file : List ℕ) → IsOneOfCommandFiles more file
-    → IsOneOfCommandFiles (few ++ more) file
+among_back : (few more : List (List ℕ)) (file : List ℕ) → IsOneOfCommandInputNames more file
+    → IsOneOfCommandInputNames (few ++ more) file
 among_back [] more file is = is
 among_back (name ∷ few) more file is = inr (among_back few more file is)
 
 pub among_first : (name : List ℕ) (more : List (List ℕ)) (file : List ℕ)
-    → IsOneOfCommandFiles (name ∷ []) file → IsOneOfCommandFiles (name ∷ more) file
+    → IsOneOfCommandInputNames (name ∷ []) file → IsOneOfCommandInputNames (name ∷ more) file
 among_first name more file (inl is) = inl is
 among_first name more file (inr is) = absurd is
 
 -- the name behind some, and those behind it
 pub among_behind : (few : List (List ℕ)) (name : List ℕ) (more : List (List ℕ)) (file : List ℕ)
-    → IsOneOfCommandFiles (name ∷ []) file → IsOneOfCommandFiles (few ++ name ∷ more) file
+    → IsOneOfCommandInputNames (name ∷ []) file → IsOneOfCommandInputNames (few ++ name ∷ more) file
 among_behind few name more file is =
     among_back few (name ∷ more) file (among_first name more file is)
 
 pub among_last : (few : List (List ℕ)) (name : List ℕ) (more : List (List ℕ)) (file : List ℕ)
-    → IsOneOfCommandFiles more file → IsOneOfCommandFiles (few ++ name ∷ more) file
+    → IsOneOfCommandInputNames more file → IsOneOfCommandInputNames (few ++ name ∷ more) file
 among_last few name more file is = among_back few (name ∷ more) file (inr is)
 
 -- a name at a place
 pub among_there : (names : List (List ℕ)) (i : ℕ) (d : List ℕ) → i < length names
-    → (file : List ℕ) → IsOneOfCommandFiles (get_or names i d ∷ []) file → IsOneOfCommandFiles names file
+    → (file : List ℕ) → IsOneOfCommandInputNames (get_or names i d ∷ []) file → IsOneOfCommandInputNames names file
 among_there [] i d within file is = absurd (omega (arith, within))
 among_there (name ∷ names) zero d within file is = among_first name names file is
 among_there (name ∷ names) (suc i) d within file is =
@@ -97,7 +97,7 @@ among few all _ wider is = tt
 
 -- the plan of the first of these
 pub first_check : (names : List (List ℕ)) (net : Net) (files : List PolicyFile) (why : Stop)
-    → 0 < length names → CommandStopsCheck (first_plan names net files) why
+    → 0 < length names → CommandInputStopsCheck (first_plan names net files) why
     → CommandStatusNamesOneOf names (command_status_of why)
 first_check names net files why some is = let name = get_or names 0 [] in
     among (name ∷ []) names (command_status_of why) (among_there names 0 [] some)

@@ -3,29 +3,29 @@
 use Rattle.std.specs.Prelude.{ℕ}
 
 -- a file has at most this many bytes
-abbrev pub program_most_file_bytes : ℕ
-program_most_file_bytes = 16_777_216
+abbrev pub command_input_most_file_bytes : ℕ
+command_input_most_file_bytes = 16_777_216
 
 -- a trace has at most this many bytes
-abbrev pub program_most_trace_bytes : ℕ
-program_most_trace_bytes = 268_435_456
+abbrev pub command_input_most_trace_bytes : ℕ
+command_input_most_trace_bytes = 268_435_456
 
 -- there is no such file
-abbrev pub missing_file_code : ℕ
-missing_file_code = 0
+abbrev pub command_input_missing_file_code : ℕ
+command_input_missing_file_code = 0
 
 -- the file has more bytes than it may have
 abbrev pub too_long : ℕ
 too_long = 20
 
 -- a row names a port that the network doesn't have
-abbrev pub command_no_port_code : ℕ
-command_no_port_code = 13
+abbrev pub command_input_no_port_code : ℕ
+command_input_no_port_code = 13
 
 -- the first file of a command is a change
-abbrev pub command_first_change_code : ℕ
-command_first_change_code = 23
+abbrev pub command_input_first_change_code : ℕ
+command_input_first_change_code = 23
 
 -- the network doesn't have the switch
-abbrev pub command_missing_switch_code : ℕ
-command_missing_switch_code = 21
+abbrev pub command_input_missing_switch_code : ℕ
+command_input_missing_switch_code = 21

@@ -3,8 +3,8 @@ use Rattle.std.specs.Prelude.{◌≡◌, ◌≤◌, length, ⊤}
 use Rattle.net_file.specs.Exports.{IsNet}
 use Rattle.steps.specs.Exports.{max_events}
 use Rattle.world.specs.Exports.{IsWorldBegun, world_setting_at}
-use Rattle.command_inputs.specs.Asked.{IsPlayOfCommand, MayPlayCommandInputs}
-use Rattle.command_inputs.specs.PrintsAndAudits.{IsCommandAuditingOf, IsCommandPrintingOf}
+use Rattle.command_inputs.specs.Asked.{AreCommandPlayInputs, MayPlayCommandInputs}
+use Rattle.command_inputs.specs.PrintsAndAudits.{IsAuditInputOf, IsPrintInputOf}
 use Rattle.command_inputs.specs.Tasks.{CommandAuditInputs, Inputs, Printing, Task, Audit, Play, Print}
 use Rattle.command_line.specs.Commands as grammar
 use Rattle.command_inputs.specs.declared.auditing.AuditInputs.{AuditInputs}
@@ -21,21 +21,21 @@ task_inputs_stated inputs = record {
   report = inputs.report;
 }
 
-abbrev pub printing_stated : PrintInputs → Printing
-printing_stated inputs = record {
+abbrev pub print_inputs_stated : PrintInputs → Printing
+print_inputs_stated inputs = record {
   policy = inputs.plan.policy;
   net = inputs.net;
   hosted = inputs.plan.hosted;
   switch = inputs.switch;
 }
 
-abbrev pub auditing_stated : AuditInputs → CommandAuditInputs
-auditing_stated inputs = record { trace = inputs.trace.items; files = inputs.files.items }
+abbrev pub command_input_audit_stated : AuditInputs → CommandAuditInputs
+command_input_audit_stated inputs = record { trace = inputs.trace.items; files = inputs.files.items }
 
-abbrev pub task_stated : declared_task.Task → Task
-task_stated (asked.Play inputs) = Play (task_inputs_stated inputs)
-task_stated (asked.Print inputs) = Print (printing_stated inputs)
-task_stated (asked.Audit inputs) = Audit (auditing_stated inputs)
+abbrev pub command_input_task_stated : declared_task.Task → Task
+command_input_task_stated (asked.Play inputs) = Play (task_inputs_stated inputs)
+command_input_task_stated (asked.Print inputs) = Print (print_inputs_stated inputs)
+command_input_task_stated (asked.Audit inputs) = Audit (command_input_audit_stated inputs)
 
 -- in the world of a play nothing happened yet, its network is the one that was read, and the
 -- events may happen on it
@@ -46,14 +46,14 @@ pub record AreCommandInputsReady (inputs : PlayInputs) : Type 0 where
   pub few : length inputs.events.items ≤ max_events
 
 -- what is required of a task before its work; nothing of a trace
-abbrev pub IsReadyTask : declared_task.Task → Type 0
-IsReadyTask (asked.Play inputs) = AreCommandInputsReady inputs
-IsReadyTask (asked.Print inputs) = IsNet inputs.net
-IsReadyTask (asked.Audit inputs) = ⊤
+abbrev pub IsTaskInputReady : declared_task.Task → Type 0
+IsTaskInputReady (asked.Play inputs) = AreCommandInputsReady inputs
+IsTaskInputReady (asked.Print inputs) = IsNet inputs.net
+IsTaskInputReady (asked.Audit inputs) = ⊤
 
 -- the task is of the command's kind, and is as the command names it
-abbrev pub IsTaskOfCommand : grammar.Command → Task → Type 0
-IsTaskOfCommand command (Play inputs) = IsPlayOfCommand command inputs
-IsTaskOfCommand (grammar.Print args) (Print printing) = IsCommandPrintingOf args printing
-IsTaskOfCommand (grammar.Audit args) (Audit auditing) = IsCommandAuditingOf args auditing
-IsTaskOfCommand _ _ = ⊥
+abbrev pub IsCommandInputTask : grammar.Command → Task → Type 0
+IsCommandInputTask command (Play inputs) = AreCommandPlayInputs command inputs
+IsCommandInputTask (grammar.Print args) (Print printing) = IsPrintInputOf args printing
+IsCommandInputTask (grammar.Audit args) (Audit auditing) = IsAuditInputOf args auditing
+IsCommandInputTask _ _ = ⊥

@@ -3,11 +3,11 @@ use Rattle.std.specs.Prelude.{[], ◌++◌, ◌∷◌, ◌≡◌, ◌⊎◌, Err
 use Rattle.base.specs.Exports.{ForSome}
 use Rattle.update_machine.specs.Exports.{Failure, InRow}
 use Rattle.base.specs.declared.error.Failure.TheVariants as failure
-use Rattle.shelf.specs.Exports.{Files, IsAfterReads, FaultsRose, ShelfState}
+use Rattle.shelf.specs.Exports.{Files, IsShelfAfterReads, FaultsRose, ShelfState}
 use Rattle.shelf.specs.declared.output.SinkError.{SinkError}
 use Rattle.command_line.specs.Exports.{Command}
 use Rattle.command_line.specs.Commands as asked
-use Rattle.command_inputs.specs.Codes.{missing_file_code, too_long}
+use Rattle.command_inputs.specs.Codes.{command_input_missing_file_code, too_long}
 use Rattle.command_inputs.specs.Inputs.{command_load_input_name, command_most_reads}
 use Rattle.command_inputs.specs.declared.status.Refusal.{Refusal}
 use Rattle.command_inputs.specs.declared.status.Status.{Status}
@@ -22,13 +22,21 @@ command_status_of (stop.Refused refusal) = status.Input refusal.file refusal.cod
 command_status_of stop.ReadFault = status.ReadFault
 command_status_of stop.NoMemory = status.NoMemory
 
--- the status of a command after its work: by whether that was written, and whether its play ran to
--- its end or stopped full at a row
+-- the status of a command whose output is written: by whether its play ran to its end, or stopped
+-- full at a row
+abbrev pub command_written_status : Option ℕ → Status
+command_written_status None = status.Ok
+command_written_status (Some row) = status.Full row
+
+-- the status of a command whose output could not be written
+abbrev pub command_unwritten_status : SinkError → Status
+command_unwritten_status sink.Failed = status.WriteFault
+command_unwritten_status sink.NoMemory = status.NoMemory
+
+-- the status of a command after its work
 abbrev pub command_status_after : Result (⊤) SinkError → Option ℕ → Status
-command_status_after (Ok done) None = status.Ok
-command_status_after (Ok done) (Some row) = status.Full row
-command_status_after (Err sink.Failed) full = status.WriteFault
-command_status_after (Err sink.NoMemory) full = status.NoMemory
+command_status_after (Ok done) full = command_written_status full
+command_status_after (Err error) full = command_unwritten_status error
 
 abbrev pub status_number : Status → ℕ
 status_number status.Ok = 0
@@ -44,14 +52,14 @@ status_number status.NoMemory = 7
 -- absent file or one too long
 abbrev pub NeedsReadFault : Option Files → Status → Type 0
 NeedsReadFault files status.ReadFault = ⊤
-NeedsReadFault None (status.Input file code row) = (code ≡ missing_file_code) ⊎ (code ≡ too_long)
+NeedsReadFault None (status.Input file code row) = (code ≡ command_input_missing_file_code) ⊎ (code ≡ too_long)
 NeedsReadFault _ _ = ⊥
 
 -- a status with which the shelf may have counted a fault: one that only a fault causes; and if the
 -- files are not known, out of memory, which may occur while an absent file is reported
 abbrev pub CommandMayFollowFault : Option Files → Status → Type 0
 CommandMayFollowFault files status.ReadFault = ⊤
-CommandMayFollowFault None (status.Input file code row) = (code ≡ missing_file_code) ⊎ (code ≡ too_long)
+CommandMayFollowFault None (status.Input file code row) = (code ≡ command_input_missing_file_code) ⊎ (code ≡ too_long)
 CommandMayFollowFault None status.NoMemory = ⊤
 CommandMayFollowFault _ _ = ⊥
 
@@ -69,17 +77,17 @@ CommandStatusAccounts read _ = ⊤
 
 -- how a reading ends: with the value that the known files give, as `seen` shows it; or with a stop
 -- for which the known files account, and with a fault of the shelf if it needs one
-abbrev pub CommandEndsRead : {K X V : Type 0} → (known : Option K) → (read : K → Result X Refusal)
+abbrev pub CommandInputReadEnds : {K X V : Type 0} → (known : Option K) → (read : K → Result X Refusal)
     → (seen : V → X) → (old new : ShelfState) → Result V Stop → Type 0
-CommandEndsRead known read seen old new (Ok value) = ForSome known (λ given. read given ≡ Ok (seen value))
-CommandEndsRead known read seen old new (Err stop) =
+CommandInputReadEnds known read seen old new (Ok value) = ForSome known (λ given. read given ≡ Ok (seen value))
+CommandInputReadEnds known read seen old new (Err stop) =
     ForSome known (λ given. CommandStatusAccounts (read given) (command_status_of stop))
     × (NeedsReadFault old.files (command_status_of stop) → FaultsRose old.faults new.faults)
 
 -- a reading counts no fault, unless it stops as one that met a fault may
-abbrev pub IsCalmCommandRead : {V : Type 0} → (old new : ShelfState) → Result V Stop → Type 0
-IsCalmCommandRead old new (Ok value) = new.faults ≡ old.faults
-IsCalmCommandRead old new (Err stop) =
+abbrev pub IsCalmCommandInputRead : {V : Type 0} → (old new : ShelfState) → Result V Stop → Type 0
+IsCalmCommandInputRead old new (Ok value) = new.faults ≡ old.faults
+IsCalmCommandInputRead old new (Err stop) =
     ¬ CommandMayFollowFault old.files (command_status_of stop) → new.faults ≡ old.faults
 
 -- ---- which names a refusal may name
@@ -94,28 +102,28 @@ names_in (Some (asked.Print args)) =
 names_in (Some (asked.Load n)) = command_load_input_name ∷ []
 names_in (Some (asked.Audit args)) = args.trace ∷ args.policies
 
-abbrev pub IsOneOfCommandFiles : List (List ℕ) → List ℕ → Type 0
-IsOneOfCommandFiles [] file = ⊥
-IsOneOfCommandFiles (name ∷ names) file = (file ≡ name) ⊎ IsOneOfCommandFiles names file
+abbrev pub IsOneOfCommandInputNames : List (List ℕ) → List ℕ → Type 0
+IsOneOfCommandInputNames [] file = ⊥
+IsOneOfCommandInputNames (name ∷ names) file = (file ≡ name) ⊎ IsOneOfCommandInputNames names file
 
 -- a refusal names one of these; and that of a file that is absent, or too long, names row 0
 abbrev pub CommandStatusNamesOneOf : List (List ℕ) → Status → Type 0
-CommandStatusNamesOneOf names (status.Input file code row) = IsOneOfCommandFiles names file
-    × ((code ≡ missing_file_code) ⊎ (code ≡ too_long) → row ≡ 0)
+CommandStatusNamesOneOf names (status.Input file code row) = IsOneOfCommandInputNames names file
+    × ((code ≡ command_input_missing_file_code) ⊎ (code ≡ too_long) → row ≡ 0)
 CommandStatusNamesOneOf names _ = ⊤
 
 -- the same for a reading that stops
-abbrev pub CommandStopNamesOneOf : {V : Type 0} → List (List ℕ) → Result V Stop → Type 0
-CommandStopNamesOneOf names (Ok value) = ⊤
-CommandStopNamesOneOf names (Err stop) = CommandStatusNamesOneOf names (command_status_of stop)
+abbrev pub CommandInputStopNamesOneOf : {V : Type 0} → List (List ℕ) → Result V Stop → Type 0
+CommandInputStopNamesOneOf names (Ok value) = ⊤
+CommandInputStopNamesOneOf names (Err stop) = CommandStatusNamesOneOf names (command_status_of stop)
 
 -- a reading of the files of these names, by at most this many reads of the shelf: it counts no
 -- fault, unless it stops as one that met a fault may, and what it refuses is one of them
 pub record ReadsFiles {V : Type 0} (names : List (List ℕ)) (most : ℕ) (old new : ShelfState)
     (result : Result V Stop) : Type 0 where
-  pub after : IsAfterReads most old new
-  pub calm : IsCalmCommandRead old new result
-  pub stops : CommandStopNamesOneOf names result
+  pub after : IsShelfAfterReads most old new
+  pub calm : IsCalmCommandInputRead old new result
+  pub stops : CommandInputStopNamesOneOf names result
 
 -- the same for what a command names
 abbrev pub CommandReadsFor : {V : Type 0} → Command → (old new : ShelfState) → Result V Stop → Type 0
@@ -137,11 +145,11 @@ RefusesInput given stop.NoMemory = ⊤
 RefusesInput given stop.ReadFault = ⊥
 
 -- a stop at a check of what was read: this accounts for it, and no fault causes it
-abbrev pub CommandStopsCheck : {X : Type 0} → Result X Refusal → Stop → Type 0
-CommandStopsCheck read stop = CommandStatusAccounts read (command_status_of stop) × (NeedsReadFault None (command_status_of stop) → ⊥)
+abbrev pub CommandInputStopsCheck : {X : Type 0} → Result X Refusal → Stop → Type 0
+CommandInputStopsCheck read stop = CommandStatusAccounts read (command_status_of stop) × (NeedsReadFault None (command_status_of stop) → ⊥)
 
 -- a stop at a text that is refused in a row by a refusal of this code, or for which memory ran out
-abbrev pub CommandStopsText : {R : Type 0} → (R → ℕ) → List ℕ → Failure (InRow R) → Stop → Type 0
-CommandStopsText code name (failure.Refused why) stop =
+abbrev pub CommandInputStopsText : {R : Type 0} → (R → ℕ) → List ℕ → Failure (InRow R) → Stop → Type 0
+CommandInputStopsText code name (failure.Refused why) stop =
     RefusesInput (record { file = name; code = code why.refusal; row = why.row }) stop
-CommandStopsText code name failure.NoMemory why = why ≡ stop.NoMemory
+CommandInputStopsText code name failure.NoMemory why = why ≡ stop.NoMemory

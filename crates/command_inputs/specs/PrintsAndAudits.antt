@@ -3,33 +3,33 @@ use Rattle.std.specs.Prelude.{◌≡◌, ◌≤◌, All, IsSome, IsTrue, List, N
 use Rattle.net_file.specs.Exports.{port_mask, switch_number}
 use Rattle.update_machine.specs.Exports.{Header, Net}
 use Rattle.partition.specs.Plan.{IsPartitionPlan, partition_plan_of}
-use Rattle.policy_file.specs.Exports.{policy_file_length, policy_file_names_port}
-use Rattle.policy_rules.specs.Exports.{IsFirstMatch, IsPolicy, IsPolicyOrAmendment, scan}
+use Rattle.policy_file.specs.Exports.{policy_file_length, policy_names_only_ports}
+use Rattle.policy_rules.specs.Exports.{IsFirstMatch, IsPolicy, IsPolicyRulesOrAmendment, scan}
 use Rattle.controller.specs.Exports.{PlanLeadsEveryHeader}
 use Rattle.world.specs.Exports.{first_policy}
-use Rattle.command_line.specs.Exports.{AuditCommand, PrintCommand}
-use Rattle.command_inputs.specs.Codes.{program_most_trace_bytes}
+use Rattle.command_line.specs.Exports.{AuditArguments, PrintArguments}
+use Rattle.command_inputs.specs.Codes.{command_input_most_trace_bytes}
 use Rattle.command_inputs.specs.Tasks.{CommandAuditInputs, IsCommandNetOf, Printing}
 
 -- ---- plans and tables
 
 -- the switch is the one that the command names
-abbrev pub IsCommandSwitchOf : Option (List ℕ) → Net → Option ℕ → Type 0
-IsCommandSwitchOf None net switch = switch ≡ None
-IsCommandSwitchOf (Some name) net switch =
+abbrev pub IsCommandInputSwitch : Option (List ℕ) → Net → Option ℕ → Type 0
+IsCommandInputSwitch None net switch = switch ≡ None
+IsCommandInputSwitch (Some name) net switch =
     (switch ≡ switch_number net.switches name) × IsTrue (is_some switch)
 
 -- a policy of at most 2,000 rows, its plan on the network that a command names, with rows that name
 -- only its ports, and the switch that the command names. The plan's partitions are the leaves of
 -- the tree that is defined for the policy's rules, and their targets a placement. At every switch
 -- it leads each header to what a scan of the policy finds, which is the first match
-pub record IsCommandPrintingOf (command : PrintCommand) (printing : Printing) : Type 0 where
+pub record IsPrintInputOf (command : PrintArguments) (printing : Printing) : Type 0 where
   pub policy : IsPolicy printing.policy
   pub few : length printing.policy ≤ 2000
   pub net : IsCommandNetOf command.net printing.net
-  pub ports : All (λ row. IsTrue (policy_file_names_port (port_mask printing.net.switches) row.action))
+  pub ports : All (λ row. IsTrue (policy_names_only_ports (port_mask printing.net.switches) row.action))
       printing.policy
-  pub switch : IsCommandSwitchOf command.switch printing.net printing.switch
+  pub switch : IsCommandInputSwitch command.switch printing.net printing.switch
   pub plan : partition_plan_of printing.policy printing.net ≡ Ok printing.hosted
   pub parts : IsPartitionPlan printing.policy printing.net printing.hosted
   pub leads : PlanLeadsEveryHeader printing.policy printing.hosted
@@ -41,9 +41,9 @@ pub record IsCommandPrintingOf (command : PrintCommand) (printing : Printing) : 
 
 -- there is a file for each name, sound and with at most 2,000 rows; the first has a policy; and the
 -- trace isn't too long
-pub record IsCommandAuditingOf (command : AuditCommand) (auditing : CommandAuditInputs) : Type 0 where
+pub record IsAuditInputOf (command : AuditArguments) (auditing : CommandAuditInputs) : Type 0 where
   pub many : length auditing.files ≡ length command.policies
   pub first : IsSome (first_policy auditing.files)
-  pub sound : All IsPolicyOrAmendment auditing.files
+  pub sound : All IsPolicyRulesOrAmendment auditing.files
   pub few : All (λ file. policy_file_length file ≤ 2000) auditing.files
-  pub short : length auditing.trace ≤ program_most_trace_bytes
+  pub short : length auditing.trace ≤ command_input_most_trace_bytes

@@ -1,7 +1,7 @@
 -- First tier. What a command does, once its files are read.
 use Rattle.std.specs.Prelude.{◌≡◌, List, None, Option, Some, ℕ}
 use Rattle.update_machine.specs.Exports.{Event, Net, Setting}
-use Rattle.net_file.specs.Exports.{IsNet, solo_net}
+use Rattle.net_file.specs.Exports.{IsNet, net_of_one_switch}
 use Rattle.command_line.specs.declared.report.Report.{Report}
 pub use Rattle.command_inputs.specs.NotPlayed.{CommandAuditInputs, Printing}
 
@@ -20,5 +20,5 @@ pub data Task : Type 0 where
 
 -- the network is that of a file, or of one switch
 abbrev pub IsCommandNetOf : Option (List ℕ) → Net → Type 0
-IsCommandNetOf None net = net ≡ solo_net
+IsCommandNetOf None net = net ≡ net_of_one_switch
 IsCommandNetOf (Some name) net = IsNet net

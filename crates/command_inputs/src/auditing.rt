@@ -1,6 +1,6 @@
-//! Audits: reads a trace and its policies, and then checks the trace.
+//! Reads the trace of an audit, and its policies and changes.
 ghost use Rattle.std.specs.Prelude.{Ok, IfOk, length};
-ghost use Rattle.command_inputs.specs.Exports.{Audit, CommandEndsRead, IsCommandAuditingOf, CommandReadsFor, auditing_of, auditing_stated};
+ghost use Rattle.command_inputs.specs.Exports.{Audit, CommandInputReadEnds, IsAuditInputOf, CommandReadsFor, command_audit_inputs, command_input_audit_stated};
 ghost use Rattle.command_line.specs.Named.{MayBePolicyArguments, audit_arguments_named};
 ghost use Rattle.command_line.specs.Commands as grammar;
 
@@ -26,19 +26,19 @@ pub struct AuditInputs {
 
 /// Reads the trace, and then reads and checks the policies and changes in their order. These may
 /// name the ports of a network of one switch; no plan is made.
-pub fn read_auditing<F: Shelf>(
+pub fn read_audit_inputs<F: Shelf>(
     alloc: Global,
     shelf: &mut F,
     args: &AuditArgs<'_>,
 ) -> Result<AuditInputs, Stop>
     requires { MayBePolicyArguments (length args.now.policies.items) }
-    ensures read { CommandEndsRead (F.state shelf.old).files
-        (λ files. auditing_of files (audit_arguments_named args.now)) auditing_stated
+    ensures read { CommandInputReadEnds (F.state shelf.old).files
+        (λ files. command_audit_inputs files (audit_arguments_named args.now)) command_input_audit_stated
         (F.state shelf.old) (F.state shelf.new) result }
     ensures shelf { CommandReadsFor (grammar.Audit (audit_arguments_named args.now))
         (F.state shelf.old) (F.state shelf.new) result }
     ensures asked { IfOk result (λ inputs.
-        IsCommandAuditingOf (audit_arguments_named args.now) (auditing_stated inputs)) }
+        IsAuditInputOf (audit_arguments_named args.now) (command_input_audit_stated inputs)) }
 {
     let trace = read_file_within(alloc, shelf, args.trace, MAX_TRACE_BYTES)?;
     let names: &[&str] = &args.policies;

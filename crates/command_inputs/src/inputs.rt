@@ -1,17 +1,17 @@
 //! Reads and checks the files of a command, one after another.
 ghost use Rattle.std.specs.Prelude.{◌≡◌, ◌<◌, ◌≤◌, All, IsSome, IsTrue, IfOk, IfErr, Ok, [], ◌∷◌, length, true};
 ghost use Rattle.net_file.specs.Net.{IsNet};
-ghost use Rattle.policy_file.specs.Ports.{policy_file_names_port};
-ghost use Rattle.policy_rules.specs.Exports.{PolicyRulesGiveOnly, IsPolicy, IsPolicyOrAmendment};
+ghost use Rattle.policy_file.specs.Ports.{policy_names_only_ports};
+ghost use Rattle.policy_rules.specs.Exports.{PolicyFileRowsAre, IsPolicy, IsPolicyRulesOrAmendment};
 ghost use Rattle.schedule.specs.Reading.{AreSoundScheduleEvents};
 ghost use Rattle.policy_file.specs.Changes.{policy_file_length};
 ghost use Rattle.world.specs.Files.{first_policy, own_policy};
-ghost use Rattle.command_inputs.specs.Exports.{AreCommandInputsReady, CommandEndsRead, IsCommandReplayOf, ReadsFiles, CommandReadsFor, RefusesInput, CommandStopsCheck, content_of, command_content_within, command_file_reads, command_replay_inputs, task_inputs_stated, read_file, read_files, read_policy, read_schedule, command_schedule_in};
+ghost use Rattle.command_inputs.specs.Exports.{AreCommandInputsReady, CommandInputReadEnds, AreCommandInputsOfReplay, ReadsFiles, CommandReadsFor, RefusesInput, CommandInputStopsCheck, command_input_content, command_content_within, command_file_reads, command_replay_inputs, task_inputs_stated, read_file, read_files, read_policy, read_schedule, command_schedule_in};
 ghost use Rattle.command_line.specs.Named.{HasPolicyArguments, argument_names_seen, replay_arguments_named};
 ghost use Rattle.command_line.specs.Commands.{Replay};
 
-use crate::networks::take_network;
-use crate::policies::{begin_world, check_file, check_policy};
+use crate::networks::take_input_network;
+use crate::policies::{begin_world_of_inputs, check_input_policy, check_input_policy_file};
 use crate::status::{Refusal, RefusedFileName, Stop};
 use command_line::{ReplayArgs, Report};
 use net_file::Net;
@@ -42,8 +42,8 @@ pub fn refused(alloc: Global, name: &str, code: u32, row: u32) -> Stop
 }
 
 /// The content of the file of this name, of at most 16,777,216 bytes.
-pub fn read_bytes<F: Shelf>(alloc: Global, shelf: &mut F, name: &str) -> Result<Vec<u8>, Stop>
-    ensures read { CommandEndsRead (F.state shelf.old).files (λ files. content_of files name.now)
+pub fn read_input_bytes<F: Shelf>(alloc: Global, shelf: &mut F, name: &str) -> Result<Vec<u8>, Stop>
+    ensures read { CommandInputReadEnds (F.state shelf.old).files (λ files. command_input_content files name.now)
         (λ bytes. bytes.items) (F.state shelf.old) (F.state shelf.new) result }
     ensures shelf { ReadsFiles (name.now ∷ []) 1 (F.state shelf.old) (F.state shelf.new) result }
 {
@@ -57,7 +57,7 @@ pub fn read_file_within<F: Shelf>(
     name: &str,
     most: u64,
 ) -> Result<Vec<u8>, Stop>
-    ensures read { CommandEndsRead (F.state shelf.old).files
+    ensures read { CommandInputReadEnds (F.state shelf.old).files
         (λ files. command_content_within most files name.now)
         (λ bytes. bytes.items) (F.state shelf.old) (F.state shelf.new) result }
     ensures shelf { ReadsFiles (name.now ∷ []) 1 (F.state shelf.old) (F.state shelf.new) result }
@@ -73,7 +73,7 @@ pub fn read_file_within<F: Shelf>(
 }
 
 /// The events that the bytes of this file state for the network and this many policy files.
-fn check_schedule(
+fn check_input_schedule(
     alloc: Global,
     name: &str,
     bytes: &[u8],
@@ -84,7 +84,7 @@ fn check_schedule(
     ensures value { IfOk result (λ events.
         command_schedule_in net.now policies name.now bytes.now ≡ Ok events.items) }
     ensures stopped { IfErr result
-        (CommandStopsCheck (command_schedule_in net.now policies name.now bytes.now)) }
+        (CommandInputStopsCheck (command_schedule_in net.now policies name.now bytes.now)) }
     ensures sound { IfOk result (λ events. AreSoundScheduleEvents net.now policies events.items) }
 {
     match schedule::read_schedule(alloc, bytes, net, policies) {
@@ -103,14 +103,14 @@ fn read_schedule<F: Shelf>(
     policies: u32,
 ) -> Result<Vec<Event>, Stop>
     requires { IsNet net.now }
-    ensures read { CommandEndsRead (F.state shelf.old).files
+    ensures read { CommandInputReadEnds (F.state shelf.old).files
         (λ files. read_schedule net.now policies files name.now) (λ events. events.items)
         (F.state shelf.old) (F.state shelf.new) result }
     ensures shelf { ReadsFiles (name.now ∷ []) 1 (F.state shelf.old) (F.state shelf.new) result }
     ensures sound { IfOk result (λ events. AreSoundScheduleEvents net.now policies events.items) }
 {
-    let bytes = read_bytes(alloc, shelf, name)?;
-    check_schedule(alloc, name, &bytes, net, policies)
+    let bytes = read_input_bytes(alloc, shelf, name)?;
+    check_input_schedule(alloc, name, &bytes, net, policies)
 }
 
 /// The policy of the file of this name, which names only ports of the mask.
@@ -120,15 +120,15 @@ pub fn read_policy<F: Shelf>(
     name: &str,
     ports: u64,
 ) -> Result<Policy, Stop>
-    ensures read { CommandEndsRead (F.state shelf.old).files (λ files. read_policy ports files name.now)
+    ensures read { CommandInputReadEnds (F.state shelf.old).files (λ files. read_policy ports files name.now)
         (λ policy. policy) (F.state shelf.old) (F.state shelf.new) result }
     ensures shelf { ReadsFiles (name.now ∷ []) 1 (F.state shelf.old) (F.state shelf.new) result }
-    ensures own_ports { IfOk result (All (λ row. IsTrue (policy_file_names_port ports row.action))) }
+    ensures own_ports { IfOk result (All (λ row. IsTrue (policy_names_only_ports ports row.action))) }
     ensures sound { IfOk result IsPolicy }
     ensures few { IfOk result (λ policy. length policy ≤ 2000) }
 {
-    let bytes = read_bytes(alloc, shelf, name)?;
-    check_policy(alloc, name, &bytes, ports)
+    let bytes = read_input_bytes(alloc, shelf, name)?;
+    check_input_policy(alloc, name, &bytes, ports)
 }
 
 /// The policy or the change of the file of this name, whose rows name only ports of the mask. The
@@ -140,17 +140,17 @@ fn read_file<F: Shelf>(
     ports: u64,
     is_first: bool,
 ) -> Result<PolicyFile, Stop>
-    ensures read { CommandEndsRead (F.state shelf.old).files
+    ensures read { CommandInputReadEnds (F.state shelf.old).files
         (λ files. read_file is_first ports files name.now) (λ file. file)
         (F.state shelf.old) (F.state shelf.new) result }
     ensures shelf { ReadsFiles (name.now ∷ []) 1 (F.state shelf.old) (F.state shelf.new) result }
-    ensures own_ports { IfOk result (PolicyRulesGiveOnly (λ row. IsTrue (policy_file_names_port ports row.action))) }
-    ensures sound { IfOk result IsPolicyOrAmendment }
+    ensures own_ports { IfOk result (PolicyFileRowsAre (λ row. IsTrue (policy_names_only_ports ports row.action))) }
+    ensures sound { IfOk result IsPolicyRulesOrAmendment }
     ensures few { IfOk result (λ file. policy_file_length file ≤ 2000) }
     ensures whole { is_first ≡ true → IfOk result (λ file. IsSome (own_policy file)) }
 {
-    let bytes = read_bytes(alloc, shelf, name)?;
-    check_file(alloc, name, &bytes, ports, is_first)
+    let bytes = read_input_bytes(alloc, shelf, name)?;
+    check_input_policy_file(alloc, name, &bytes, ports, is_first)
 }
 
 /// The policies and changes of the files of these names, each read and checked before the next one
@@ -162,7 +162,7 @@ pub fn read_files<F: Shelf>(
     ports: u64,
 ) -> Result<Vec<PolicyFile>, Stop>
     requires { 0 < length names.now }
-    ensures read { CommandEndsRead (F.state shelf.old).files
+    ensures read { CommandInputReadEnds (F.state shelf.old).files
         (λ files. read_files true ports files (argument_names_seen names.now)) (λ read. read.items)
         (F.state shelf.old) (F.state shelf.new) result }
     ensures shelf { ReadsFiles (argument_names_seen names.now)
@@ -171,8 +171,8 @@ pub fn read_files<F: Shelf>(
     ensures many { IfOk result (λ read. length read.items ≡ length names.now) }
     ensures first { IfOk result (λ read. IsSome (first_policy read.items)) }
     ensures own_ports { IfOk result (λ read.
-        All (PolicyRulesGiveOnly (λ row. IsTrue (policy_file_names_port ports row.action))) read.items) }
-    ensures sound { IfOk result (λ read. All IsPolicyOrAmendment read.items) }
+        All (PolicyFileRowsAre (λ row. IsTrue (policy_names_only_ports ports row.action))) read.items) }
+    ensures sound { IfOk result (λ read. All IsPolicyRulesOrAmendment read.items) }
     ensures few { IfOk result (λ read. All (λ file. policy_file_length file ≤ 2000) read.items) }
 {
     let mut read = Vec::new(alloc);
@@ -201,21 +201,21 @@ pub fn read_inputs<F: Shelf>(
     args: &ReplayArgs<'_>,
 ) -> Result<PlayInputs, Stop>
     requires { HasPolicyArguments args.now }
-    ensures read { CommandEndsRead (F.state shelf.old).files
+    ensures read { CommandInputReadEnds (F.state shelf.old).files
         (λ files. command_replay_inputs files (replay_arguments_named args.now)) task_inputs_stated
         (F.state shelf.old) (F.state shelf.new) result }
     ensures shelf { CommandReadsFor (Replay (replay_arguments_named args.now))
         (F.state shelf.old) (F.state shelf.new) result }
     ensures ready { IfOk result AreCommandInputsReady }
     ensures asked { IfOk result (λ inputs.
-        IsCommandReplayOf (replay_arguments_named args.now) (task_inputs_stated inputs)) }
+        AreCommandInputsOfReplay (replay_arguments_named args.now) (task_inputs_stated inputs)) }
 {
-    let net = take_network(alloc, shelf, args.net)?;
+    let net = take_input_network(alloc, shelf, args.net)?;
     let names: &[&str] = &args.policies;
     let count = names.len() as u32;
     let events = read_schedule(alloc, shelf, args.schedule, &net, count)?;
     let files = read_files(alloc, shelf, names, net.port_mask())?;
-    let world = begin_world(alloc, names, files, &net)?;
+    let world = begin_world_of_inputs(alloc, names, files, &net)?;
     Ok(PlayInputs {
         events,
         net,

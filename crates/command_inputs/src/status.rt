@@ -3,7 +3,7 @@ ghost use Rattle.std.specs.Prelude.{◌≡◌, IfOk};
 ghost use Rattle.shelf.specs.SinkWrites.{IsAfterWrite};
 ghost use Rattle.command_inputs.specs.declared.status.Status.TheVariants.{Ok as DoneStatus};
 ghost use Rattle.command_inputs.specs.declared.status.Stop.TheVariants.{NoMemory};
-ghost use Rattle.command_inputs.specs.Exports.{OutputWritesLine, command_input_line, command_numbered_line, command_status_after, command_status_line, status_number, command_status_of};
+ghost use Rattle.command_inputs.specs.Exports.{OutputWritesLine, command_input_line, command_numbered_line, command_status_line, command_unwritten_status, command_written_status, status_number, command_status_of};
 
 use itoa::Buffer;
 use shelf::{Sink, SinkError, write_pieces, write_whole};
@@ -119,19 +119,26 @@ impl From<Stop> for Status {
     }
 }
 
+impl From<SinkError> for Status {
+    ghost from_gives = { λ error status. status ≡ command_unwritten_status error };
+
+    fn from(error: SinkError) -> Self {
+        match error {
+            SinkError::Failed => Status::WriteFault,
+            SinkError::NoMemory => Status::NoMemory,
+        }
+    }
+}
+
 impl Status {
-    /// The status of a command after its work: by whether that was written, and whether its play
-    /// ran to its end or stopped full at a row.
-    pub fn after(written: Result<(), SinkError>, full: Option<u32>) -> Status
-        ensures { result ≡ command_status_after written full }
+    /// The status of a command whose output is written: its play ran to its end, or it stopped
+    /// full at this row.
+    pub fn after(full: Option<u32>) -> Status
+        ensures { result ≡ command_written_status full }
     {
-        match written {
-            Ok(()) => match full {
-                None => Status::Ok,
-                Some(row) => Status::Full { row },
-            },
-            Err(SinkError::Failed) => Status::WriteFault,
-            Err(SinkError::NoMemory) => Status::NoMemory,
+        match full {
+            None => Status::Ok,
+            Some(row) => Status::Full { row },
         }
     }
 
@@ -161,10 +168,10 @@ pub fn write_status<E: Sink>(status: &Status, errs: &mut E)
         (E.state errs.old) (E.state errs.new) }
     ensures silent { status.now ≡ DoneStatus → errs.new ≡ errs.old }
 {
-    let _ = write_status_line(status, errs);
+    let _ = write_command_status_line(status, errs);
 }
 
-fn write_status_line<E: Sink>(status: &Status, errs: &mut E) -> Result<(), SinkError>
+fn write_command_status_line<E: Sink>(status: &Status, errs: &mut E) -> Result<(), SinkError>
     ensures after { IsAfterWrite (command_status_line status.now) E.takes_memory
         (E.state errs.old) (E.state errs.new) result }
     ensures silent { status.now ≡ DoneStatus → errs.new ≡ errs.old }

@@ -1,12 +1,12 @@
 //! The task of a command: its files are read and checked, or its load case is made.
 ghost use Rattle.std.specs.Prelude.{◌≡◌, Some, IfOk};
-ghost use Rattle.command_inputs.specs.Exports.{CommandEndsRead, CommandReadsFor, CommandReadsNothing, IsReadyTask, IsTaskOfCommand, known_command_task, task_stated};
+ghost use Rattle.command_inputs.specs.Exports.{CommandInputReadEnds, CommandReadsFor, CommandReadsNothing, IsTaskInputReady, IsCommandInputTask, known_command_input_task, command_input_task_stated};
 ghost use Rattle.command_line.specs.Named.{ArgumentsNamePolicies, command_named};
 
-use crate::auditing::{AuditInputs, read_auditing};
+use crate::auditing::{AuditInputs, read_audit_inputs};
 use crate::inputs::{PlayInputs, read_inputs};
 use crate::load::draw_inputs;
-use crate::printing::{PrintInputs, read_printing};
+use crate::printing::{PrintInputs, read_printing_inputs};
 use crate::status::Stop;
 use command_line::Command;
 use shelf::Shelf;
@@ -21,22 +21,22 @@ pub enum Task {
 }
 
 /// Reads the task of a command: reads and checks one file after another, or makes its load case.
-pub fn read_task<F: Shelf>(
+pub fn read_command_task<F: Shelf>(
     alloc: Global,
     shelf: &mut F,
     command: &Command<'_>,
 ) -> Result<Task, Stop>
     requires { ArgumentsNamePolicies command.now }
-    ensures read { CommandEndsRead
-        (known_command_task (F.state shelf.old).files (Some (command_named command.now))) (λ read. read)
-        task_stated (F.state shelf.old) (F.state shelf.new) result }
+    ensures read { CommandInputReadEnds
+        (known_command_input_task (F.state shelf.old).files (Some (command_named command.now))) (λ read. read)
+        command_input_task_stated (F.state shelf.old) (F.state shelf.new) result }
     ensures shelf { CommandReadsFor (command_named command.now)
         (F.state shelf.old) (F.state shelf.new) result }
     ensures unread { CommandReadsNothing (Some (command_named command.now))
         → F.state shelf.new ≡ F.state shelf.old }
-    ensures ready { IfOk result IsReadyTask }
+    ensures ready { IfOk result IsTaskInputReady }
     ensures asked { IfOk result (λ task.
-        IsTaskOfCommand (command_named command.now) (task_stated task)) }
+        IsCommandInputTask (command_named command.now) (command_input_task_stated task)) }
 {
     match command {
         Command::Replay(args) => {
@@ -44,7 +44,7 @@ pub fn read_task<F: Shelf>(
             Ok(Task::Play(inputs))
         }
         Command::Print(args) => {
-            let inputs = read_printing(alloc, shelf, args)?;
+            let inputs = read_printing_inputs(alloc, shelf, args)?;
             Ok(Task::Print(inputs))
         }
         Command::Load(n) => {
@@ -52,7 +52,7 @@ pub fn read_task<F: Shelf>(
             Ok(Task::Play(inputs))
         }
         Command::Audit(args) => {
-            let inputs = read_auditing(alloc, shelf, args)?;
+            let inputs = read_audit_inputs(alloc, shelf, args)?;
             Ok(Task::Audit(inputs))
         }
     }

@@ -2,7 +2,7 @@
 use Rattle.std.proofs.Common.{[], ◌&&◌, ◌++◌, ◌+◌, ◌∙◌, ◌∷◌, ◌≡◌, Bool, List, None, Option, Some, ap, append-nil, append_assoc, ap₂, arith, bytes_eq, codes, cond, drop, eqb, eqb-true, false, is_some, length, refl, subst, suc, sym, take, true, true≢false, unwrap_or, ℕ}
 use Rattle.base.proofs.Exports.{bytes_eq-Decides, list_all, option_map_or, pointwise, prefix_len, starts_with}
 use Rattle.clap.proofs.WalkLemmas.{both}
-use Rattle.command_line.specs.Exports.{Cut, cut_net_option_argument, cut_argument_options, cut_option_pair, cut_quiet_argument, is_name_argument, joined_net_argument, net_option_then_quiet, quiet_flag_then_net}
+use Rattle.command_line.specs.Exports.{Cut, cut_net_option_argument, cut_argument_options, cut_option_pair, cut_quiet_argument, is_name_argument, joined_net_argument, net_argument_then_quiet, quiet_argument_then_net}
 
 -- an option, as it is written
 pub data Given : Type 0 where
@@ -127,7 +127,7 @@ form_good : (form : Bool) (net : List ℕ) (more : Bool) → is_good (net_given 
 form_good form net more e m = rw (e, m) refl
 
 pub quiet_and_net_is : (args : List (List ℕ))
-    → IsCut (codes "--quiet" ∷ args) (quiet_flag_then_net args)
+    → IsCut (codes "--quiet" ∷ args) (quiet_argument_then_net args)
 quiet_and_net_is args = go (cut_net_option_argument args) refl where
   go : (o : Option (List ℕ × List (List ℕ))) → cut_net_option_argument args ≡ o
       → IsCut (codes "--quiet" ∷ args) (elim o [
@@ -145,7 +145,7 @@ quiet_and_net_is args = go (cut_net_option_argument args) refl where
 
 pub net_and_quiet_is : (form : Bool) (net : List ℕ) (args : List (List ℕ))
     → is_good (net_given form net) ≡ true
-    → IsCut (spell (net_given form net) ++ args) (net_option_then_quiet net args)
+    → IsCut (spell (net_given form net) ++ args) (net_argument_then_quiet net args)
 net_and_quiet_is form net args good = go (cut_quiet_argument args) refl where
   spelling : List (List ℕ)
   spelling = spell (net_given form net)
@@ -173,18 +173,18 @@ pub cut_is : (args : List (List ℕ)) → IsCut args (cut_argument_options args)
 cut_is args = go (cut_quiet_argument args) refl where
   after_net : (o : Option (List ℕ × List (List ℕ))) → cut_net_option_argument args ≡ o → IsCut args (elim o [
     | None ↦ record { net = None; quiet = false; args = args }
-    | Some found ↦ net_option_then_quiet found.0 found.1
+    | Some found ↦ net_argument_then_quiet found.0 found.1
   ])
   after_net None e = record { first = true; form = true; args = refl; good = refl }
   after_net (Some found) e = let net = net_cut args found.0 found.1 e in
-      subst (λ ws. IsCut ws (net_option_then_quiet found.0 found.1)) (sym net.args)
+      subst (λ ws. IsCut ws (net_argument_then_quiet found.0 found.1)) (sym net.args)
       (net_and_quiet_is net.form found.0 found.1 net.good)
 
   go : (o : Option (List (List ℕ))) → cut_quiet_argument args ≡ o → IsCut args (elim o [
-    | Some rest ↦ quiet_flag_then_net rest
+    | Some rest ↦ quiet_argument_then_net rest
     | None ↦ elim (cut_net_option_argument args) [
       | None ↦ record { net = None; quiet = false; args = args }
-      | Some found ↦ net_option_then_quiet found.0 found.1
+      | Some found ↦ net_argument_then_quiet found.0 found.1
     ]
   ])
   go None e = after_net (cut_net_option_argument args) refl

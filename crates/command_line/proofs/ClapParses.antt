@@ -12,22 +12,22 @@ use Rattle.clap.specs.Walk.{Row, Walk, all_of, finished, first_of, nothing_held,
 use Rattle.clap.proofs.OnLiterals.{clap_on_literals}
 use Rattle.clap.proofs.TakesLemmas.{leaf_takes}
 use Rattle.clap.proofs.WalkLemmas.{both, first_value-rows, one_text-rows, raw_values-rows}
-use Rattle.command_line.specs.Exports.{Cut, IsFlagRead, IsNetArgumentRead, CommandOptions, StatedArgumentLine, app_with, cut_argument_options, options_end_together, is_name_argument, line_of, net_and, none}
+use Rattle.command_line.specs.Exports.{Cut, IsFlagRead, IsNetArgumentRead, CommandLineOptions, StatedArgumentLine, argument_app_with, cut_argument_options, options_end_together, is_name_argument, line_of, net_and, none}
 use Rattle.command_line.proofs.ArgumentShapes.{IsCut, cut_is, given_in, names_good, spelled}
 use Rattle.command_line.proofs.ClapWalks.{At, Goes, IsFew, MayStand, apart, goes_far, may_give, name_first, named, names_rule, names_walk, net_rule, options_walk, quiet_rule, rows_at, rules, settles, shape, shape_is, takes_flag, takes_net, use_all, valued, walk_at}
 
 -- what is found in the matches
-pub record Found (o : CommandOptions) (rows : List Row) (line : StatedArgumentLine) : Type 0 where
+pub record Found (o : CommandLineOptions) (rows : List Row) (line : StatedArgumentLine) : Type 0 where
   pub names : all_of (codes "names") rows ≡ Some line.names
   pub net : IsNetArgumentRead o (first_of (codes "net") rows) line.net
   pub quiet : IsFlagRead o (one_of (codes "quiet") rows) line.quiet
 
 -- what was given is what the options have
-pub record IsWithin (o : CommandOptions) (net : Option (List ℕ)) (quiet : Bool) : Type 0 where
+pub record IsWithin (o : CommandLineOptions) (net : Option (List ℕ)) (quiet : Bool) : Type 0 where
   pub has_net : is_some net ≡ true → takes_net o ≡ true
   pub has_flag : quiet ≡ true → takes_flag o ≡ true
 
-within : (o : CommandOptions) (first form : Bool) (net : Option (List ℕ)) (quiet : Bool)
+within : (o : CommandLineOptions) (first form : Bool) (net : Option (List ℕ)) (quiet : Bool)
     → IsWithin o net quiet → list_all (may_give o) (given_in first form net quiet) ≡ true
 within o first form None false w = refl
 within o first form None true w = rw (w.has_flag refl) refl
@@ -38,7 +38,7 @@ within o true false (Some v) true w = rw (w.has_net refl, w.has_flag refl) refl
 within o false true (Some v) true w = rw (w.has_net refl, w.has_flag refl) refl
 within o false false (Some v) true w = rw (w.has_net refl, w.has_flag refl) refl
 
-within_front : (o : CommandOptions) (net more : Option (List ℕ)) (quiet again : Bool)
+within_front : (o : CommandLineOptions) (net more : Option (List ℕ)) (quiet again : Bool)
     → IsWithin o (option_or net more) (quiet || again) → IsWithin o net quiet
 within_front o None more false again w = let not : false ≡ true → ⊥ = λ e. true≢false (sym e) in
     record { has_net = λ e. absurd (not e); has_flag = λ e. absurd (not e) }
@@ -49,7 +49,7 @@ within_front o (Some v) more false again w =
 within_front o (Some v) more true again w =
     record { has_net = λ e. w.has_net refl; has_flag = λ e. w.has_flag refl }
 
-within_back : (o : CommandOptions) (net more : Option (List ℕ)) (quiet again : Bool)
+within_back : (o : CommandLineOptions) (net more : Option (List ℕ)) (quiet again : Bool)
     → IsWithin o (option_or net more) (quiet || again) → IsWithin o more again
 within_back o None more false again w = record { has_net = w.has_net; has_flag = w.has_flag }
 within_back o None more true again w =
@@ -82,7 +82,7 @@ uses_are false true (Some net) true rows = refl
 uses_are false false (Some net) true rows = refl
 
 -- the rows at the end of the arguments
-pub rows_of_line : CommandOptions → List Row → List Row
+pub rows_of_line : CommandLineOptions → List Row → List Row
 rows_of_line o rows = fold with_default rows (rules o)
 
 -- what is found, by the options of the command: both, the network's alone, or none
@@ -121,7 +121,7 @@ module _ (n : List ℕ) (ns : List (List ℕ)) where
   found_net f s (Some v) None a = record { names = refl; net = refl; quiet = refl }
   found_net f s (Some v) (Some w) a = absurd (true≢false a)
 
-  found : (o : CommandOptions) (first second : Bool) (net : Option (List ℕ))
+  found : (o : CommandLineOptions) (first second : Bool) (net : Option (List ℕ))
       (quiet : Bool) (more : Option (List ℕ)) (again : Bool) → (is_some net && is_some more) ≡ false
       → (quiet && again) ≡ false → IsWithin o net quiet → IsWithin o more again → Found o
       (rows_of_line o (uses second more again (used names_rule (n ∷ ns) (uses first net quiet []))))
@@ -210,7 +210,7 @@ parts_of args line e = go (options_end_together front back) refl e where
       })
 
 -- the walk over them, to its end
-pub record WalksTo (name : List ℕ) (o : CommandOptions) (args : List (List ℕ))
+pub record WalksTo (name : List ℕ) (o : CommandLineOptions) (args : List (List ℕ))
     (line : StatedArgumentLine) : Type 0 where
   pub at : At
   pub left : List Row
@@ -218,7 +218,7 @@ pub record WalksTo (name : List ℕ) (o : CommandOptions) (args : List (List ℕ
   pub stands : MayStand o at
   pub found : Found o (rows_of_line o (rows_at at left)) line
 
-module _ (name : List ℕ) (o : CommandOptions) (args : List (List ℕ))
+module _ (name : List ℕ) (o : CommandLineOptions) (args : List (List ℕ))
     (n : List ℕ) (ns : List (List ℕ)) (net : Option (List ℕ)) (quiet : Bool) where
   walks : HasParts args (record { names = n ∷ ns; net = net; quiet = quiet })
       → IsFew (n ∷ ns) → IsWithin o net quiet
@@ -269,13 +269,13 @@ module _ (name : List ℕ) (o : CommandOptions) (args : List (List ℕ))
 -- ---- the parse
 
 module _ (name : List ℕ) where
-  simple : (o : CommandOptions) → is_simple (app_with name o) ≡ true
+  simple : (o : CommandLineOptions) → is_simple (argument_app_with name o) ≡ true
   unfolding clap_on_literals
   simple none = refl
   simple (net_and true) = refl
   simple (net_and false) = refl
 
-  passes : (o : CommandOptions) (args : List (List ℕ)) (line : StatedArgumentLine) → WalksTo name o args line
+  passes : (o : CommandLineOptions) (args : List (List ℕ)) (line : StatedArgumentLine) → WalksTo name o args line
       → level_passes (shape name o) [] nothing_held args false ≡ true
   passes none args line w = rw (w.goes.passes, w.goes.walk, settles none w.at w.left w.stands) refl
   passes (net_and true) args line w =
@@ -283,18 +283,18 @@ module _ (name : List ℕ) where
   passes (net_and false) args line w =
       rw (w.goes.passes, w.goes.walk, settles (net_and false) w.at w.left w.stands) refl
 
-  pub taken : (o : CommandOptions) (all : List (List ℕ)) (line : StatedArgumentLine) → WalksTo name o (drop 1 all) line
-      → takes (app_with name o) all ≡ true
-  taken none all line w = rw (simple none) (leaf_takes (built (app_with name none)) nothing_held
+  pub taken : (o : CommandLineOptions) (all : List (List ℕ)) (line : StatedArgumentLine) → WalksTo name o (drop 1 all) line
+      → takes (argument_app_with name o) all ≡ true
+  taken none all line w = rw (simple none) (leaf_takes (built (argument_app_with name none)) nothing_held
       (drop 1 all) refl (passes none (drop 1 all) line w))
   taken (net_and true) all line w = rw (simple (net_and true))
-      (leaf_takes (built (app_with name (net_and true))) nothing_held (drop 1 all) refl
+      (leaf_takes (built (argument_app_with name (net_and true))) nothing_held (drop 1 all) refl
       (passes (net_and true) (drop 1 all) line w))
   taken (net_and false) all line w = rw (simple (net_and false))
-      (leaf_takes (built (app_with name (net_and false))) nothing_held (drop 1 all) refl
+      (leaf_takes (built (argument_app_with name (net_and false))) nothing_held (drop 1 all) refl
       (passes (net_and false) (drop 1 all) line w))
 
-  settled_at : (o : CommandOptions) (a : At) (rows : List Row) → MayStand o a
+  settled_at : (o : CommandLineOptions) (a : At) (rows : List Row) → MayStand o a
       → finished (rules o) (walk_at a rows).held ≡ rows_of_line o (rows_at a rows)
   unfolding rows_of_line
   settled_at o apart rows may = refl
@@ -303,32 +303,32 @@ module _ (name : List ℕ) where
   settled_at o (named m ms) rows may = refl
 
   -- no option is a subcommand
-  no_names : (o : CommandOptions) → names_of (built (app_with name o)) ≡ []
+  no_names : (o : CommandLineOptions) → names_of (built (argument_app_with name o)) ≡ []
   no_names none = refl
   no_names (net_and true) = refl
   no_names (net_and false) = refl
 
   -- the first argument is the program's name
-  no_program : (o : CommandOptions) (all : List (List ℕ))
-      → argument_words (app_with name o) all ≡ drop 1 all
+  no_program : (o : CommandLineOptions) (all : List (List ℕ))
+      → argument_words (argument_app_with name o) all ≡ drop 1 all
   no_program none all = refl
   no_program (net_and true) all = refl
   no_program (net_and false) all = refl
 
-  pub matched : (o : CommandOptions) (all : List (List ℕ)) (line : StatedArgumentLine)
-      → WalksTo name o (drop 1 all) line → Found o (matches_of (app_with name o) all) line
+  pub matched : (o : CommandLineOptions) (all : List (List ℕ)) (line : StatedArgumentLine)
+      → WalksTo name o (drop 1 all) line → Found o (matches_of (argument_app_with name o) all) line
   matched o all line w = subst (λ rows. Found o rows line) (sym rows_are) w.found where
-    rows_are : matches_of (app_with name o) all ≡ rows_of_line o (rows_at w.at w.left)
+    rows_are : matches_of (argument_app_with name o) all ≡ rows_of_line o (rows_at w.at w.left)
     rows_are =
-        ap (rows_after (built (app_with name o)).top.rules (names_of (built (app_with name o))))
+        ap (rows_after (built (argument_app_with name o)).top.rules (names_of (built (argument_app_with name o))))
         (no_program o all)
-        ∙ ap (λ (s : Shape). rows_after s.rules (names_of (built (app_with name o))) (drop 1 all))
+        ∙ ap (λ (s : Shape). rows_after s.rules (names_of (built (argument_app_with name o))) (drop 1 all))
         (shape_is name o) ∙ ap (λ names. rows_after (rules o) names (drop 1 all)) (no_names o)
         ∙ ap (λ (v : Walk). finished (rules o) v.held) w.goes.walk
         ∙ settled_at o w.at w.left w.stands
 
   -- each line with names is read
-  pub reads : (o : CommandOptions) (args : List (List ℕ)) (line : StatedArgumentLine) → line_of args ≡ Some line
+  pub reads : (o : CommandLineOptions) (args : List (List ℕ)) (line : StatedArgumentLine) → line_of args ≡ Some line
       → 0 < length line.names → IsFew line.names → IsWithin o line.net line.quiet
       → WalksTo name o args line
   reads o args line e some few allowed =
@@ -344,8 +344,8 @@ module _ (name : List ℕ) where
 
 -- ---- what was matched
 
-pub matches_found : (name : List ℕ) (o : CommandOptions) (app : App) (all : List (List ℕ))
-    (m : ArgMatches) (line : StatedArgumentLine) → app ≡ app_with name o → HasMatchesOf app all m
+pub matches_found : (name : List ℕ) (o : CommandLineOptions) (app : App) (all : List (List ℕ))
+    (m : ArgMatches) (line : StatedArgumentLine) → app ≡ argument_app_with name o → HasMatchesOf app all m
     → WalksTo name o (drop 1 all) line → Found o (rows_of (found_of m)) line
 matches_found name o app all m line is has w =
     let rows : rows_of (found_of m) ≡ matches_of app all =
@@ -353,7 +353,7 @@ matches_found name o app all m line is has w =
     subst (λ r. Found o r line) (sym (rows ∙ ap (λ a. matches_of a all) is))
     (matched name o all line w)
 
-one_net : (o : CommandOptions) (found net again : Option (List ℕ)) → IsNetArgumentRead o found net
+one_net : (o : CommandLineOptions) (found net again : Option (List ℕ)) → IsNetArgumentRead o found net
     → IsNetArgumentRead o found again → net ≡ again
 one_net none there net again a b = a ∙ sym b
 one_net (net_and flag) there net again a b = a ∙ sym b
@@ -366,14 +366,14 @@ by_text true false e =
 by_text false true e =
     let bad : 102 ≡ 116 = ap (λ text. slice_index text 0) e in absurd (omega (arith, bad))
 
-one_flag : (o : CommandOptions) (found : Option (List ℕ)) (quiet again : Bool) → IsFlagRead o found quiet
+one_flag : (o : CommandLineOptions) (found : Option (List ℕ)) (quiet again : Bool) → IsFlagRead o found quiet
     → IsFlagRead o found again → quiet ≡ again
 one_flag none there quiet again a b = a ∙ sym b
 one_flag (net_and false) there quiet again a b = a ∙ sym b
 one_flag (net_and true) there quiet again a b =
     by_text quiet again (ap (λ o. unwrap_or o []) (sym a ∙ b))
 
-module _ (o : CommandOptions) (f : matches.Found) (line : StatedArgumentLine) (found : Found o (rows_of f) line) where
+module _ (o : CommandLineOptions) (f : matches.Found) (line : StatedArgumentLine) (found : Found o (rows_of f) line) where
   pub names_there : is_some (matched_of f (codes "names")) ≡ true
   names_there =
       go (matched_of f (codes "names")) (raw_values-rows f (codes "names") ∙ found.names)

@@ -8,7 +8,7 @@ use Rattle.clap.specs.Walk.{Row, Rule, Waiting, Walk, has_row, idle, positional,
 use Rattle.clap.specs.Walk as clap
 use Rattle.clap.specs.declared.builder.value_parser.ValueParser.TheVariants as vp
 use Rattle.clap.proofs.WalkLemmas.{both}
-use Rattle.command_line.specs.Exports.{CommandOptions, app_with, is_name_argument, names_arg, net_and, net_arg, none, quiet_argument}
+use Rattle.command_line.specs.Exports.{CommandLineOptions, argument_app_with, is_name_argument, names_arg, net_and, net_arg, none, quiet_argument}
 use Rattle.command_line.proofs.ArgumentShapes.{Given, is_good, joined, pair, quiet, spell, spelled}
 
 -- the arguments as they are built
@@ -39,14 +39,14 @@ abbrev pub flag_rules : Bool → List Rule
 flag_rules true = quiet_rule ∷ help_built ∷ []
 flag_rules false = help_built ∷ []
 
-abbrev pub option_rules : CommandOptions → List Rule
+abbrev pub option_rules : CommandLineOptions → List Rule
 option_rules none = help_built ∷ []
 option_rules (net_and flag) = net_rule ∷ flag_rules flag
 
-abbrev pub rules : CommandOptions → List Rule
+abbrev pub rules : CommandLineOptions → List Rule
 rules options = names_rule ∷ option_rules options
 
-abbrev pub shape : List ℕ → CommandOptions → Shape
+abbrev pub shape : List ℕ → CommandLineOptions → Shape
 shape name options = record (new_shape name) {
   rules = rules options;
   args_override_self = true;
@@ -54,16 +54,16 @@ shape name options = record (new_shape name) {
   disable_help_subcommand = true;
 }
 
-pub shape_is : (name : List ℕ) (o : CommandOptions) → (built (app_with name o)).top ≡ shape name o
+pub shape_is : (name : List ℕ) (o : CommandLineOptions) → (built (argument_app_with name o)).top ≡ shape name o
 shape_is name none = refl
 shape_is name (net_and true) = refl
 shape_is name (net_and false) = refl
 
-abbrev pub takes_net : CommandOptions → Bool
+abbrev pub takes_net : CommandLineOptions → Bool
 takes_net none = false
 takes_net (net_and flag) = true
 
-abbrev pub takes_flag : CommandOptions → Bool
+abbrev pub takes_flag : CommandLineOptions → Bool
 takes_flag none = false
 takes_flag (net_and flag) = flag
 
@@ -113,12 +113,12 @@ abbrev pub IsFew : List (List ℕ) → Type 0
 IsFew names = length names < 2 ^ 16
 
 -- where a walk may stand by these options, and which of them may stand in the arguments
-abbrev pub MayStand : CommandOptions → At → Type 0
+abbrev pub MayStand : CommandLineOptions → At → Type 0
 MayStand o apart = ⊤
 MayStand o (valued net) = takes_net o ≡ true
 MayStand o (named n ns) = IsFew (n ∷ ns)
 
-abbrev pub may_give : CommandOptions → Given → Bool
+abbrev pub may_give : CommandLineOptions → Given → Bool
 may_give o (joined net) = takes_net o
 may_give o (pair net) = takes_net o
 may_give o quiet = takes_flag o
@@ -161,7 +161,7 @@ again_passes id rows = go (not (has_row id rows)) where
   go true = refl
   go false = refl
 
-pub settles : (o : CommandOptions) (a : At) (rows : List Row) → MayStand o a
+pub settles : (o : CommandLineOptions) (a : At) (rows : List Row) → MayStand o a
     → settle_passes (rules o) true (walk_at a rows).held ≡ true
 settles o apart rows may = refl
 settles none (valued net) rows may = absurd (true≢false (sym may))
@@ -216,7 +216,7 @@ rows_given (joined net) rows = refl
 rows_given (pair net) rows = refl
 rows_given quiet rows = refl
 
-stands_after : (o : CommandOptions) (g : Given) → may_give o g ≡ true → MayStand o (after g)
+stands_after : (o : CommandLineOptions) (g : Given) → may_give o g ≡ true → MayStand o (after g)
 stands_after o (joined net) may = tt
 stands_after o (pair net) may = may
 stands_after o quiet may = tt
@@ -229,13 +229,13 @@ apart_after quiet = tt
 -- ---- the walk of a command of this name with these options
 
 -- the walk takes these arguments, and is there then
-pub record Goes (name : List ℕ) (o : CommandOptions) (from : Walk) (args : List (List ℕ))
+pub record Goes (name : List ℕ) (o : CommandLineOptions) (from : Walk) (args : List (List ℕ))
     (to : Walk) : Type 0 where
   pub walk : fold (walked (rules o) []) from args ≡ to
   pub passes : walk_passes (shape name o) [] from args ≡ true
 
 -- options: where the walk is after them
-pub record Passed (name : List ℕ) (o : CommandOptions) (from : At) (gs : List Given)
+pub record Passed (name : List ℕ) (o : CommandLineOptions) (from : At) (gs : List Given)
     (old : List Row) : Type 0 where
   pub at : At
   pub left : List Row
@@ -245,11 +245,11 @@ pub record Passed (name : List ℕ) (o : CommandOptions) (from : At) (gs : List 
   pub apart : IsApart from → IsApart at
 
 module _ (name : List ℕ) where
-  goes_nowhere : (o : CommandOptions) (w : Walk) → Goes name o w [] w
+  goes_nowhere : (o : CommandLineOptions) (w : Walk) → Goes name o w [] w
   unfolding walk_passes
   goes_nowhere o w = record { walk = refl; passes = refl }
 
-  goes_on : (o : CommandOptions) (w v u : Walk) (arg : List ℕ) (args : List (List ℕ))
+  goes_on : (o : CommandLineOptions) (w v u : Walk) (arg : List ℕ) (args : List (List ℕ))
       → walked (rules o) [] w arg ≡ v → turn_passes (shape name o) [] w arg ≡ true
       → Goes name o v args u → Goes name o w (arg ∷ args) u
   unfolding walk_passes
@@ -258,7 +258,7 @@ module _ (name : List ℕ) where
     passes = rw (turn, step) more.passes;
   }
 
-  pub goes_far : (o : CommandOptions) (w v u : Walk) (xs ys : List (List ℕ)) → Goes name o w xs v
+  pub goes_far : (o : CommandLineOptions) (w v u : Walk) (xs ys : List (List ℕ)) → Goes name o w xs v
       → Goes name o v ys u → Goes name o w (xs ++ ys) u
   unfolding walk_passes
   goes_far o w v u [] ys front back = subst (λ x. Goes name o x ys u) (sym front.walk) back
@@ -269,7 +269,7 @@ module _ (name : List ℕ) where
       (record { walk = front.walk; passes = p.1 }) back)
 
   -- a name behind options
-  pub name_first : (o : CommandOptions) (a : At) (rows : List Row) (n : List ℕ) → is_name_argument n ≡ true
+  pub name_first : (o : CommandLineOptions) (a : At) (rows : List Row) (n : List ℕ) → is_name_argument n ≡ true
       → MayStand o a → IsApart a
       → Goes name o (walk_at a rows) (n ∷ []) (walk_at (named n []) (rows_at a rows))
   unfolding walked
@@ -284,7 +284,7 @@ module _ (name : List ℕ) where
   name_first o (named m ms) rows n good may behind = absurd behind
 
   -- more names behind one
-  pub names_walk : (o : CommandOptions) (n : List ℕ) (ns ms : List (List ℕ)) (rows : List Row)
+  pub names_walk : (o : CommandLineOptions) (n : List ℕ) (ns ms : List (List ℕ)) (rows : List Row)
       → list_all is_name_argument ms ≡ true
       → Goes name o (walk_at (named n ns) rows) ms (walk_at (named n (ns ++ ms)) rows)
   unfolding walked
@@ -323,7 +323,7 @@ module _ (name : List ℕ) where
   may_flag (valued v) rows few = rw (again_passes (codes "net") rows, again_passes) refl
   may_flag (named n ns) rows few = rw (names_pass n ns rows few, again_passes) refl
 
-  given_walks : (o : CommandOptions) (g : Given) (a : At) (rows : List Row) → is_good g ≡ true
+  given_walks : (o : CommandLineOptions) (g : Given) (a : At) (rows : List Row) → is_good g ≡ true
       → may_give o g ≡ true → MayStand o a
       → Goes name o (walk_at a rows) (spell g) (walk_at (after g) (rows_then g (rows_at a rows)))
   given_walks none (joined net) a rows good may few = absurd (true≢false (sym may))
@@ -337,7 +337,7 @@ module _ (name : List ℕ) where
       (flags a rows) (may_flag a rows few) (goes_nowhere (net_and true) _)
   given_walks (net_and false) quiet a rows good may few = absurd (true≢false (sym may))
 
-  pub options_walk : (o : CommandOptions) (gs : List Given) (a : At) (rows : List Row)
+  pub options_walk : (o : CommandLineOptions) (gs : List Given) (a : At) (rows : List Row)
       → list_all is_good gs ≡ true → list_all (may_give o) gs ≡ true → MayStand o a
       → Passed name o a gs rows
   options_walk o [] a rows good may stands = record {

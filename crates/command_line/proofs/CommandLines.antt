@@ -7,7 +7,7 @@ use Rattle.clap.specs.Takes.{takes}
 use Rattle.clap.specs.Walk.{rows_of}
 use Rattle.clap.specs.declared.parser.matches.ArgMatches.{ArgMatches}
 use Rattle.clap.proofs.WalkLemmas.{both}
-use Rattle.command_line.specs.Exports.{Command, StatedArgumentLine, audit_from, audit_by_grammar, command_by, command_of_kind, command_kind_name, command_app, line_of, load_from_argument, load_number_argument, load_of_arguments, net_and, none, command_options_of, play_from_arguments, grammar_print_of}
+use Rattle.command_line.specs.Exports.{Command, StatedArgumentLine, audit_from, audit_by_grammar, command_by, command_of_kind, command_kind_name, argument_app_of_command, line_of, load_from_argument, load_number_argument, load_of_arguments, net_and, none, command_options_of, play_from_arguments, grammar_print_of}
 use Rattle.command_line.proofs.ClapParses.{Found, IsWithin, WalksTo, matches_found, reads, taken}
 use Rattle.command_line.specs.declared.grammar.CommandKind.{CommandKind}
 use Rattle.command_line.specs.declared.grammar.CommandKind.TheVariants as kind
@@ -120,7 +120,7 @@ line_walked k args e = go (line_of args) refl e where
   }
 
 -- that command takes the arguments, and what it matches is the line
-module _ (k : CommandKind) (app : App) (all : List (List ℕ)) (is : app ≡ command_app k)
+module _ (k : CommandKind) (app : App) (all : List (List ℕ)) (is : app ≡ argument_app_of_command k)
     (w : Walked k (drop 1 all)) where
   pub takes_line : takes app all ≡ true
   takes_line = ap (λ a. takes a all) is ∙ taken (command_kind_name k) (command_options_of k) all w.line w.walks

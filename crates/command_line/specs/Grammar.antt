@@ -43,25 +43,25 @@ pub record Cut : Type 0 where
   pub args : List (List ℕ)
 
 -- a network's option may follow the flag
-abbrev pub quiet_flag_then_net : List (List ℕ) → Cut
-quiet_flag_then_net args = elim (cut_net_option_argument args) [
+abbrev pub quiet_argument_then_net : List (List ℕ) → Cut
+quiet_argument_then_net args = elim (cut_net_option_argument args) [
   | None ↦ record { net = None; quiet = true; args = args }
   | Some found ↦ record { net = Some found.0; quiet = true; args = found.1 }
 ]
 
 -- a flag may follow the network's option
-abbrev pub net_option_then_quiet : List ℕ → List (List ℕ) → Cut
-net_option_then_quiet net args = elim (cut_quiet_argument args) [
+abbrev pub net_argument_then_quiet : List ℕ → List (List ℕ) → Cut
+net_argument_then_quiet net args = elim (cut_quiet_argument args) [
   | None ↦ record { net = Some net; quiet = false; args = args }
   | Some rest ↦ record { net = Some net; quiet = true; args = rest }
 ]
 
 abbrev pub cut_argument_options : List (List ℕ) → Cut
 cut_argument_options args = elim (cut_quiet_argument args) [
-  | Some rest ↦ quiet_flag_then_net rest
+  | Some rest ↦ quiet_argument_then_net rest
   | None ↦ elim (cut_net_option_argument args) [
     | None ↦ record { net = None; quiet = false; args = args }
-    | Some found ↦ net_option_then_quiet found.0 found.1
+    | Some found ↦ net_argument_then_quiet found.0 found.1
   ]
 ]
 

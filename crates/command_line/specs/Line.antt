@@ -23,11 +23,11 @@ abbrev pub quiet_argument : Rule
 quiet_argument = record (new_rule (codes "quiet")) { long = Some (codes "quiet"); action = Some SetTrue }
 
 -- the options that a command takes: none, or a network's, and perhaps the flag
-pub data CommandOptions : Type 0 where
-  none : CommandOptions
-  net_and : Bool → CommandOptions
+pub data CommandLineOptions : Type 0 where
+  none : CommandLineOptions
+  net_and : Bool → CommandLineOptions
 
-abbrev pub command_options_of : CommandKind → CommandOptions
+abbrev pub command_options_of : CommandKind → CommandLineOptions
 command_options_of kind.Replay = net_and true
 command_options_of kind.Flows = net_and false
 command_options_of kind.Rebalance = net_and false
@@ -40,28 +40,28 @@ abbrev pub flag_args : Bool → List Rule
 flag_args true = quiet_argument ∷ []
 flag_args false = []
 
-abbrev pub option_args : CommandOptions → List Rule
+abbrev pub option_args : CommandLineOptions → List Rule
 option_args none = []
 option_args (net_and flag) = net_arg ∷ flag_args flag
 
 -- only names and these options; the last of two options of one name counts, but none occurs twice
-abbrev pub app_with : List ℕ → CommandOptions → App
-app_with name options = on_top (λ s. record s { args_override_self = true })
+abbrev pub argument_app_with : List ℕ → CommandLineOptions → App
+argument_app_with name options = on_top (λ s. record s { args_override_self = true })
     (fold with_rule (new_app name) (names_arg ∷ option_args options))
 
 -- each command has its own app
-abbrev pub command_app : CommandKind → App
-command_app k = app_with (command_kind_name k) (command_options_of k)
+abbrev pub argument_app_of_command : CommandKind → App
+argument_app_of_command k = argument_app_with (command_kind_name k) (command_options_of k)
 
 -- ---- what is read of the matches
 
 -- a network, if the command takes one
-abbrev pub IsNetArgumentRead : CommandOptions → Option Text → Option Text → Type 0
+abbrev pub IsNetArgumentRead : CommandLineOptions → Option Text → Option Text → Type 0
 IsNetArgumentRead none found net = net ≡ None
 IsNetArgumentRead (net_and flag) found net = net ≡ found
 
 -- the flag, if the command takes it
-abbrev pub IsFlagRead : CommandOptions → Option Text → Bool → Type 0
+abbrev pub IsFlagRead : CommandLineOptions → Option Text → Bool → Type 0
 IsFlagRead none found quiet = quiet ≡ false
 IsFlagRead (net_and false) found quiet = quiet ≡ false
 IsFlagRead (net_and true) found quiet = found ≡ Some (bool_text quiet)

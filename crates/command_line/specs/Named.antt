@@ -1,10 +1,10 @@
--- The values of the grammar that contracts see for the arguments that were read.
+-- What `clap` read, as commands of the grammar.
 use Rattle.std.specs.Prelude.{◌≤◌, List, Option, String, codes, length, map, option_and_then, option_map, string_bytes, ℕ, ⊤}
 use Rattle.base.specs.Exports.{Bor, Global}
 use Rattle.command_line.specs.Grammar as grammar
 use Rattle.command_line.specs.Commands as grammar_commands
 use Rattle.command_line.specs.Grammar.{command_by, line_of, greatest_load_argument, most_policy_arguments}
-use Rattle.command_line.specs.Others.{AuditCommand, PrintCommand}
+use Rattle.command_line.specs.Others.{AuditArguments, PrintArguments}
 use Rattle.command_line.specs.declared.command.AuditArgs.{AuditArgs}
 use Rattle.command_line.specs.declared.command.Command.{Command}
 use Rattle.command_line.specs.declared.command.Command.TheVariants as given
@@ -16,14 +16,14 @@ use Rattle.command_line.specs.declared.grammar.CommandKind.TheVariants as kind
 use Rattle.command_line.specs.declared.grammar.ArgumentParts.{ArgumentParts}
 use Rattle.command_line.specs.declared.read.ArgumentLine.{ArgumentLine}
 
--- a name that an argument may have given, and names
+-- a name that an argument may give, as bytes; and several
 abbrev pub argument_name_seen : Option (Bor (List ℕ)) → Option (List ℕ)
 argument_name_seen name = option_map (λ n. n.now) name
 
 abbrev pub argument_names_seen : List (Bor (List ℕ)) → List (List ℕ)
 argument_names_seen names = map (λ n. n.now) names
 
-abbrev pub replay_arguments_named : ReplayArgs → grammar_commands.ReplayCommand
+abbrev pub replay_arguments_named : ReplayArgs → grammar_commands.ReplayArguments
 replay_arguments_named args = record {
   schedule = args.schedule.now;
   policies = argument_names_seen args.policies.items;
@@ -31,11 +31,11 @@ replay_arguments_named args = record {
   report = args.report;
 }
 
-abbrev pub print_arguments_named : PrintArgs → PrintCommand
+abbrev pub print_arguments_named : PrintArgs → PrintArguments
 print_arguments_named args =
     record { policy = args.policy.now; switch = argument_name_seen args.switch; net = argument_name_seen args.net }
 
-abbrev pub audit_arguments_named : AuditArgs → AuditCommand
+abbrev pub audit_arguments_named : AuditArgs → AuditArguments
 audit_arguments_named args = record { trace = args.trace.now; policies = argument_names_seen args.policies.items }
 
 -- the command that names these files
@@ -98,5 +98,5 @@ abbrev pub command_of_kind : CommandKind → List (List ℕ) → Option grammar_
 command_of_kind kind args = option_and_then (command_by (command_kind_name kind)) (line_of args)
 
 -- the network of an option, and the arguments after it
-abbrev pub option_pair_seen : Bor (List ℕ) × Bor (List (String Global)) → List ℕ × List (List ℕ)
-option_pair_seen (net, args) = (net.now, map string_bytes args.now)
+abbrev pub argument_option_pair_seen : Bor (List ℕ) × Bor (List (String Global)) → List ℕ × List (List ℕ)
+argument_option_pair_seen (net, args) = (net.now, map string_bytes args.now)

@@ -2,12 +2,12 @@
 use Rattle.std.specs.Prelude.{List, Option, ℕ}
 
 -- `compile POLICY`, or `show POLICY SWITCH`, and perhaps with a network's file
-pub record PrintCommand : Type 0 where
+pub record PrintArguments : Type 0 where
   pub policy : List ℕ
   pub switch : Option (List ℕ)
   pub net : Option (List ℕ)
 
 -- `audit TRACE POLICY ..`
-pub record AuditCommand : Type 0 where
+pub record AuditArguments : Type 0 where
   pub trace : List ℕ
   pub policies : List (List ℕ)

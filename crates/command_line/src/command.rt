@@ -4,8 +4,8 @@ ghost use Rattle.command_line.specs.Commands as grammar;
 ghost use Rattle.command_line.specs.Grammar.{audit_from, command_by, command_of, load_from_argument, play_from_arguments};
 ghost use Rattle.five_tuple.specs.Texts.{number_up_to};
 
-use crate::grammar::{CommandKind, kind_of};
-use crate::read::{ArgumentLine, read_line};
+use crate::grammar::{CommandKind, grammar_command_kind};
+use crate::read::{ArgumentLine, read_argument_line};
 use crate::report::Report;
 use five_tuple::read_number;
 use std::alloc::{AllocError, Global};
@@ -70,10 +70,10 @@ pub fn read_command(alloc: Global, args: &[String]) -> Result<Option<Command<'_>
     ensures needless { IfErr result (λ _.
         is_some (command_of (map string_bytes args.now)) ≡ true) }
 {
-    let Some(kind) = kind_of(args) else {
+    let Some(kind) = grammar_command_kind(args) else {
         return Ok(None);
     };
-    let line = read_line(alloc, kind, args)?;
+    let line = read_argument_line(alloc, kind, args)?;
     Ok(Some(command_from(kind, line)))
 }
 
@@ -97,7 +97,7 @@ fn command_from<'a>(kind: CommandKind, line: ArgumentLine<'a>) -> Command<'a>
             net: line.net,
         }),
         CommandKind::Load => Command::Load(load_from_argument(line.names[0])),
-        CommandKind::Audit => Command::Audit(audit_from(line.names)),
+        CommandKind::Audit => Command::Audit(audit_from_arguments(line.names)),
     }
 }
 
@@ -118,7 +118,7 @@ fn replay_command_from<'a>(report: Report, line: ArgumentLine<'a>) -> ReplayArgs
     }
 }
 
-fn audit_from<'a>(names: Vec<&'a str>) -> AuditArgs<'a>
+fn audit_from_arguments<'a>(names: Vec<&'a str>) -> AuditArgs<'a>
     requires { is_some (audit_from (argument_names_seen names.items)) ≡ true }
     ensures args { Some (grammar.Audit (audit_arguments_named result))
         ≡ audit_from (argument_names_seen names.entry.items) }

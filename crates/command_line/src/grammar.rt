@@ -1,8 +1,8 @@
 //! The test of the grammar, which allocates nothing.
 ghost use Rattle.std.specs.Prelude.{◌≡◌, ◌≤◌, ◌⊎◌, true, IfSome, IfNone, None, drop, is_some, length, map, option_map, string_bytes};
 ghost use Rattle.std.specs.List.{prefix_len};
-ghost use Rattle.command_line.specs.Named.{command_of_kind, option_cut_seen, command_kind_name, argument_name_seen, option_pair_seen, argument_parts_seen};
-ghost use Rattle.command_line.specs.Grammar.{StatedArgumentLine as Stated, audit_by_grammar, command_by, command_of, cut_net_option_argument, cut_argument_options, cut_option_pair, cut_quiet_argument, options_end_together, is_name_argument, joined_net_argument, argument_line_from, line_of, load_of_arguments, net_option_then_quiet, grammar_print_of, play_from_arguments, quiet_flag_then_net};
+ghost use Rattle.command_line.specs.Named.{command_of_kind, option_cut_seen, command_kind_name, argument_name_seen, argument_option_pair_seen, argument_parts_seen};
+ghost use Rattle.command_line.specs.Grammar.{StatedArgumentLine as Stated, audit_by_grammar, command_by, command_of, cut_net_option_argument, cut_argument_options, cut_option_pair, cut_quiet_argument, options_end_together, is_name_argument, joined_net_argument, argument_line_from, line_of, load_of_arguments, net_argument_then_quiet, grammar_print_of, play_from_arguments, quiet_argument_then_net};
 ghost use Rattle.command_line.specs.declared.report.Report.{Report};
 
 use crate::command::{MAX_LOAD, MAX_POLICIES};
@@ -37,7 +37,7 @@ struct ArgumentParts<'a> {
 }
 
 /// The kind of the command of the arguments; `None` exactly if the grammar doesn't have them.
-pub(crate) fn kind_of(args: &[String]) -> Option<CommandKind>
+pub(crate) fn grammar_command_kind(args: &[String]) -> Option<CommandKind>
     ensures some { IfSome result (λ kind.
         (command_of_kind kind (drop 1 (map string_bytes args.now))
         ≡ command_of (map string_bytes args.now))
@@ -47,7 +47,7 @@ pub(crate) fn kind_of(args: &[String]) -> Option<CommandKind>
     let [name, rest @ ..] = args else {
         return None;
     };
-    let parts = parts_of(rest)?;
+    let parts = argument_parts_of(rest)?;
     let kind = CommandKind::named(name.as_str())?;
     if kind.takes(&parts) { Some(kind) } else { None }
 }
@@ -79,8 +79,8 @@ impl CommandKind {
             CommandKind::Flows | CommandKind::Rebalance => !parts.quiet && takes_replay(parts),
             CommandKind::Compile => takes_print(1, parts),
             CommandKind::Show => takes_print(2, parts),
-            CommandKind::Load => takes_load(parts),
-            CommandKind::Audit => takes_audit(parts),
+            CommandKind::Load => arguments_take_load(parts),
+            CommandKind::Audit => takes_audit_arguments(parts),
         }
     }
 }
@@ -96,7 +96,7 @@ fn takes_replay(parts: &ArgumentParts<'_>) -> bool
     !policies.is_empty() && policies.len() <= MAX_POLICIES
 }
 
-fn takes_audit(parts: &ArgumentParts<'_>) -> bool
+fn takes_audit_arguments(parts: &ArgumentParts<'_>) -> bool
     ensures { result ≡ is_some (audit_by_grammar (argument_parts_seen parts.now)) }
 {
     if parts.net.is_some() || parts.quiet {
@@ -115,7 +115,7 @@ fn takes_print(count: usize, parts: &ArgumentParts<'_>) -> bool
     parts.names.len() == count && !parts.quiet
 }
 
-fn takes_load(parts: &ArgumentParts<'_>) -> bool
+fn arguments_take_load(parts: &ArgumentParts<'_>) -> bool
     ensures { result ≡ is_some (load_of_arguments (argument_parts_seen parts.now)) }
 {
     if parts.net.is_some() || parts.quiet {
@@ -131,7 +131,7 @@ fn takes_load(parts: &ArgumentParts<'_>) -> bool
 }
 
 // The names and the options of the arguments after a command.
-fn parts_of(args: &[String]) -> Option<ArgumentParts<'_>>
+fn argument_parts_of(args: &[String]) -> Option<ArgumentParts<'_>>
     ensures { option_map argument_parts_seen result ≡ line_of (map string_bytes args.now) }
 {
     let front = cut_argument_options(args);
@@ -172,7 +172,9 @@ fn argument_name_count(args: &[String]) -> usize
     ensures value { result ≡ prefix_len is_name_argument (map string_bytes args.now) }
     ensures within { result ≤ length args.now }
 {
-    args.iter().take_while(|arg| is_name(arg)).count()
+    args.iter()
+        .take_while(|arg| argument_may_be_name(arg))
+        .count()
 }
 
 // The options that begin the arguments, and the arguments after them.
@@ -180,7 +182,7 @@ fn cut_argument_options(args: &[String]) -> Cut<'_>
     ensures { option_cut_seen result ≡ cut_argument_options (map string_bytes args.now) }
 {
     if let Some(rest) = cut_quiet_argument(args) {
-        return quiet_flag_then_net(rest);
+        return quiet_argument_then_net(rest);
     }
     match cut_net_option_argument(args) {
         None => Cut {
@@ -188,13 +190,13 @@ fn cut_argument_options(args: &[String]) -> Cut<'_>
             quiet: false,
             args,
         },
-        Some((net, rest)) => net_option_then_quiet(net, rest),
+        Some((net, rest)) => net_argument_then_quiet(net, rest),
     }
 }
 
 // A network's option may follow the flag.
-fn quiet_flag_then_net(args: &[String]) -> Cut<'_>
-    ensures { option_cut_seen result ≡ quiet_flag_then_net (map string_bytes args.now) }
+fn quiet_argument_then_net(args: &[String]) -> Cut<'_>
+    ensures { option_cut_seen result ≡ quiet_argument_then_net (map string_bytes args.now) }
 {
     match cut_net_option_argument(args) {
         None => Cut {
@@ -211,8 +213,8 @@ fn quiet_flag_then_net(args: &[String]) -> Cut<'_>
 }
 
 // A flag may follow the network's option.
-fn net_option_then_quiet<'a>(net: &'a str, args: &'a [String]) -> Cut<'a>
-    ensures { option_cut_seen result ≡ net_option_then_quiet net.entry.now (map string_bytes args.now) }
+fn net_argument_then_quiet<'a>(net: &'a str, args: &'a [String]) -> Cut<'a>
+    ensures { option_cut_seen result ≡ net_argument_then_quiet net.entry.now (map string_bytes args.now) }
 {
     match cut_quiet_argument(args) {
         None => Cut {
@@ -245,7 +247,7 @@ fn cut_quiet_argument(args: &[String]) -> Option<&[String]>
 
 // The network of an option that begins the arguments, and the arguments after it.
 fn cut_net_option_argument(args: &[String]) -> Option<(&str, &[String])>
-    ensures { option_map option_pair_seen result ≡ cut_net_option_argument (map string_bytes args.now) }
+    ensures { option_map argument_option_pair_seen result ≡ cut_net_option_argument (map string_bytes args.now) }
 {
     let [option, rest @ ..] = args else {
         return None;
@@ -256,14 +258,14 @@ fn cut_net_option_argument(args: &[String]) -> Option<(&str, &[String])>
     }
 }
 
-// The network of an option `--net NET`, of which the first argument is this.
+// If this is `--net` and a name follows: that name, and the arguments after it.
 fn cut_option_pair<'a>(option: &str, args: &'a [String]) -> Option<(&'a str, &'a [String])>
-    ensures { option_map option_pair_seen result ≡ cut_option_pair option.now (map string_bytes args.entry.now) }
+    ensures { option_map argument_option_pair_seen result ≡ cut_option_pair option.now (map string_bytes args.entry.now) }
 {
     let [net, rest @ ..] = args else {
         return None;
     };
-    if option == "--net" && is_name(net) {
+    if option == "--net" && argument_may_be_name(net) {
         Some((net.as_str(), rest))
     } else {
         None
@@ -275,11 +277,15 @@ fn joined_net_argument(arg: &str) -> Option<&str>
     ensures { argument_name_seen result ≡ joined_net_argument arg.now }
 {
     let net = arg.strip_prefix("--net=")?;
-    if is_name(net) { Some(net) } else { None }
+    if argument_may_be_name(net) {
+        Some(net)
+    } else {
+        None
+    }
 }
 
 // Whether an argument may name a file or a switch: it is not empty and does not begin with a dash.
-fn is_name(arg: &str) -> bool
+fn argument_may_be_name(arg: &str) -> bool
     ensures { result ≡ is_name_argument arg.now }
 {
     !arg.is_empty() && arg.as_bytes()[0] != b'-'

@@ -1,7 +1,7 @@
 //! Reads arguments of the grammar with the crate `clap`.
 ghost use Rattle.std.specs.Prelude.{◌≡◌, Bool, true, false, IfOk, Some, codes, drop, is_some, map, option_map, string_bytes};
 ghost use Rattle.clap.specs.Words.{app_of, first_value, found_of, matched_of, one_text, raw_values, rule_of};
-ghost use Rattle.command_line.specs.Line.{IsFlagRead, IsNetArgumentRead, app_with, command_app, names_arg, net_and, net_arg, none, command_options_of, quiet_argument};
+ghost use Rattle.command_line.specs.Line.{IsFlagRead, IsNetArgumentRead, argument_app_with, argument_app_of_command, names_arg, net_and, net_arg, none, command_options_of, quiet_argument};
 ghost use Rattle.command_line.specs.Named.{command_of_kind, argument_line_seen, argument_names_seen, argument_name_seen};
 ghost use Rattle.command_line.specs.Grammar.{line_of};
 
@@ -22,7 +22,7 @@ pub(crate) struct ArgumentLine<'a> {
 ///
 /// # Errors
 /// Only out of memory.
-pub(crate) fn read_line<'a>(
+pub(crate) fn read_argument_line<'a>(
     alloc: Global,
     kind: CommandKind,
     args: &'a [String],
@@ -46,10 +46,10 @@ pub(crate) fn read_line<'a>(
 
 // The `clap` command of this kind, which takes what this command may have, and nothing else.
 fn line_command<'a>(alloc: Global, kind: CommandKind) -> Result<Command<'a>, AllocError>
-    ensures { IfOk result (λ command. app_of command ≡ command_app kind) }
+    ensures { IfOk result (λ command. app_of command ≡ argument_app_of_command kind) }
 {
     match kind {
-        CommandKind::Replay => replay_command(alloc),
+        CommandKind::Replay => replay_clap_command(alloc),
         CommandKind::Flows => unflagged_command(alloc, "flows"),
         CommandKind::Rebalance => unflagged_command(alloc, "rebalance"),
         CommandKind::Compile => unflagged_command(alloc, "compile"),
@@ -59,8 +59,8 @@ fn line_command<'a>(alloc: Global, kind: CommandKind) -> Result<Command<'a>, All
     }
 }
 
-fn replay_command<'a>(alloc: Global) -> Result<Command<'a>, AllocError>
-    ensures { IfOk result (λ command. app_of command ≡ app_with (codes "replay") (net_and true)) }
+fn replay_clap_command<'a>(alloc: Global) -> Result<Command<'a>, AllocError>
+    ensures { IfOk result (λ command. app_of command ≡ argument_app_with (codes "replay") (net_and true)) }
 {
     let command = Command::new(alloc, "replay")
         .arg(names_arg(alloc))?
@@ -71,7 +71,7 @@ fn replay_command<'a>(alloc: Global) -> Result<Command<'a>, AllocError>
 
 // A command that takes a network's option and no flag.
 fn unflagged_command<'a>(alloc: Global, name: &'a str) -> Result<Command<'a>, AllocError>
-    ensures { IfOk result (λ command. app_of command ≡ app_with name.entry.now (net_and false)) }
+    ensures { IfOk result (λ command. app_of command ≡ argument_app_with name.entry.now (net_and false)) }
 {
     let command = Command::new(alloc, name)
         .arg(names_arg(alloc))?
@@ -80,7 +80,7 @@ fn unflagged_command<'a>(alloc: Global, name: &'a str) -> Result<Command<'a>, Al
 }
 
 fn bare_command<'a>(alloc: Global, name: &'a str) -> Result<Command<'a>, AllocError>
-    ensures { IfOk result (λ command. app_of command ≡ app_with name.entry.now none) }
+    ensures { IfOk result (λ command. app_of command ≡ argument_app_with name.entry.now none) }
 {
     let command = Command::new(alloc, name).arg(names_arg(alloc))?;
     Ok(command.args_override_self(true))

@@ -2,8 +2,8 @@
 -- while the switch is up in it.
 use Rattle.std.proofs.Common.{[], ◌++◌, ◌<◌, ◌==◌, ◌∷◌, ◌≡◌, ◌≤◌, Bool, IfSome, IsFalse, IsTrue, List, None, Option, Some, ap, arith, false, inl, inr, max, option_and_then, option_to_list, refl, subst, sym, true, ℕ, rules}
 use Rattle.base.proofs.Exports.{AllByRecursion, cases_lt, each_append, each_option, list_any, list_any-append, nat_tests}
-use Rattle.update_machine.specs.Exports.{AreMachineMarksSettled, Body, Hello, Installed, Item, Setting, Stamped, acked_stamp, journal_body_to_controller, journal_boot_of, controller_heard, journal_current_mark, has_acked, heard, journal_installed_in_body, installs_version, is_member, is_over, is_up, journal_known_boot, message_of, journal_next_retired, opened_at, journal_retired_mark, machine_speaking_in_body, journal_stamp_of, machine_stamped_version_in}
-use Rattle.control_laws.specs.Exports.{BootsAreKnown, HasControlItemCause, IsControlSenderPresent, IsRightMessageFrom}
+use Rattle.update_machine.specs.Exports.{AreMachineMarksSettled, Body, Hello, Installed, Item, Setting, Stamped, acked_stamp, journal_body_to_controller, journal_boot_of, journal_controller_heard, journal_current_mark, has_acked, heard, machine_installed_version, installs_version, is_member, is_over, is_up, journal_known_boot, journal_message_of, journal_next_retired, journal_opened_at, journal_retired_mark, machine_speaking_in_body, journal_stamp_of, machine_stamped_version_in}
+use Rattle.control_laws.specs.Exports.{BootsAreKnown, HasControlItemCause, IsControlSenderPresent, IsRightControlMessageFrom}
 use Rattle.control_laws.proofs.ControlFactsGrown.{boot_more, boot_rises, by_number, heard_more, raised_up, stamp_told, up_more}
 use Rattle.ctrl_msg.specs.Exports.{to_controller}
 use Rattle.update_machine.proofs.Exports.{open_net, start_laws}
@@ -65,7 +65,7 @@ pub record AckKind : Type 1 where
   pub is : (s boot : ℕ) (body : Body) (version : ℕ) → reads s boot body ≡ Some version
       → body ≡ writes s boot version
   pub speaks : (s boot version : ℕ) → machine_speaking_in_body (writes s boot version) ≡ Some (s, boot)
-  pub right : (before : List Item) (s boot version : ℕ) → IsRightMessageFrom before (writes s boot version)
+  pub right : (before : List Item) (s boot version : ℕ) → IsRightControlMessageFrom before (writes s boot version)
       → IsControlSenderPresent before s boot × Holds before s version
   pub kept : (before : List Item) (next : Item) (s version : ℕ) → IsFalse (turns s next)
       → Holds before s version → Holds (before ++ next ∷ []) s version
@@ -73,7 +73,7 @@ pub record AckKind : Type 1 where
 -- what was sent or told of the boot that lasts is so; nothing was told of a boot to come
 pub record AreTrue (kind : AckKind) (journal : List Item) : Type 0 where
   pub sent : (s boot version n : ℕ)
-      → message_of journal n ≡ Some (to_controller (kind.writes s boot version))
+      → journal_message_of journal n ≡ Some (to_controller (kind.writes s boot version))
       → IsTrue (is_up journal s) → boot ≡ journal_boot_of journal s → kind.Holds journal s version
   pub told : (s : ℕ) → IsTrue (is_up journal s)
       → AllByRecursion (kind.Holds journal s) (told_by (kind.reads s (journal_boot_of journal s)) journal)
@@ -81,7 +81,7 @@ pub record AreTrue (kind : AckKind) (journal : List Item) : Type 0 where
 
 -- no acknowledgement is of a boot to come
 past_sent : (kind : AckKind) (before : List Item) (s boot version n : ℕ) → BootsAreKnown before
-    → message_of before n ≡ Some (to_controller (kind.writes s boot version))
+    → journal_message_of before n ≡ Some (to_controller (kind.writes s boot version))
     → boot ≤ journal_boot_of before s
 past_sent kind before s boot version n boots sent = rw (kind.speaks s boot version) at
     (boots.sent n (to_controller (kind.writes s boot version)) sent)
@@ -89,7 +89,7 @@ past_sent kind before s boot version n boots sent = rw (kind.speaks s boot versi
 sent_on : (kind : AckKind) (setting : Setting) (before : List Item) (next : Item)
     (s boot version n : ℕ) → HasControlItemCause setting before next → BootsAreKnown before
     → AreTrue kind before
-    → message_of (before ++ next ∷ []) n ≡ Some (to_controller (kind.writes s boot version))
+    → journal_message_of (before ++ next ∷ []) n ≡ Some (to_controller (kind.writes s boot version))
     → IsTrue (is_up (before ++ next ∷ []) s) → boot ≡ journal_boot_of (before ++ next ∷ []) s
     → kind.Holds (before ++ next ∷ []) s version
 sent_on kind setting before next s boot version n cause boots fact is up own =
@@ -103,7 +103,7 @@ sent_on kind setting before next s boot version n cause boots fact is up own =
 -- a told acknowledgement was sent
 ack_sent : (kind : AckKind) (before : List Item) (s boot number version : ℕ)
     → option_and_then (kind.reads s boot) (journal_body_to_controller before number) ≡ Some version
-    → message_of before number ≡ Some (to_controller (kind.writes s boot version))
+    → journal_message_of before number ≡ Some (to_controller (kind.writes s boot version))
 ack_sent kind before s boot number version told = search (rules, told_sent)
 
 -- what an item says about the boot that lasts is true
@@ -167,13 +167,13 @@ true_on kind setting before next cause boots fact = record {
 
 -- nothing is told or sent at first
 pub true_at_first : (kind : AckKind) → AreTrue kind []
-unfolding controller_heard
+unfolding journal_controller_heard
 true_at_first kind = search (rules, start_laws)
 
 -- ---- the two kinds
 
 pub installed_is : (s boot : ℕ) (body : Body) (version : ℕ)
-    → journal_installed_in_body s boot body ≡ Some version → body ≡ Installed s boot version
+    → machine_installed_version s boot body ≡ Some version → body ≡ Installed s boot version
 installed_is s boot body version e = search (rules, nat_tests)
 
 pub stamped_is : (s boot : ℕ) (body : Body) (version : ℕ) → machine_stamped_version_in s boot body ≡ Some version
@@ -184,7 +184,7 @@ stamped_is s boot body version e = search (rules, nat_tests)
 abbrev pub of_tables : AckKind
 of_tables = record {
   writes = Installed;
-  reads = journal_installed_in_body;
+  reads = machine_installed_version;
   Holds = λ journal s version. IsTrue (list_any (installs_version version) (heard journal s));
   is = installed_is;
   speaks = λ s boot version. refl;
@@ -213,7 +213,7 @@ joining = Item.Down 0 ∷ Item.Booted 0 2 ∷ Item.Sent 1 (to_controller (Hello 
     ∷ Item.Sent 2 (to_controller (Installed 0 2 1)) ∷ Item.Delivered 2 ∷ []
 
 not_unopened : AreMachineMarksSettled open_net joining → ⊥
-unfolding controller_heard journal_current_mark has_acked is_member is_over journal_known_boot message_of opened_at
+unfolding journal_controller_heard journal_current_mark has_acked is_member is_over journal_known_boot journal_message_of journal_opened_at
 not_unopened settled = let no : true ≡ false = settled.joining 0 0 (omega arith) refl in cc
 
 -- both switches stamp with version 2, and version 1 isn't retired
@@ -224,6 +224,6 @@ stamped = Item.Submitted 2 2 ∷ Item.Sent 1 (to_controller (Installed 0 1 2))
     ∷ Item.Sent 4 (to_controller (Stamped 1 1 2)) ∷ Item.Delivered 3 ∷ Item.Delivered 4 ∷ []
 
 not_unretired : AreMachineMarksSettled open_net stamped → ⊥
-unfolding controller_heard journal_current_mark is_member is_over journal_known_boot message_of opened_at acked_stamp
+unfolding journal_controller_heard journal_current_mark is_member is_over journal_known_boot journal_message_of journal_opened_at acked_stamp
     journal_retired_mark journal_next_retired
 not_unretired settled = let no : 0 ≡ 1 = settled.retired in omega (arith, no)

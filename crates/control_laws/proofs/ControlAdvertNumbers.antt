@@ -1,10 +1,10 @@
 -- How far boots and the numbers of own adverts rise with the messages that are sent.
 use Rattle.std.proofs.Common.{[], if◌then◌else◌, ◌&&◌, ◌*◌, ◌++◌, ◌+◌, ◌<◌, ◌==◌, ◌^◌, ◌∙◌, ◌∷◌, ◌≡◌, ◌≤◌, All, Bool, List, None, Some, ap, append_assoc, arith, cond, count_by, eqb-true, false, filter, inl, inr, length, map, ne_eqb, not, refl, subst, suc, sum_by, sym, true, unwrap_or, zero, ℕ}
 use Rattle.base.proofs.Exports.{All-cons, All-head, All-nil, All-tail, All-weaker, get_or-le-sum_by, get_or-range_with_len, given_some, has_least, length-flat_map, length-map, length-range_with_len, mask_of_lt, range_with_len, sum_by-cons, sum_filter}
-use Rattle.update_machine.specs.Exports.{JournalItemsHaveCauses, Item, MachineLinksKeep, Message, NoneConcern, Setting, StepItems, StepOfRow, advert_to, journal_adverts_known, journal_after_steps, journal_boot_of, item_changes_steps, concerns_links, journal_step_changes_links, journal_usable_links_changed, journal_held_adverts, is_sending, is_up, journal_link_changes, machine_messages_of, machine_messages_over_link, near, own_advert, journal_own_seq, piece, journal_steps_in, switches_of, usable_links, steps_with_item}
+use Rattle.update_machine.specs.Exports.{JournalItemsHaveCauses, Item, MachineLinksKeep, Message, NoneConcern, Setting, StepItems, StepOfRow, machine_advert_to, journal_adverts_known, journal_after_steps, journal_boot_of, item_changes_steps, concerns_links, journal_step_changes_links, journal_usable_links_changed, journal_held_adverts, is_sending, is_up, journal_link_changes, machine_messages_of, machine_messages_over_link, near, own_advert, journal_own_seq, piece, journal_steps_in, setting_switches_of, usable_links, machine_steps_with_item}
 use Rattle.failover.specs.Exports.{held_advert}
-use Rattle.base.specs.Exports.{has, least_in, switches}
-use Rattle.net_file.specs.Exports.{IsNet, are_linked}
+use Rattle.base.specs.Exports.{has, least_in_number_set, switches}
+use Rattle.net_file.specs.Exports.{IsNet, are_linked_in_net}
 use Rattle.net_file.proofs.NetFileRowPlaces.{links}
 use Rattle.update_machine.proofs.Exports.{count_of_append, folded_append, have_append, known_link_laws, links_keep, start_laws}
 use Rattle.control_laws.specs.Exports.{HasControlItemCause}
@@ -30,7 +30,7 @@ pub record StepsArePast (journal : List Item) : Type 0 where
   pub past : (s : ℕ) → Began s (journal_boot_of journal s) (journal_steps_in journal)
 
 began_with : (s boot : ℕ) (steps : List StepItems) (next : Item) → Began s boot steps
-    → Began s boot (steps_with_item steps next)
+    → Began s boot (machine_steps_with_item steps next)
 began_with s boot [] next began = began
 began_with s boot (newest ∷ steps) next began =
     All-cons (λ (step : StepItems). journal_boot_of step.before s ≤ boot)
@@ -151,15 +151,15 @@ over_some : (setting : Setting) (before now : List Item) (s k : ℕ)
     → 1 ≤ length (journal_held_adverts setting now s) → 1 ≤ length (machine_messages_over_link setting before now s k)
 over_some setting before now s k holds = by_link (has (near setting before s) k) where
   by_link : (old : Bool) → 1 ≤ length {A = Message} (elim old [
-    | true ↦ advert_to k (own_advert setting now s) ∷ []
-    | false ↦ map (advert_to k) (journal_held_adverts setting now s)
+    | true ↦ machine_advert_to k (own_advert setting now s) ∷ []
+    | false ↦ map (machine_advert_to k) (journal_held_adverts setting now s)
   ])
   by_link true = omega arith
-  by_link false = omega (arith, holds, length-map (journal_held_adverts setting now s) (advert_to k))
+  by_link false = omega (arith, holds, length-map (journal_held_adverts setting now s) (machine_advert_to k))
 
 near_small : (setting : Setting) (journal : List Item) (s : ℕ) → near setting journal s < 2 ^ 64
 unfolding near
-near_small setting journal s = mask_of_lt (are_linked (usable_links setting journal) s)
+near_small setting journal s = mask_of_lt (are_linked_in_net (usable_links setting journal) s)
 
 -- a mask that isn't 0 has a switch of the network
 has_neighbour : (setting : Setting) (now : List Item) (s : ℕ) → IsNet setting.net
@@ -167,7 +167,7 @@ has_neighbour : (setting : Setting) (now : List Item) (s : ℕ) → IsNet settin
     → (k : ℕ) × (k < length setting.net.switches) × (has (near setting now s) k ≡ true)
 has_neighbour setting now s net some =
     let mask : ℕ = near setting now s in
-    let k : ℕ = least_in mask in
+    let k : ℕ = least_in_number_set mask in
     let above : 0 < mask = positive mask some in
     let has_it : has mask k ≡ true = has_least mask above (near_small setting now s) in
     (k, links.below setting.net s k net (near_linked setting now s k has_it), has_it)
@@ -188,12 +188,12 @@ tells_some setting before now s net there up changed told some =
     omega (
       arith,
       length-flat_map (machine_messages_of setting before now)
-          (filter (journal_usable_links_changed setting before now) (switches_of setting)),
+          (filter (journal_usable_links_changed setting before now) (setting_switches_of setting)),
       at_least (λ x. length (machine_messages_of setting before now x)) (journal_usable_links_changed setting before now)
           count s there
           (ap (λ b. b && not (near setting before s == near setting now s)) up ∙ ap not changed),
       length-flat_map (machine_messages_over_link setting before now s)
-          (filter (has (near setting now s)) (switches_of setting)),
+          (filter (has (near setting now s)) (setting_switches_of setting)),
       at_least (λ x. length (machine_messages_over_link setting before now s x)) (has (near setting now s))
           count k neighbour.1 neighbour.2,
       over_some setting before now s k (holds_own setting now s small told),

@@ -1,14 +1,14 @@
 -- What each own advert that is told has, and each first one, and items keep, all adverts have.
 use Rattle.std.proofs.Common.{[], ◌&&◌, ◌++◌, ◌<◌, ◌==◌, ◌∙◌, ◌∷◌, ◌≡◌, ◌≢◌, All, Bool, IsFalse, IsTrue, List, None, Option, Some, ap, append_assoc, arith, false, filter_map, if◌then◌else◌, inl, inr, length, map, nat_lt, not, option_to_list, refl, slice_index, subst, sym, true, ℕ}
 use Rattle.base.proofs.Exports.{⊤, All-append, All-cons, All-nil, All-same, All-weaker, AllByRecursion, cases_eq, each_append, filter_map-append, get_or-map-range_with_len, get_or-replicate, nat_tests, option_map_or, recursion_from_All}
-use Rattle.update_machine.specs.Exports.{Advert, Advertise, Body, Confirm, Crash, Deliver, JournalItemsHaveCauses, Item, LinkDown, LinkUp, Message, Packet, Resend, Restart, Setting, Step, Update, journal_advert_known, advert_to, journal_adverts_begun, journal_adverts_heard, journal_body_to_switch, item_changes_steps, concerns_links, journal_crash_items, deliver_items, heard, is_advert, is_first_boot_in_journal, journal_items_then, journal_link_changes, machine_link_items, message_of, near, journal_next_packet, journal_other_advert, own_advert, journal_own_advert_sent, piece, restart_items, machine_sent_items_from, journal_stamp_of, step_items, journal_steps_in, journal_switch_items, switches_of, machine_message_to_switch}
+use Rattle.update_machine.specs.Exports.{Advert, Advertise, Body, Confirm, Crash, Deliver, JournalItemsHaveCauses, Item, LinkDown, LinkUp, Message, Packet, Resend, Restart, Setting, Step, Update, journal_advert_known, machine_advert_to, journal_adverts_begun, journal_adverts_heard, journal_body_to_switch, item_changes_steps, concerns_links, journal_crash_items, deliver_items, heard, is_advert, is_first_boot_in_journal, journal_items_then, journal_link_changes, machine_link_items, journal_message_of, near, journal_next_packet, machine_advert_of_other, own_advert, journal_own_advert_sent, piece, restart_items, machine_sent_items_from, journal_stamp_of, machine_step_items, journal_steps_in, journal_switch_items, setting_switches_of, machine_message_to_switch}
 use Rattle.update_machine.proofs.Exports.{PiecesHave, folded_append, have_append, have_first, have_put, known_link_laws, start_laws}
 use Rattle.control_laws.proofs.ControlCommands.{changes_controller_heard, confirm_control, controller_control, last_heard, passed_told, resend_caused, sends_told, update_has}
 use Rattle.control_laws.proofs.ControlStampingSwitches.{ArePlain, IsPlain, behind_items, control_is_plain, control_plain, losts_have, packet_plain, step_plain}
 use Rattle.control_laws.proofs.ControlPieceCauses.{deliver_has, pieces_have, said_parts, said_row}
 use Rattle.control_laws.proofs.ControlFactsGrown.{AreKept, Both, by_number, fact_on, have_both, have_weaker, heard_more, piece_has}
 use Rattle.control_laws.proofs.ControlSaidToController.{ChangedNoLinks, HasLinkCause, HaveLinkCauses, IsTold, IsToldIn, switch_cases}
-use Rattle.control_laws.specs.Exports.{AllControlAdverts, HasControlItemCause, HoldsBehindItems}
+use Rattle.control_laws.specs.Exports.{AllControlAdverts, HasControlItemCause, ControlLawHoldsBehindItems}
 use Rattle.failover.specs.Exports.{IsNewestAdvert, first_advert, first_adverts, held_advert, no_adverts}
 use Rattle.base.specs.Exports.{has}
 use Rattle.failover.proofs.FailoverHeldAdverts.{held-first}
@@ -136,7 +136,7 @@ restart_caused setting s journal first = grind arith
 
 step_caused : (setting : Setting) (before : List Item) (row : ℕ) (step : Step)
     → let here = before ++ Item.Row row step ∷ [] in
-    HaveLinkCauses setting here (step_items setting before step here)
+    HaveLinkCauses setting here (machine_step_items setting before step here)
 step_caused setting before row (Packet s header) =
     are_caused setting _ _ (packet_plain setting (journal_next_packet before) s header _)
 step_caused setting before row (Deliver message) =
@@ -173,7 +173,7 @@ pieces_have_both setting journal row step = have_both (HasControlItemCause setti
 -- so a fact that follows from both causes of items is true after each item
 pub behind_both : (Holds : Setting → List Item → Type 0)
     → ((setting : Setting) (journal : List Item) → JournalItemsHaveCauses (HasBothCauses setting) [] journal
-    → Holds setting journal) → HoldsBehindItems Holds
+    → Holds setting journal) → ControlLawHoldsBehindItems Holds
 behind_both Holds caused = behind_items Holds HasBothCauses pieces_have_both caused
 
 -- ---- all adverts
@@ -199,7 +199,7 @@ IfAdvert P _ = ⊤
 -- what is kept of it, item by item
 pub record AreSuch (setting : Setting) (P : List Item → Advert → Type 0) (journal : List Item)
     : Type 0 where
-  pub sent : (n : ℕ) (message : Message) → message_of journal n ≡ Some message →
+  pub sent : (n : ℕ) (message : Message) → journal_message_of journal n ≡ Some message →
       IfAdvert (P journal) message.body
   pub heard : (s : ℕ) → All (P journal) (journal_adverts_heard journal s)
   pub first : (origin : ℕ) → HasSwitch setting.net origin → P journal (begun_with setting origin)
@@ -214,13 +214,13 @@ middle P (x ∷ earlier) advert later all = middle P earlier advert later all.1
 first_such : (setting : Setting) (P : Advert → Type 0)
     → ((origin : ℕ) → HasSwitch setting.net origin → P (begun_with setting origin))
     → (origin : ℕ) → origin < 64 → AllByRecursion P (option_to_list (held_advert (first_adverts
-    (map (links_of setting.net.links) (switches_of setting)) (length setting.net.switches)) origin))
+    (map (links_of setting.net.links) (setting_switches_of setting)) (length setting.net.switches)) origin))
 first_such setting P such origin small =
     rw (held-first near (length setting.net.switches) origin small)
     (by_test (nat_lt origin (length setting.net.switches)) refl)
   where
     near : List ℕ
-    near = map (links_of setting.net.links) (switches_of setting)
+    near = map (links_of setting.net.links) (setting_switches_of setting)
 
     by_test : (b : Bool) → nat_lt origin (length setting.net.switches) ≡ b → AllByRecursion P
         (option_to_list (if b then Some (first_advert origin (slice_index near origin)) else None))
@@ -240,7 +240,7 @@ begun_such : (setting : Setting) (P : Advert → Type 0) (journal : List Item) (
 begun_such setting P journal s origin such small = by_test (is_first_boot_in_journal journal s) where
   by_test : (b : Bool) → AllByRecursion P
       (option_to_list (held_advert (if b then first_adverts (map (links_of setting.net.links)
-      (switches_of setting)) (length setting.net.switches) else no_adverts) origin))
+      (setting_switches_of setting)) (length setting.net.switches) else no_adverts) origin))
   by_test true = first_such setting P such origin small
   by_test false = rw (none_held origin small) tt
 
@@ -309,7 +309,7 @@ weaker_body P Q f _ such = tt
 sent_on : (setting : Setting) (P : List Item → Advert → Type 0) → IsAdvertFact setting P
     → (before : List Item) (next : Item) → HasBothCauses setting before next
     → AreSuch setting P before → (n : ℕ) (message : Message)
-    → message_of (before ++ next ∷ []) n ≡ Some message
+    → journal_message_of (before ++ next ∷ []) n ≡ Some message
     → IfAdvert (P (before ++ next ∷ [])) message.body
 sent_on setting P fact before next both such n message is =
     weaker_body (P before) (P (before ++ next ∷ [])) (fact.kept before next both) message.body
@@ -321,41 +321,41 @@ sent_on setting P fact before next both such n message is =
 -- ---- adverts that are heard
 
 one_heard : (Q : Advert → Type 0) (s : ℕ) (body : Body) → IfAdvert Q body
-    → All Q (filter_map (journal_other_advert s) (body ∷ []))
+    → All Q (filter_map (machine_advert_of_other s) (body ∷ []))
 one_heard Q s (Advertise advert) such = by_test (advert.origin == s) refl where
   by_test : (b : Bool) → (advert.origin == s) ≡ b
-      → All Q (filter_map (journal_other_advert s) (Advertise advert ∷ []))
+      → All Q (filter_map (machine_advert_of_other s) (Advertise advert ∷ []))
   by_test true e = rw e (All-nil Q)
   by_test false e = rw e (All-cons Q advert [] such (All-nil Q))
 one_heard Q s _ such = All-nil Q
 
 heard_such : (Q : Advert → Type 0) (before : List Item) (next : Item) (s : ℕ) → All Q
     (journal_adverts_heard before s)
-    → ((n : ℕ) (message : Message) → message_of before n ≡ Some message → IfAdvert Q message.body)
+    → ((n : ℕ) (message : Message) → journal_message_of before n ≡ Some message → IfAdvert Q message.body)
     → All Q (journal_adverts_heard (before ++ next ∷ []) s)
 heard_such Q before (Item.Down t) s old sent = rw (heard_more before (Item.Down t) s)
     (by_test (t == s))
   where
-    by_test : (b : Bool) → All Q (filter_map (journal_other_advert s) (if b then [] else heard before s))
+    by_test : (b : Bool) → All Q (filter_map (machine_advert_of_other s) (if b then [] else heard before s))
     by_test true = All-nil Q
     by_test false = old
 heard_such Q before (Item.Booted t boot) s old sent = rw (heard_more before (Item.Booted t boot) s)
     (by_test (t == s))
   where
-    by_test : (b : Bool) → All Q (filter_map (journal_other_advert s) (if b then [] else heard before s))
+    by_test : (b : Bool) → All Q (filter_map (machine_advert_of_other s) (if b then [] else heard before s))
     by_test true = All-nil Q
     by_test false = old
 heard_such Q before (Item.Delivered number) s old sent =
     rw (heard_more before (Item.Delivered number) s) (by_said (journal_body_to_switch before s number) refl)
   where
     by_said : (said : Option Body) → journal_body_to_switch before s number ≡ said
-        → All Q (filter_map (journal_other_advert s)
+        → All Q (filter_map (machine_advert_of_other s)
         (option_map_or (λ body. heard before s ++ body ∷ []) said (heard before s)))
     by_said None e = old
-    by_said (Some body) e = All-same Q (filter_map (journal_other_advert s) (heard before s ++ body ∷ []))
-        (journal_adverts_heard before s ++ filter_map (journal_other_advert s) (body ∷ []))
-        (filter_map-append (journal_other_advert s) (heard before s) (body ∷ [])) (All-append Q
-        (journal_adverts_heard before s) (filter_map (journal_other_advert s) (body ∷ [])) old (one_heard Q s body
+    by_said (Some body) e = All-same Q (filter_map (machine_advert_of_other s) (heard before s ++ body ∷ []))
+        (journal_adverts_heard before s ++ filter_map (machine_advert_of_other s) (body ∷ []))
+        (filter_map-append (machine_advert_of_other s) (heard before s) (body ∷ [])) (All-append Q
+        (journal_adverts_heard before s) (filter_map (machine_advert_of_other s) (body ∷ [])) old (one_heard Q s body
         (sent number (machine_message_to_switch s body) (said_parts before s number body e).sent)))
 heard_such Q before next s old sent = rw (heard_more before next s) old
 
@@ -394,7 +394,7 @@ pub all_such : (setting : Setting) (P : List Item → Advert → Type 0) → IsA
     → ((s : ℕ) → P journal (own_advert setting journal s)) → AllControlAdverts setting journal (P journal)
 all_such setting P fact journal have own =
     let such : AreSuch setting P journal = such_on setting P fact journal have in record {
-      sent = λ n s advert is. such.sent n (advert_to s advert) is;
+      sent = λ n s advert is. such.sent n (machine_advert_to s advert) is;
       heard = such.heard;
       held = λ s origin advert small known.
           known_such setting P journal such s origin advert small (own s) known;

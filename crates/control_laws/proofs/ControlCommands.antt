@@ -1,7 +1,7 @@
 -- What the controller writes: versions, marks, and commands to switches.
 use Rattle.std.proofs.Common.{[], ◌++◌, ◌+◌, ◌==◌, ◌∙◌, ◌∷◌, ◌≡◌, Bool, IsTrue, List, None, Option, Some, ap, arith, false, filter, filter_map, flat_map, inl, inr, is_some, map, not, refl, sym, true, ℕ}
 use Rattle.base.proofs.Exports.{⊤, AllByRecursion, each_always, each_filter, each_flat_map, each_flat_map_in, each_given, each_map, filter_map-append}
-use Rattle.update_machine.specs.Exports.{Advert, Advertise, Body, Collect, JournalItemsHaveCauses, Hello, Install, Item, JournalKnownKeeps, MachineLinksKeep, Message, OpenAt, Setting, Stamp, JournalSwitchKeeps, advert_to, journal_adverts_known, after_hello, confirm_items, controller_heard, controller_items, has_acked, journal_usable_links_changed, heard, journal_held_adverts, machine_hello_of, journal_install_for, machine_installs_to, machine_installs_to_all, is_member, is_over, is_up, journal_items_then, journal_known_boot, journal_link_changes, machine_messages_of, machine_messages_over_link, near, opened_at, journal_other_advert, own_advert, machine_advert_passed_on, resend_items, journal_resent_by_switch, send_items, machine_sends_or_nothing, settling, submitted_items, setting_switches_in, switches_of, journal_unacked_installs, machine_update_code, update_items, journal_version_count, journal_versions_from_current}
+use Rattle.update_machine.specs.Exports.{Advert, Advertise, Body, Collect, JournalItemsHaveCauses, Hello, Install, Item, JournalKnownKeeps, MachineLinksKeep, Message, OpenAt, Setting, Stamp, JournalSwitchKeeps, machine_advert_to, journal_adverts_known, machine_after_hello, confirm_items, journal_controller_heard, controller_items, has_acked, journal_usable_links_changed, heard, journal_held_adverts, machine_hello_of, journal_install_for, machine_installs_to, machine_installs_to_all, is_member, is_over, is_up, journal_items_then, journal_known_boot, journal_link_changes, machine_messages_of, machine_messages_over_link, near, journal_opened_at, machine_advert_of_other, own_advert, machine_advert_passed_on, machine_resend_items, journal_resent_by_switch, send_items, machine_sends_or_nothing, settling, submitted_items, setting_switches_in, setting_switches_of, journal_unacked_installs, machine_update_code, machine_update_items, journal_version_count, journal_versions_from_current}
 use Rattle.control_laws.proofs.ControlMessageSends.{PartsHave, acked_same, parts_have, sends_kept, settling_has}
 use Rattle.update_machine.proofs.Exports.{have_first, have_in_turn, known_keeps, links_keep, switch_keeps}
 use Rattle.control_laws.proofs.ControlFactsGrown.{count_more, fact_on, have_weaker, known_more, over_more, told_more}
@@ -32,8 +32,8 @@ sends_any cause has journal messages =
 pub resends_any : (cause : List Item → Item → Type 0) →
     ((before : List Item) (n : ℕ) (message : Message) → cause before (Item.Sent n message)) →
     (setting : Setting) (s : ℕ) (journal : List Item) → cause journal Item.Nothing
-    → JournalItemsHaveCauses cause journal (resend_items setting s journal)
-unfolding resend_items
+    → JournalItemsHaveCauses cause journal (machine_resend_items setting s journal)
+unfolding machine_resend_items
 resends_any cause has setting s journal none = by_messages _ where
   by_messages : (messages : List Message)
       → JournalItemsHaveCauses cause journal (machine_sends_or_nothing journal messages)
@@ -44,14 +44,14 @@ resends_any cause has setting s journal none = by_messages _ where
 
 pub each_by_switch : (P : Message → Type 0) (setting : Setting) (journal : List Item) (s : ℕ)
     → (is_up journal s ≡ true → P (machine_hello_of journal s)) → AllByRecursion P
-    (flat_map (λ neighbour. map (advert_to neighbour) (journal_held_adverts setting journal s))
+    (flat_map (λ neighbour. map (machine_advert_to neighbour) (journal_held_adverts setting journal s))
     (setting_switches_in setting (near setting journal s)))
     → AllByRecursion P (journal_resent_by_switch setting journal s)
 each_by_switch P setting journal s hello adverts = by_up (is_up journal s) refl where
   by_up : (up : Bool) → is_up journal s ≡ up → AllByRecursion P (elim up [
     | false ↦ []
     | true ↦ machine_hello_of journal s
-        ∷ flat_map (λ neighbour. map (advert_to neighbour) (journal_held_adverts setting journal s))
+        ∷ flat_map (λ neighbour. map (machine_advert_to neighbour) (journal_held_adverts setting journal s))
         (setting_switches_in setting (near setting journal s))
   ])
   by_up false e = tt
@@ -106,13 +106,13 @@ pub record Grows (before after : List Item) : Type 0 where
   pub acked : (s v : ℕ) → has_acked after s v ≡ has_acked before s v
   pub known : (s : ℕ) → journal_known_boot after s ≡ journal_known_boot before s
   pub over : (s : ℕ) → is_over after s ≡ is_over before s
-  pub opened : (s : ℕ) → IsTrue (is_some (opened_at before s))
-      → IsTrue (is_some (opened_at after s))
+  pub opened : (s : ℕ) → IsTrue (is_some (journal_opened_at before s))
+      → IsTrue (is_some (journal_opened_at after s))
   pub member : (s : ℕ) → IsTrue (is_member before s) → IsTrue (is_member after s)
 
 grows_by : (before : List Item) (next : Item)
     → journal_version_count (before ++ next ∷ []) ≡ journal_version_count before
-    → controller_heard (before ++ next ∷ []) ≡ controller_heard before
+    → journal_controller_heard (before ++ next ∷ []) ≡ journal_controller_heard before
     → ((s : ℕ) → journal_known_boot (before ++ next ∷ []) s ≡ journal_known_boot before s)
     → ((s : ℕ) → is_over (before ++ next ∷ []) s ≡ is_over before s)
     → Grows before (before ++ next ∷ [])
@@ -212,8 +212,8 @@ pub update_has : (cause : List Item → Item → Type 0)
     → ((before : List Item) (next : Item) → IsControl before next → cause before next)
     → (setting : Setting) (file : ℕ) (journal : List Item)
     → ((version : ℕ) → cause journal (Item.Submitted file version))
-    → JournalItemsHaveCauses cause journal (update_items setting file journal)
-unfolding update_items
+    → JournalItemsHaveCauses cause journal (machine_update_items setting file journal)
+unfolding machine_update_items
 update_has cause weaker setting file journal submits = by_code (machine_update_code setting journal file)
   where
     by_code : (o : Option ℕ) → JournalItemsHaveCauses cause journal (elim o [
@@ -233,7 +233,7 @@ unfolding confirm_items
 confirm_control setting s journal = grind (arith, have_first, settling_control)
 
 hello_control : (setting : Setting) (before : List Item) (body : Body) (journal : List Item)
-    → Control journal (after_hello setting before body journal)
+    → Control journal (machine_after_hello setting before body journal)
 hello_control setting before (Hello s boot) journal = grind (arith, installs_control)
 hello_control setting before _ journal = tt
 
@@ -241,7 +241,7 @@ pub controller_control : (setting : Setting) (before : List Item) (body : Body)
     (journal : List Item) → Control journal (controller_items setting before body journal)
 unfolding controller_items
 controller_control setting before body journal =
-    have_in_turn IsControl (settling setting ∷ after_hello setting before body ∷ [])
+    have_in_turn IsControl (settling setting ∷ machine_after_hello setting before body ∷ [])
     (settling_control setting, (hello_control setting before body, tt)) journal
 
 -- ---- the blocks of a piece in which adverts are sent have their causes
@@ -261,7 +261,7 @@ heard_sent : (setting : Setting) (before : List Item) (n s : ℕ) (message : Mes
     → IsHeard (before ++ Item.Sent n message ∷ []) s advert
 heard_sent setting before n s message advert is = record {
   earlier = is.earlier;
-  heard = ap (filter_map (journal_other_advert s))
+  heard = ap (filter_map (machine_advert_of_other s))
       (switch_keeps setting s before (Item.Sent n message ∷ []) (refl, tt)).heard ∙ is.heard;
 }
 
@@ -317,9 +317,9 @@ each_held setting journal s neighbour linked =
 
 pub held_told : (setting : Setting) (journal : List Item) (s neighbour : ℕ)
     → IsTrue (has (near setting journal s) neighbour) → AllByRecursion (Tells setting journal)
-    (map (advert_to neighbour) (journal_held_adverts setting journal s))
+    (map (machine_advert_to neighbour) (journal_held_adverts setting journal s))
 held_told setting journal s neighbour linked =
-    each_map (Tells setting journal) (advert_to neighbour) (journal_held_adverts setting journal s)
+    each_map (Tells setting journal) (machine_advert_to neighbour) (journal_held_adverts setting journal s)
     (each_held setting journal s neighbour linked)
 
 -- what a switch tells each of its neighbours
@@ -331,7 +331,7 @@ pub each_neighbour : (setting : Setting) (journal : List Item) (s : ℕ) (told :
 each_neighbour setting journal s told all =
     each_flat_map_in (Tells setting journal) told (setting_switches_in setting (near setting journal s))
     (each_filter (λ neighbour. AllByRecursion (Tells setting journal) (told neighbour))
-    (has (near setting journal s)) all (switches_of setting))
+    (has (near setting journal s)) all (setting_switches_of setting))
 
 -- ---- changed links
 
@@ -348,8 +348,8 @@ over_told setting before journal s neighbour linked =
     by_link (has (near setting before s) neighbour)
   where
     by_link : (old : Bool) → AllByRecursion (Tells setting journal) (elim old [
-      | true ↦ advert_to neighbour (own_advert setting journal s) ∷ []
-      | false ↦ map (advert_to neighbour) (journal_held_adverts setting journal s)
+      | true ↦ machine_advert_to neighbour (own_advert setting journal s) ∷ []
+      | false ↦ map (machine_advert_to neighbour) (journal_held_adverts setting journal s)
     ])
     by_link true = (own_told setting journal s neighbour linked, tt)
     by_link false = held_told setting journal s neighbour linked
@@ -360,7 +360,7 @@ unfolding journal_link_changes
 changes_controller_heard setting before journal = sends_told setting journal _
     (each_flat_map (Tells setting journal) (machine_messages_of setting before journal) (λ s. each_neighbour
     setting journal s (machine_messages_over_link setting before journal s) (over_told setting before journal s))
-    (filter (journal_usable_links_changed setting before journal) (switches_of setting)))
+    (filter (journal_usable_links_changed setting before journal) (setting_switches_of setting)))
 
 -- ---- adverts that are passed on
 
@@ -369,21 +369,21 @@ pub passed_told : (setting : Setting) (journal : List Item) (s : ℕ) (advert : 
     → HaveLinkCauses setting journal (send_items journal (machine_advert_passed_on setting journal s advert))
 passed_told setting journal s advert last = sends_told setting journal
     (machine_advert_passed_on setting journal s advert) (each_map (Tells setting journal)
-    (λ neighbour. advert_to neighbour advert) (setting_switches_in setting (near setting journal s))
-    (each_filter (λ neighbour. Tells setting journal (advert_to neighbour advert))
+    (λ neighbour. machine_advert_to neighbour advert) (setting_switches_in setting (near setting journal s))
+    (each_filter (λ neighbour. Tells setting journal (machine_advert_to neighbour advert))
     (has (near setting journal s)) (λ neighbour linked. record
     { switch = s; neighbour = neighbour; near = linked; which = inr (inr last) })
-    (switches_of setting)))
+    (setting_switches_of setting)))
 
 -- an advert of another switch is the last that is heard once it is delivered
 pub last_heard : (before now : List Item) (s : ℕ) (bodies : List Body) (advert : Advert)
     → heard now s ≡ bodies ++ Advertise advert ∷ [] → (advert.origin == s) ≡ false
     → IsHeard now s advert
 last_heard before now s bodies advert heard other = record {
-  earlier = filter_map (journal_other_advert s) bodies;
-  heard = cc (heard, filter_map-append (journal_other_advert s) bodies (Advertise advert ∷ []), told);
+  earlier = filter_map (machine_advert_of_other s) bodies;
+  heard = cc (heard, filter_map-append (machine_advert_of_other s) bodies (Advertise advert ∷ []), told);
 } where
-  told : filter_map (journal_other_advert s) (Advertise advert ∷ []) ≡ advert ∷ []
+  told : filter_map (machine_advert_of_other s) (Advertise advert ∷ []) ≡ advert ∷ []
   told = rw other refl
 
 -- ---- what is sent again has its causes: a switch tells what it holds, the controller no advert
@@ -397,10 +397,10 @@ unacked_told setting journal s versions =
     (λ version. tt) (filter (λ version. not (has_acked journal s version)) versions))
 
 pub resend_caused : (setting : Setting) (s : ℕ) (journal : List Item)
-    → HaveLinkCauses setting journal (resend_items setting s journal)
+    → HaveLinkCauses setting journal (machine_resend_items setting s journal)
 resend_caused setting s journal = resent_has (HasLinkCause setting) (Tells setting journal) setting
     s journal tt (sends_told setting journal) (each_by_switch (Tells setting journal) setting
-    journal s (λ up. tt) (each_neighbour setting journal s (λ neighbour. map (advert_to neighbour)
+    journal s (λ up. tt) (each_neighbour setting journal s (λ neighbour. map (machine_advert_to neighbour)
     (journal_held_adverts setting journal s)) (held_told setting journal s)))
     (each_by_controller (Tells setting journal) setting journal s
     (λ none member. each_to_member (Tells setting journal) setting journal s tt

@@ -1,8 +1,8 @@
 -- Nobody stamps with a version that isn't current yet, or is told or said to.
 use Rattle.std.proofs.Common.{[], ◌++◌, ◌<◌, ◌==◌, ◌∙◌, ◌∷◌, ◌≡◌, ◌≤◌, Bool, IfSome, List, None, Option, Some, arith, false, if◌then◌else◌, inl, inr, map, option_and_then, refl, subst, sym, true, ℕ}
-use Rattle.update_machine.specs.Exports.{Body, Install, Item, Message, OpenAt, Place, Setting, Stamp, Stamped, Tables, VersionsAreNumbered, acked_stamp, journal_body_to_controller, journal_body_to_switch, controller_heard, journal_current_mark, machine_first_open, heard, journal_known_boot, members, message_of, journal_next_retired, machine_open_sent, journal_retired_mark, journal_stamp_in_body, journal_stamp_of, machine_stamped_version_in, machine_message_to_switch, journal_version_count}
+use Rattle.update_machine.specs.Exports.{Body, Install, Item, Message, OpenAt, Place, Setting, Stamp, Stamped, Tables, JournalVersionsAreNumbered, acked_stamp, journal_body_to_controller, journal_body_to_switch, journal_controller_heard, journal_current_mark, machine_first_open, heard, journal_known_boot, members, journal_message_of, journal_next_retired, machine_open_sent, journal_retired_mark, machine_stamp_message_version, journal_stamp_of, machine_stamped_version_in, machine_message_to_switch, journal_version_count}
 use Rattle.update_machine.proofs.Exports.{numbered_at_first, other_more, plan_stays, start_laws, submitted_more, touched_stays}
-use Rattle.control_laws.specs.Exports.{AreInstallTablesPlanned, HasControlItemCause, InstallsArePlanned, IsRightInstallMessage, IsRightMessage, IsRightOpening, IsRightStamp, IsStampMessageTouched, StampsSayTouched, stamp_message_to}
+use Rattle.control_laws.specs.Exports.{AreControlInstallTablesPlanned, HasControlItemCause, InstallsArePlanned, IsRightInstallMessage, IsRightControlMessage, IsRightControlOpening, IsRightStamp, IsStampMessageTouched, StampsSayTouched, control_stamp_message_to}
 use Rattle.control_laws.proofs.ControlFactsGrown.{AreKept, FromCauses, NeverFalls, by_number, count_more, current_more, from_causes, heard_more, known_rises, new_or_old, opened_in, opened_is, opened_more, opens_by, raised, retired_more, stamp_told}
 use Rattle.base.proofs.Exports.{⊤, AllByRecursion, IfSome_then, each_always, each_append, each_map, each_option, nat_tests, option_map_or, option_or}
 use Rattle.ctrl_msg.specs.Exports.{to_controller}
@@ -13,14 +13,14 @@ use Rattle.ternary.specs.Exports.{WordValue}
 
 -- ---- versions are numbered from 1 without a gap
 
-pub numbered_kept : (setting : Setting) → AreKept (HasControlItemCause setting) VersionsAreNumbered
+pub numbered_kept : (setting : Setting) → AreKept (HasControlItemCause setting) JournalVersionsAreNumbered
 numbered_kept setting before (Item.Submitted file version) cause known =
     submitted_more before file version cause.next known
 numbered_kept setting before next cause known = other_more before next refl known
 
-pub caused_numbered : FromCauses (λ setting. VersionsAreNumbered)
+pub caused_numbered : FromCauses (λ setting. JournalVersionsAreNumbered)
 caused_numbered =
-    from_causes (λ setting. VersionsAreNumbered) numbered_kept (λ setting. numbered_at_first)
+    from_causes (λ setting. JournalVersionsAreNumbered) numbered_kept (λ setting. numbered_at_first)
 
 -- ---- how far the marks and what is sent of versions may go: at most to the current version, and
 -- tables only as they are planned.
@@ -65,8 +65,8 @@ there_at_first = record {
 -- ---- tables
 
 planned_on : (setting : Setting) (before : List Item) (next : Item) (s : ℕ) (installed : Tables)
-    → VersionsAreNumbered before → AreInstallTablesPlanned setting before s installed
-    → AreInstallTablesPlanned setting (before ++ next ∷ []) s installed
+    → JournalVersionsAreNumbered before → AreControlInstallTablesPlanned setting before s installed
+    → AreControlInstallTablesPlanned setting (before ++ next ∷ []) s installed
 planned_on setting before next s installed numbered are = record {
   version = are.version;
   first = are.first;
@@ -76,7 +76,7 @@ planned_on setting before next s installed numbered are = record {
 
 pub right_planned : (setting : Setting) (before : List Item) (s boot : ℕ) (installed : Tables)
     → IsThere before → IsRightInstallMessage setting before s boot installed
-    → AreInstallTablesPlanned setting before s installed
+    → AreControlInstallTablesPlanned setting before s installed
 right_planned setting before s boot installed is right = record {
   version = right.version;
   first = elim right.which [
@@ -90,7 +90,7 @@ right_planned setting before s boot installed is right = record {
 -- tables are sent as they are planned, and stay so
 pub record IsPlannedSoFar (setting : Setting) (journal : List Item) : Type 0 where
   pub marks : IsThere journal
-  pub versions : VersionsAreNumbered journal
+  pub versions : JournalVersionsAreNumbered journal
   pub installs : InstallsArePlanned setting journal
 
 pub planned_kept : (setting : Setting) → AreKept (HasControlItemCause setting) (IsPlannedSoFar setting)
@@ -126,13 +126,13 @@ installs_planned setting journal have = (caused_planned setting journal have).in
 -- a message that lets a switch stamp, or says that it does, is of a version that is current or was
 abbrev pub IsOfCurrent : List Item → Place → Body → Type 0
 IsOfCurrent journal (Place.Switch s) body =
-    IfSome (journal_stamp_in_body body) (λ version. version ≤ journal_current_mark journal)
+    IfSome (machine_stamp_message_version body) (λ version. version ≤ journal_current_mark journal)
 IsOfCurrent journal Place.Controller (Stamped s boot version) = version ≤ journal_current_mark journal
 IsOfCurrent journal to body = ⊤
 
 pub record StampsAreCurrent (journal : List Item) : Type 0 where
   pub marks : IsThere journal
-  pub sent : (n : ℕ) (message : Message) → message_of journal n ≡ Some message
+  pub sent : (n : ℕ) (message : Message) → journal_message_of journal n ≡ Some message
       → IsOfCurrent journal message.to message.body
   pub opened : (s boot version : ℕ) → opened_in journal s boot ≡ Some version
       → (version ≤ journal_current_mark journal) × (boot ≤ journal_known_boot journal s)
@@ -144,7 +144,7 @@ pub record StampsAreCurrent (journal : List Item) : Type 0 where
 -- ---- openings
 
 pub right_current : (before : List Item) (s boot version : ℕ) → StampsAreCurrent before
-    → IsRightOpening before s boot version → version ≤ journal_current_mark before
+    → IsRightControlOpening before s boot version → version ≤ journal_current_mark before
 right_current before s boot version are right = elim right.opens [
   | inl first ↦ omega (arith, first.current)
   | inr same ↦ (are.opened s (journal_known_boot before s) version (sym (opened_is before s) ∙ same)).0
@@ -172,14 +172,14 @@ opened_on setting before next s boot version cause are opened =
         × (boot ≤ journal_known_boot (before ++ next ∷ []) s)
     by_opened (Some w) e opens = later (are.opened s boot version (e ∙ opens))
     by_opened None e opens =
-        let right : IsRightOpening before s boot version = subst (HasControlItemCause setting before)
+        let right : IsRightControlOpening before s boot version = subst (HasControlItemCause setting before)
         (opens_by next s boot version opens).1 cause in
         later (right_current before s boot version are right, omega arith)
 
 -- ---- messages
 
 sent_current : (setting : Setting) (before : List Item) (to : Place) (body : Body)
-    → StampsAreCurrent before → IsRightMessage setting before to body → IsOfCurrent before to body
+    → StampsAreCurrent before → IsRightControlMessage setting before to body → IsOfCurrent before to body
 sent_current setting before (Place.Switch s) (OpenAt boot version) are right =
     right_current before s boot version are right
 sent_current setting before (Place.Switch s) (Stamp boot version touched) are right =
@@ -192,7 +192,7 @@ sent_current setting before Place.Controller _ are right = tt
 current_on : (setting : Setting) (before : List Item) (next : Item) (to : Place) (body : Body)
     → HasControlItemCause setting before next → IsOfCurrent before to body
     → IsOfCurrent (before ++ next ∷ []) to body
-current_on setting before next (Place.Switch s) body cause is = IfSome_then (journal_stamp_in_body body) is
+current_on setting before next (Place.Switch s) body cause is = IfSome_then (machine_stamp_message_version body) is
     (λ version below. omega (arith, below, current_rises setting before next cause))
 current_on setting before next Place.Controller (Stamped s boot version) cause is =
     omega (arith, is, current_rises setting before next cause)
@@ -201,7 +201,7 @@ current_on setting before next Place.Controller _ cause is = tt
 -- ---- stamps
 
 delivered_current : (before : List Item) (s number : ℕ) → StampsAreCurrent before
-    → raised (journal_stamp_of before s) (option_and_then journal_stamp_in_body (journal_body_to_switch before s number))
+    → raised (journal_stamp_of before s) (option_and_then machine_stamp_message_version (journal_body_to_switch before s number))
     ≤ journal_current_mark before
 delivered_current before s number are = by_said (journal_body_to_switch before s number) refl where
   by_stamp : (stamp : Option ℕ) → IfSome stamp (λ version. version ≤ journal_current_mark before)
@@ -210,9 +210,9 @@ delivered_current before s number are = by_said (journal_body_to_switch before s
   by_stamp (Some version) current = omega (arith, are.stamps s, current)
 
   by_said : (said : Option Body) → journal_body_to_switch before s number ≡ said
-      → raised (journal_stamp_of before s) (option_and_then journal_stamp_in_body said) ≤ journal_current_mark before
+      → raised (journal_stamp_of before s) (option_and_then machine_stamp_message_version said) ≤ journal_current_mark before
   by_said None e = are.stamps s
-  by_said (Some body) e = by_stamp (journal_stamp_in_body body)
+  by_said (Some body) e = by_stamp (machine_stamp_message_version body)
       (are.sent number (machine_message_to_switch s body) (said_parts before s number body e).sent)
 
 stamps_on : (setting : Setting) (before : List Item) (next : Item) (s : ℕ)
@@ -298,7 +298,7 @@ unfolding opened_in
 first_opened s boot version opened = grind (arith, nat_tests)
 
 none_told : (s boot : ℕ) → told_by (machine_stamped_version_in s boot) [] ≡ []
-unfolding controller_heard
+unfolding journal_controller_heard
 none_told s boot = refl
 
 pub current_at_first : StampsAreCurrent []
@@ -318,7 +318,7 @@ current_at_first = record {
 -- what it heard before goes on to hold, and what it hears now was sent to it
 pub heard_on : (P Q : Body → Type 0) (before : List Item) (next : Item) (s : ℕ)
     → ((body : Body) → P body → Q body)
-    → ((number : ℕ) (body : Body) → message_of before number ≡ Some (machine_message_to_switch s body) → P body)
+    → ((number : ℕ) (body : Body) → journal_message_of before number ≡ Some (machine_message_to_switch s body) → P body)
     → AllByRecursion P (heard before s) → AllByRecursion Q (heard (before ++ next ∷ []) s)
 heard_on P Q before (Item.Down t) s on sent all =
     subst (AllByRecursion Q) (sym (heard_more before (Item.Down t) s)) (by_test (t == s))
@@ -348,11 +348,11 @@ heard_on P Q before next s on sent all = subst (AllByRecursion Q) (sym (heard_mo
 
 record AreTouched (setting : Setting) (journal : List Item) : Type 0 where
   marks : IsThere journal
-  versions : VersionsAreNumbered journal
+  versions : JournalVersionsAreNumbered journal
   stamps : StampsSayTouched setting journal
 
 touched_on : (setting : Setting) (before : List Item) (next : Item) (version : ℕ)
-    (touched : List WordValue) → VersionsAreNumbered before
+    (touched : List WordValue) → JournalVersionsAreNumbered before
     → IsStampMessageTouched setting before version touched
     → IsStampMessageTouched setting (before ++ next ∷ []) version touched
 touched_on setting before next version touched are is = record {
@@ -367,7 +367,7 @@ touched_kept setting before next cause are = record {
   versions = numbered_kept setting before next cause are.versions;
   stamps = record {
     sent = λ n s boot version touched is. elim
-        (by_number before next n (stamp_message_to s boot version touched) is) [
+        (by_number before next n (control_stamp_message_to s boot version touched) is) [
           | inl new ↦ let right = subst (HasControlItemCause setting before) new cause in
               touched_on setting before next version touched are.versions (record {
                 first = omega (arith, right.current, are.marks.first);

@@ -1,10 +1,10 @@
 -- What one more item makes of each fact of switches, messages and the controller.
 use Rattle.std.proofs.Common.{[], ◌++◌, ◌+◌, ◌<◌, ◌==◌, ◌||◌, ◌∙◌, ◌∷◌, ◌≡◌, ◌≤◌, ◌⊎◌, Bool, IsTrue, List, None, Option, Some, ap, append-nil, append_assoc, arith, eq-eqb, eqb-true, false, filter_map, fold, if◌then◌else◌, inl, inr, max, nat_lt, option_and_then, option_to_list, refl, subst, sym, true, unwrap_or, zero-add, ℕ}
 use Rattle.base.proofs.Exports.{IfSome_then, filter_map-append, fold-append, nat_tests, option_map_or, option_or}
-use Rattle.update_machine.specs.Exports.{Advertise, Body, CacheRule, JournalItemsHaveCauses, Hello, Installed, Item, Message, OpenAt, Place, Setting, Stamped, Step, journal_all_given, journal_body_to_controller, journal_body_to_switch, journal_boot_of, changes_controller_heard, changes_heard, item_changes_over, controller_heard, count_of, journal_current_mark, machine_first_open, journal_first_stamp, item_gives_boot, gives_current, item_gives_message, item_gives_retired, item_gives_serving, item_gives_switch_up, machine_greatest_stamp_number, heard, journal_hello_boot, is_over, is_submission, is_up, journal_known_boot, journal_last_given, message_of, machine_open_sent, opened_at, piece, journal_raises_known_boot, journal_retired_mark, serves, machine_speaking_in_body, journal_stamp_in_body, journal_stamp_of, step_items, machine_message_to_switch, journal_version_count}
+use Rattle.update_machine.specs.Exports.{Advertise, Body, CacheRule, JournalItemsHaveCauses, Hello, Installed, Item, Message, OpenAt, Place, Setting, Stamped, Step, journal_all_given, journal_body_to_controller, journal_body_to_switch, journal_boot_of, changes_controller_heard, changes_journal_heard, item_changes_over, journal_controller_heard, count_of, journal_current_mark, machine_first_open, journal_first_stamp, machine_item_gives_boot, gives_current, machine_item_gives_message, machine_item_gives_retired, machine_item_gives_serving, machine_item_gives_switch_up, machine_greatest_stamp_number, heard, machine_hello_boot, is_over, is_journal_submission, is_up, journal_known_boot, journal_last_given, journal_message_of, machine_open_sent, journal_opened_at, piece, journal_raises_known_boot, journal_retired_mark, serves, machine_speaking_in_body, machine_stamp_message_version, journal_stamp_of, machine_step_items, machine_message_to_switch, journal_version_count}
 use Rattle.update_machine.proofs.Exports.{all_given_append, count_of_append, folded_append, have_first, last_given_append, start_laws}
 pub use Rattle.update_machine.proofs.UpdateMachineCallerLemmas.{steps_have}
-use Rattle.control_laws.specs.Exports.{BootsAreKnown, HasControlItemCause, HasPastBoot, IsRightMessage}
+use Rattle.control_laws.specs.Exports.{BootsAreKnown, HasControlItemCause, HasPastBoot, IsRightControlMessage}
 use Rattle.ctrl_msg.specs.Exports.{body_boot, to_controller}
 
 -- the last item tells, or else those before it
@@ -20,19 +20,19 @@ last_more {X = X} tells before item other = ap (λ o. unwrap_or o other)
     by_told (Some x) earlier = refl
 
 pub boot_more : (before : List Item) (item : Item) (s : ℕ)
-    → journal_boot_of (before ++ item ∷ []) s ≡ unwrap_or (item_gives_boot s item) (journal_boot_of before s)
+    → journal_boot_of (before ++ item ∷ []) s ≡ unwrap_or (machine_item_gives_boot s item) (journal_boot_of before s)
 unfolding journal_boot_of
-boot_more before item s = last_more (item_gives_boot s) before item 1
+boot_more before item s = last_more (machine_item_gives_boot s) before item 1
 
 pub up_more : (before : List Item) (item : Item) (s : ℕ)
-    → is_up (before ++ item ∷ []) s ≡ unwrap_or (item_gives_switch_up s item) (is_up before s)
+    → is_up (before ++ item ∷ []) s ≡ unwrap_or (machine_item_gives_switch_up s item) (is_up before s)
 unfolding is_up
-up_more before item s = last_more (item_gives_switch_up s) before item true
+up_more before item s = last_more (machine_item_gives_switch_up s) before item true
 
 pub serving_more : (before : List Item) (item : Item) (s : ℕ)
-    → serves (before ++ item ∷ []) s ≡ unwrap_or (item_gives_serving s item) (serves before s)
+    → serves (before ++ item ∷ []) s ≡ unwrap_or (machine_item_gives_serving s item) (serves before s)
 unfolding serves
-serving_more before item s = last_more (item_gives_serving s) before item true
+serving_more before item s = last_more (machine_item_gives_serving s) before item true
 
 pub current_more : (before : List Item) (item : Item)
     → journal_current_mark (before ++ item ∷ []) ≡ unwrap_or (gives_current item) (journal_current_mark before)
@@ -40,9 +40,9 @@ unfolding journal_current_mark
 current_more before item = last_more gives_current before item 1
 
 pub retired_more : (before : List Item) (item : Item)
-    → journal_retired_mark (before ++ item ∷ []) ≡ unwrap_or (item_gives_retired item) (journal_retired_mark before)
+    → journal_retired_mark (before ++ item ∷ []) ≡ unwrap_or (machine_item_gives_retired item) (journal_retired_mark before)
 unfolding journal_retired_mark
-retired_more before item = last_more item_gives_retired before item 0
+retired_more before item = last_more machine_item_gives_retired before item 0
 
 -- a count from one, with one more item
 pub counted_more : (test : Item → Bool) (before : List Item) (item : Item)
@@ -65,23 +65,23 @@ some_more test before item = by_test (test item) refl where
   by_test b is = grind (arith, nat_tests, count_of_append test before (item ∷ []))
 
 pub count_more : (before : List Item) (item : Item) → journal_version_count (before ++ item ∷ [])
-    ≡ (if is_submission item then journal_version_count before + 1 else journal_version_count before)
+    ≡ (if is_journal_submission item then journal_version_count before + 1 else journal_version_count before)
 unfolding journal_version_count
-count_more before item = counted_more is_submission before item
+count_more before item = counted_more is_journal_submission before item
 
 pub message_more : (before : List Item) (item : Item) (n : ℕ)
-    → message_of (before ++ item ∷ []) n ≡ option_or (item_gives_message n item) (message_of before n)
-unfolding message_of
-message_more before item n = last_given_append (item_gives_message n) before (item ∷ [])
+    → journal_message_of (before ++ item ∷ []) n ≡ option_or (machine_item_gives_message n item) (journal_message_of before n)
+unfolding journal_message_of
+message_more before item n = last_given_append (machine_item_gives_message n) before (item ∷ [])
 
 pub heard_more : (before : List Item) (item : Item) (s : ℕ)
-    → heard (before ++ item ∷ []) s ≡ changes_heard s before (heard before s) item
+    → heard (before ++ item ∷ []) s ≡ changes_journal_heard s before (heard before s) item
 unfolding heard
-heard_more before item s = folded_append (changes_heard s) [] before (item ∷ [])
+heard_more before item s = folded_append (changes_journal_heard s) [] before (item ∷ [])
 
-pub told_more : (before : List Item) (item : Item) → controller_heard (before ++ item ∷ [])
-    ≡ changes_controller_heard before (controller_heard before) item
-unfolding controller_heard
+pub told_more : (before : List Item) (item : Item) → journal_controller_heard (before ++ item ∷ [])
+    ≡ changes_controller_heard before (journal_controller_heard before) item
+unfolding journal_controller_heard
 told_more before item = folded_append changes_controller_heard [] before (item ∷ [])
 
 pub over_more : (before : List Item) (item : Item) (s : ℕ)
@@ -99,7 +99,7 @@ sent_more before item s boot = all_given_append (machine_open_sent s boot) befor
 -- the boot of a hello of the switch that an item delivers
 abbrev pub hello_told : ℕ → List Item → Item → Option ℕ
 hello_told s before (Item.Delivered number) =
-    option_and_then (journal_hello_boot s) (journal_body_to_controller before number)
+    option_and_then (machine_hello_boot s) (journal_body_to_controller before number)
 hello_told s before _ = None
 
 abbrev pub raised : ℕ → Option ℕ → ℕ
@@ -113,19 +113,19 @@ known_more before (Item.Delivered number) s =
     cc (told_more before (Item.Delivered number), by_said (journal_body_to_controller before number))
   where
     by_said : (said : Option Body)
-        → fold max 1 (filter_map (journal_hello_boot s) (controller_heard before ++ option_to_list said))
-        ≡ raised (fold max 1 (filter_map (journal_hello_boot s) (controller_heard before)))
-        (option_and_then (journal_hello_boot s) said)
-    by_said None = cc (append-nil (controller_heard before))
+        → fold max 1 (filter_map (machine_hello_boot s) (journal_controller_heard before ++ option_to_list said))
+        ≡ raised (fold max 1 (filter_map (machine_hello_boot s) (journal_controller_heard before)))
+        (option_and_then (machine_hello_boot s) said)
+    by_said None = cc (append-nil (journal_controller_heard before))
     by_said (Some body) =
-        ap (fold max 1) (filter_map-append (journal_hello_boot s) (controller_heard before) (body ∷ []))
-        ∙ fold-append max 1 (filter_map (journal_hello_boot s) (controller_heard before))
-        (filter_map (journal_hello_boot s) (body ∷ [])) ∙ by_hello (journal_hello_boot s body) refl
+        ap (fold max 1) (filter_map-append (machine_hello_boot s) (journal_controller_heard before) (body ∷ []))
+        ∙ fold-append max 1 (filter_map (machine_hello_boot s) (journal_controller_heard before))
+        (filter_map (machine_hello_boot s) (body ∷ [])) ∙ by_hello (machine_hello_boot s body) refl
       where
-        by_hello : (hello : Option ℕ) → journal_hello_boot s body ≡ hello →
-            fold max (fold max 1 (filter_map (journal_hello_boot s) (controller_heard before)))
-            (filter_map (journal_hello_boot s) (body ∷ []))
-            ≡ raised (fold max 1 (filter_map (journal_hello_boot s) (controller_heard before))) hello
+        by_hello : (hello : Option ℕ) → machine_hello_boot s body ≡ hello →
+            fold max (fold max 1 (filter_map (machine_hello_boot s) (journal_controller_heard before)))
+            (filter_map (machine_hello_boot s) (body ∷ []))
+            ≡ raised (fold max 1 (filter_map (machine_hello_boot s) (journal_controller_heard before))) hello
         by_hello None e = rw e refl
         by_hello (Some boot) e = rw e refl
 known_more before item s = cc (told_more before item)
@@ -134,7 +134,7 @@ known_more before item s = cc (told_more before item)
 
 -- a body that is heard raises the stamp to its version, if it has one
 pub stamp_told : (before : List Item) (n s : ℕ) → journal_stamp_of (before ++ Item.Delivered n ∷ []) s
-    ≡ raised (journal_stamp_of before s) (option_and_then journal_stamp_in_body (journal_body_to_switch before s n))
+    ≡ raised (journal_stamp_of before s) (option_and_then machine_stamp_message_version (journal_body_to_switch before s n))
 unfolding journal_stamp_of
 stamp_told before n s =
     let bodies : heard (before ++ Item.Delivered n ∷ []) s
@@ -143,22 +143,22 @@ stamp_told before n s =
     rw ((boot_more before (Item.Delivered n) s), up_more before (Item.Delivered n) s, bodies)
     (by_said (journal_body_to_switch before s n))
   where
-    by_said : (said : Option Body) → machine_greatest_stamp_number (journal_first_stamp before s ++ filter_map journal_stamp_in_body
+    by_said : (said : Option Body) → machine_greatest_stamp_number (journal_first_stamp before s ++ filter_map machine_stamp_message_version
         (option_map_or (λ body. heard before s ++ body ∷ []) said (heard before s)))
-        ≡ raised (machine_greatest_stamp_number (journal_first_stamp before s ++ filter_map journal_stamp_in_body (heard before s)))
-        (option_and_then journal_stamp_in_body said)
+        ≡ raised (machine_greatest_stamp_number (journal_first_stamp before s ++ filter_map machine_stamp_message_version (heard before s)))
+        (option_and_then machine_stamp_message_version said)
     by_said None = refl
     by_said (Some body) =
-        ap (λ xs. machine_greatest_stamp_number (journal_first_stamp before s ++ xs)) (filter_map-append journal_stamp_in_body
+        ap (λ xs. machine_greatest_stamp_number (journal_first_stamp before s ++ xs)) (filter_map-append machine_stamp_message_version
         (heard before s) (body ∷ [])) ∙ ap machine_greatest_stamp_number (sym (append_assoc (journal_first_stamp before s)
-        (filter_map journal_stamp_in_body (heard before s)) (filter_map journal_stamp_in_body (body ∷ [])))) ∙ fold-append max
-        0 (journal_first_stamp before s ++ filter_map journal_stamp_in_body (heard before s))
-        (filter_map journal_stamp_in_body (body ∷ [])) ∙ by_stamp (journal_stamp_in_body body) refl
+        (filter_map machine_stamp_message_version (heard before s)) (filter_map machine_stamp_message_version (body ∷ [])))) ∙ fold-append max
+        0 (journal_first_stamp before s ++ filter_map machine_stamp_message_version (heard before s))
+        (filter_map machine_stamp_message_version (body ∷ [])) ∙ by_stamp (machine_stamp_message_version body) refl
       where
-        by_stamp : (stamp : Option ℕ) → journal_stamp_in_body body ≡ stamp → fold max
-            (machine_greatest_stamp_number (journal_first_stamp before s ++ filter_map journal_stamp_in_body (heard before s)))
-            (filter_map journal_stamp_in_body (body ∷ [])) ≡ raised
-            (machine_greatest_stamp_number (journal_first_stamp before s ++ filter_map journal_stamp_in_body (heard before s))) stamp
+        by_stamp : (stamp : Option ℕ) → machine_stamp_message_version body ≡ stamp → fold max
+            (machine_greatest_stamp_number (journal_first_stamp before s ++ filter_map machine_stamp_message_version (heard before s)))
+            (filter_map machine_stamp_message_version (body ∷ [])) ≡ raised
+            (machine_greatest_stamp_number (journal_first_stamp before s ++ filter_map machine_stamp_message_version (heard before s))) stamp
         by_stamp None e = rw e refl
         by_stamp (Some version) e = rw e refl
 
@@ -169,9 +169,9 @@ unfoldable pub opened_in : List Item → ℕ → ℕ → Option ℕ
 opened_in journal s boot = if boot == 1 then Some 1
     else machine_first_open (journal_all_given (machine_open_sent s boot) journal)
 
-pub opened_is : (journal : List Item) (s : ℕ) → opened_at journal s ≡ opened_in journal s
+pub opened_is : (journal : List Item) (s : ℕ) → journal_opened_at journal s ≡ opened_in journal s
     (journal_known_boot journal s)
-unfolding opened_at opened_in
+unfolding journal_opened_at opened_in
 opened_is journal s = refl
 
 pub opened_more : (before : List Item) (item : Item) (s boot : ℕ)
@@ -193,8 +193,8 @@ opened_more before item s boot = by_test (boot == 1) where
 
 -- in the known boot, where that stays
 pub opened_at_more : (before : List Item) (next : Item) (s : ℕ) → journal_known_boot (before ++ next ∷ []) s
-    ≡ journal_known_boot before s → opened_at (before ++ next ∷ []) s
-    ≡ option_or (opened_at before s) (machine_first_open (machine_open_sent s (journal_known_boot before s) next))
+    ≡ journal_known_boot before s → journal_opened_at (before ++ next ∷ []) s
+    ≡ option_or (journal_opened_at before s) (machine_first_open (machine_open_sent s (journal_known_boot before s) next))
 opened_at_more before next s known = opened_is (before ++ next ∷ []) s
     ∙ ap (opened_in (before ++ next ∷ []) s) known ∙ opened_more before next s (journal_known_boot before s)
     ∙ ap (λ o. option_or o (machine_first_open (machine_open_sent s (journal_known_boot before s) next)))
@@ -219,11 +219,11 @@ Has setting journal items = JournalItemsHaveCauses (HasControlItemCause setting)
 pub piece_has : (cause : List Item → Item → Type 0) (setting : Setting) (journal : List Item)
     (row : ℕ) (step : Step) → cause journal (Item.Row row step)
     → (let here = journal ++ Item.Row row step ∷ [] in
-    JournalItemsHaveCauses cause here (step_items setting journal step here))
+    JournalItemsHaveCauses cause here (machine_step_items setting journal step here))
     → JournalItemsHaveCauses cause journal (piece setting journal row step)
 unfolding piece
 piece_has cause setting journal row step =
-    have_first cause (Item.Row row step) (step_items setting journal step) journal
+    have_first cause (Item.Row row step) (machine_step_items setting journal step) journal
 
 -- causes that others follow from
 pub have_weaker : (one other : List Item → Item → Type 0) →
@@ -314,13 +314,13 @@ with_fact cause fact kept before (item ∷ items) have known = (
 
 -- what is said to the controller was sent to it
 pub said_sent : (before : List Item) (number : ℕ) (body : Body) → journal_body_to_controller before number
-    ≡ Some body → message_of before number ≡ Some (to_controller body)
+    ≡ Some body → journal_message_of before number ≡ Some (to_controller body)
 said_sent before number body said = grind arith
 
 -- a hello that was told was sent
 pub hello_sent : (before : List Item) (s number boot : ℕ)
-    → option_and_then (journal_hello_boot s) (journal_body_to_controller before number) ≡ Some boot
-    → message_of before number ≡ Some (to_controller (Hello s boot))
+    → option_and_then (machine_hello_boot s) (journal_body_to_controller before number) ≡ Some boot
+    → journal_message_of before number ≡ Some (to_controller (Hello s boot))
 hello_sent before s number boot told = grind (arith, nat_tests)
 
 -- ---- boots rise
@@ -338,7 +338,7 @@ known_rises before item s = rw (known_more before item s)
 pub hello_above : (before : List Item) (s number : ℕ) → IsTrue (journal_raises_known_boot before s number)
     → journal_known_boot before s < journal_known_boot (before ++ Item.Delivered number ∷ []) s
 hello_above before s number raises = rw (known_more before (Item.Delivered number) s)
-    (by_hello (option_and_then (journal_hello_boot s) (journal_body_to_controller before number)) raises)
+    (by_hello (option_and_then (machine_hello_boot s) (journal_body_to_controller before number)) raises)
   where
     by_hello : (hello : Option ℕ)
         → IsTrue (option_map_or (λ boot. nat_lt (journal_known_boot before s) boot) hello false)
@@ -362,7 +362,7 @@ past_on setting before item Place.Controller body cause past = IfSome_then (mach
     (λ of below. omega (arith, below, boot_rises setting before item of.0 cause))
 
 sent_past : (setting : Setting) (before : List Item) (to : Place) (body : Body)
-    → IsRightMessage setting before to body → HasPastBoot before to body
+    → IsRightControlMessage setting before to body → HasPastBoot before to body
 sent_past setting before (Place.Switch s) (CacheRule version word rule action) right = tt
 sent_past setting before (Place.Switch s) (Advertise advert) right = tt
 sent_past setting before (Place.Switch s) (Hello t boot) right = absurd right
@@ -378,11 +378,11 @@ sent_past setting before Place.Controller _ right = absurd right
 
 -- a message of a number is the one that the item sends, or was sent before
 pub by_number : (before : List Item) (next : Item) (n : ℕ) (message : Message)
-    → message_of (before ++ next ∷ []) n ≡ Some message
-    → (next ≡ Item.Sent n message) ⊎ (message_of before n ≡ Some message)
+    → journal_message_of (before ++ next ∷ []) n ≡ Some message
+    → (next ≡ Item.Sent n message) ⊎ (journal_message_of before n ≡ Some message)
 by_number before (Item.Sent number sent) n message is = by_test (number == n) refl where
   by_test : (b : Bool) → (number == n) ≡ b →
-      (Item.Sent number sent ≡ Item.Sent n message) ⊎ (message_of before n ≡ Some message)
+      (Item.Sent number sent ≡ Item.Sent n message) ⊎ (journal_message_of before n ≡ Some message)
   by_test true e = let own = rw (message_more before (Item.Sent number sent) n, e) at is in
       inl (ap (λ k. Item.Sent k sent) (eqb-true number n e) ∙ ap (Item.Sent n) cc)
   by_test false e = inr (rw (message_more before (Item.Sent number sent) n, e) at is)
@@ -393,9 +393,9 @@ pub new_or_old : (cause : List Item → Item → Type 0) (Says : Place → Body 
     (before : List Item) (next : Item) → cause before next
     → ((n : ℕ) (message : Message) → cause before (Item.Sent n message)
     → Says message.to message.body)
-    → ((n : ℕ) (message : Message) → message_of before n ≡ Some message
+    → ((n : ℕ) (message : Message) → journal_message_of before n ≡ Some message
     → Says message.to message.body)
-    → (n : ℕ) (message : Message) → message_of (before ++ next ∷ []) n ≡ Some message
+    → (n : ℕ) (message : Message) → journal_message_of (before ++ next ∷ []) n ≡ Some message
     → Says message.to message.body
 new_or_old cause Says before next has new old n message is =
     elim (by_number before next n message is) [
@@ -405,7 +405,7 @@ new_or_old cause Says before next has new old n message is =
 
 -- a hello that is told is of a past boot
 pub told_past : (before : List Item) (s number boot : ℕ) → BootsAreKnown before
-    → option_and_then (journal_hello_boot s) (journal_body_to_controller before number) ≡ Some boot
+    → option_and_then (machine_hello_boot s) (journal_body_to_controller before number) ≡ Some boot
     → boot ≤ journal_boot_of before s
 told_past before s number boot boots told = boots.sent number (to_controller (Hello s boot))
     (hello_sent before s number boot told)
@@ -415,9 +415,9 @@ known_on : (setting : Setting) (before : List Item) (item : Item) (s : ℕ)
     → journal_known_boot (before ++ item ∷ []) s ≤ journal_boot_of (before ++ item ∷ []) s
 known_on setting before (Item.Delivered number) s cause boots =
     rw (known_more before (Item.Delivered number) s, boot_more before (Item.Delivered number) s)
-    (by_told (option_and_then (journal_hello_boot s) (journal_body_to_controller before number)) refl)
+    (by_told (option_and_then (machine_hello_boot s) (journal_body_to_controller before number)) refl)
   where
-    by_told : (o : Option ℕ) → option_and_then (journal_hello_boot s) (journal_body_to_controller before number) ≡ o
+    by_told : (o : Option ℕ) → option_and_then (machine_hello_boot s) (journal_body_to_controller before number) ≡ o
         → raised (journal_known_boot before s) o ≤ journal_boot_of before s
     by_told None e = boots.known s
     by_told (Some boot) e = omega (arith, boots.known s, told_past before s number boot boots e)

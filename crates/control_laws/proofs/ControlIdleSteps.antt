@@ -1,7 +1,7 @@
 -- The steps that leave all that the controller knows as it was.
 use Rattle.std.proofs.Common.{[], ◌++◌, ◌+◌, ◌==◌, ◌∙◌, ◌∷◌, ◌≡◌, Bool, IsFalse, IsTrue, List, None, Option, Some, ap, arith, eqb-true, false, filter, if◌then◌else◌, is_some, map, not, refl, sym, true, ℕ}
 use Rattle.base.proofs.Exports.{⊤, AllByRecursion, each_always, each_flat_map, each_map, option_or}
-use Rattle.update_machine.specs.Exports.{Advert, Body, Confirm, JournalControllerKeeps, Crash, Deliver, JournalItemsHaveCauses, Item, Message, OpenAt, Packet, Place, Resend, Restart, Setting, Step, Update, acked_stamp, advert_to, controller_heard, deliver_items, machine_first_open, has_acked, journal_held_adverts, journal_install_for, is_member, is_journal_controller_message, is_over, journal_known_boot, journal_link_changes, near, journal_next_message, journal_next_packet, machine_open_sent, opened_at, machine_advert_passed_on, piece, resend_items, restart_items, send_items, machine_sent_items_from, step_items, journal_switch_items, setting_switches_in, machine_message_to_switch, journal_unacked_installs, journal_versions_from_current}
+use Rattle.update_machine.specs.Exports.{Advert, Body, Confirm, JournalControllerKeeps, Crash, Deliver, JournalItemsHaveCauses, Item, Message, OpenAt, Packet, Place, Resend, Restart, Setting, Step, Update, acked_stamp, machine_advert_to, journal_controller_heard, deliver_items, machine_first_open, has_acked, journal_held_adverts, journal_install_for, is_member, is_journal_controller_message, is_over, journal_known_boot, journal_link_changes, near, journal_next_message, journal_next_packet, machine_open_sent, journal_opened_at, machine_advert_passed_on, piece, machine_resend_items, restart_items, send_items, machine_sent_items_from, machine_step_items, journal_switch_items, setting_switches_in, machine_message_to_switch, journal_unacked_installs, journal_versions_from_current}
 use Rattle.update_machine.proofs.Exports.{controller_keeps}
 use Rattle.control_laws.proofs.ControlFactsGrown.{count_more, current_more, fact_on, have_weaker, known_more, message_more, opened_at_more, over_more, piece_has, retired_more, told_more}
 use Rattle.control_laws.proofs.ControlMessageSends.{acked_same}
@@ -11,13 +11,13 @@ use Rattle.control_laws.proofs.ControlSwitchOpenings.{each_by_controller, each_t
 use Rattle.control_laws.proofs.ControlCommands.{each_by_switch}
 use Rattle.control_laws.proofs.ControlTrafficItems.{IsTraffic, Traffic, between_cases, links_traffic, packet_has, passed_traffic, step_traffic}
 use Rattle.control_laws.proofs.ControlSaidToController.{switch_cases}
-use Rattle.control_laws.specs.Exports.{asks_controller}
+use Rattle.control_laws.specs.Exports.{control_asks_controller}
 
 -- ---- items that leave all that the controller knows as it was
 
 -- a message that opens no switch that wasn't opened in its known boot
 abbrev pub OpensNone : List Item → Place → Body → Type 0
-OpensNone before (Place.Switch s) (OpenAt boot version) = IsTrue (is_some (opened_at before s))
+OpensNone before (Place.Switch s) (OpenAt boot version) = IsTrue (is_some (journal_opened_at before s))
 OpensNone before Place.Controller (OpenAt boot version) = ⊥
 OpensNone before to body = ⊤
 
@@ -33,40 +33,40 @@ LeavesController before _ = ⊤
 -- ---- a switch that is opened once more
 
 pub member_same : (before after : List Item) (s : ℕ) → is_over after s ≡ is_over before s
-    → opened_at after s ≡ opened_at before s → is_member after s ≡ is_member before s
+    → journal_opened_at after s ≡ journal_opened_at before s → is_member after s ≡ is_member before s
 unfolding is_member
 member_same before after s over opened = rw (over, opened) refl
 
-pub stamp_same : (before after : List Item) (s : ℕ) → controller_heard after
-    ≡ controller_heard before → journal_known_boot after s ≡ journal_known_boot before s
-    → opened_at after s ≡ opened_at before s → acked_stamp after s ≡ acked_stamp before s
+pub stamp_same : (before after : List Item) (s : ℕ) → journal_controller_heard after
+    ≡ journal_controller_heard before → journal_known_boot after s ≡ journal_known_boot before s
+    → journal_opened_at after s ≡ journal_opened_at before s → acked_stamp after s ≡ acked_stamp before s
 unfolding acked_stamp
 stamp_same before after s heard known opened = rw (heard, known, opened) refl
 
 -- the first opening of a switch in a boot counts
-reopened : (before : List Item) (n s boot version : ℕ) → IsTrue (is_some (opened_at before s))
-    → (t : ℕ) → opened_at (before ++ Item.Sent n (machine_message_to_switch s (OpenAt boot version)) ∷ []) t
-    ≡ opened_at before t
+reopened : (before : List Item) (n s boot version : ℕ) → IsTrue (is_some (journal_opened_at before s))
+    → (t : ℕ) → journal_opened_at (before ++ Item.Sent n (machine_message_to_switch s (OpenAt boot version)) ∷ []) t
+    ≡ journal_opened_at before t
 reopened before n s boot version opened t =
-    opened_at_more before next t (known_more before next t) ∙ by_opened (opened_at before t) refl
+    opened_at_more before next t (known_more before next t) ∙ by_opened (journal_opened_at before t) refl
   where
     next : Item
     next = Item.Sent n (machine_message_to_switch s (OpenAt boot version))
 
-    by_switch : (b : Bool) → (s == t) ≡ b → opened_at before t ≡ None → machine_first_open (if b
+    by_switch : (b : Bool) → (s == t) ≡ b → journal_opened_at before t ≡ None → machine_first_open (if b
         then (if boot == journal_known_boot before t then version ∷ [] else []) else []) ≡ None
     by_switch true e closed =
-        let same : opened_at before s ≡ None = ap (opened_at before) (eqb-true s t e) ∙ closed in
+        let same : journal_opened_at before s ≡ None = ap (journal_opened_at before) (eqb-true s t e) ∙ closed in
         absurd (cc (sym (ap (λ o. is_some o) same) ∙ opened))
     by_switch false e closed = refl
 
-    by_opened : (o : Option ℕ) → opened_at before t ≡ o → option_or (opened_at before t)
-        (machine_first_open (machine_open_sent t (journal_known_boot before t) next)) ≡ opened_at before t
+    by_opened : (o : Option ℕ) → journal_opened_at before t ≡ o → option_or (journal_opened_at before t)
+        (machine_first_open (machine_open_sent t (journal_known_boot before t) next)) ≡ journal_opened_at before t
     by_opened (Some w) e = rw e refl
     by_opened None e = rw e (by_switch (s == t) refl e)
 
 reopening_keeps : (before : List Item) (n s boot version : ℕ)
-    → IsTrue (is_some (opened_at before s)) → JournalControllerKeeps before
+    → IsTrue (is_some (journal_opened_at before s)) → JournalControllerKeeps before
     (before ++ Item.Sent n (machine_message_to_switch s (OpenAt boot version)) ∷ [])
 reopening_keeps before n s boot version opened =
     let next : Item = Item.Sent n (machine_message_to_switch s (OpenAt boot version)) in
@@ -250,13 +250,13 @@ unacked_reopen setting journal s versions = installs_reopen setting journal s
     (filter (λ version. not (has_acked journal s version)) versions)
 
 resend_leaves : (setting : Setting) (s : ℕ) (journal : List Item)
-    → Leave journal (resend_items setting s journal)
+    → Leave journal (machine_resend_items setting s journal)
 resend_leaves setting s journal = resent_has LeavesController (ReopensAlone journal) setting s
     journal tt (sends_leave journal) (each_by_switch (ReopensAlone journal) setting journal s
     (λ up. tt) (each_flat_map (ReopensAlone journal)
-    (λ neighbour. map (advert_to neighbour) (journal_held_adverts setting journal s)) (λ neighbour. each_map
-    (ReopensAlone journal) (advert_to neighbour) (journal_held_adverts setting journal s)
-    (each_always (λ advert. ReopensAlone journal (advert_to neighbour advert)) (λ advert. tt)
+    (λ neighbour. map (machine_advert_to neighbour) (journal_held_adverts setting journal s)) (λ neighbour. each_map
+    (ReopensAlone journal) (machine_advert_to neighbour) (journal_held_adverts setting journal s)
+    (each_always (λ advert. ReopensAlone journal (machine_advert_to neighbour advert)) (λ advert. tt)
     (journal_held_adverts setting journal s))) (setting_switches_in setting (near setting journal s))))
     (each_by_controller (ReopensAlone journal) setting journal s (λ none member. each_to_member
     (ReopensAlone journal) setting journal s (member_parts journal s member).1
@@ -266,8 +266,8 @@ resend_leaves setting s journal = resent_has LeavesController (ReopensAlone jour
 -- ---- steps
 
 step_leaves : (setting : Setting) (before : List Item) (row : ℕ) (step : Step)
-    → IsFalse (asks_controller before step) → let here = before ++ Item.Row row step ∷ [] in
-    Leave here (step_items setting before step here)
+    → IsFalse (control_asks_controller before step) → let here = before ++ Item.Row row step ∷ [] in
+    Leave here (machine_step_items setting before step here)
 step_leaves setting before row (Packet s header) none =
     packet_has setting LeavesController (traffic_leaves setting) (journal_next_packet before) s header _ tt
 step_leaves setting before row (Deliver message) none =
@@ -282,7 +282,7 @@ step_leaves setting before row step none =
     traffic_leave setting _ _ (step_traffic setting before step _ tt)
 
 pub others_keep : (setting : Setting) (journal : List Item) (row : ℕ) (step : Step)
-    → IsFalse (asks_controller journal step)
+    → IsFalse (control_asks_controller journal step)
     → JournalControllerKeeps journal (journal ++ piece setting journal row step)
 others_keep setting journal row step none = leaves_keep journal _ (piece_has LeavesController
     setting journal row step tt (step_leaves setting journal row step none))

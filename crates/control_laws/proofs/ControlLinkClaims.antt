@@ -2,15 +2,15 @@
 -- one, and its newest claim, change together item by item.
 use Rattle.std.proofs.Common.{[], if◌then◌else◌, ◌&&◌, ◌++◌, ◌<◌, ◌==◌, ◌||◌, ◌∙◌, ◌∷◌, ◌≡◌, ◌≢◌, ◌≤◌, Bool, IsTrue, List, None, Option, Some, ap, arith, eq-eqb, false, filter_map, length, lt-ltb, map, nat_lt, ne_eqb, option_and_then, refl, subst, sym, true, ℕ, rules}
 use Rattle.base.proofs.Exports.{and_right, bit_at, cases_eq, filter_map-append, fold-append, get_or-map-range_with_len, has_mask, nat_tests, option_map_or, ⊤}
-use Rattle.update_machine.specs.Exports.{Advert, Advertise, Body, JournalClaim, JournalItemsHaveCauses, Item, Message, Net, Place, Setting, journal_adverts_begun, journal_adverts_of_others, journal_boot_of, changes_journal_claim, changes_heard, journal_claim_by, journal_claim_in_message, journal_claim_of, heard, is_end, journal_body_for_boot, is_first_boot_in_journal, is_journal_receiver_switch, is_up, message_of, near, newer_journal_claim_of, journal_other_advert, serves, switches_of}
-use Rattle.failover.specs.Exports.{AreAdvertsByOrigin, adverts_after_hearing, after_hearing_all, first_adverts, held_advert, is_newer, is_news, names_neighbour, neighbours_named, no_adverts}
+use Rattle.update_machine.specs.Exports.{Advert, Advertise, Body, JournalClaim, JournalItemsHaveCauses, Item, Message, Net, Place, Setting, journal_adverts_begun, journal_adverts_of_others, journal_boot_of, changes_journal_claim, changes_journal_heard, journal_claim_by, journal_claim_in_message, journal_claim_of, heard, is_end, is_journal_body_for_boot, is_first_boot_in_journal, is_journal_receiver_switch, is_up, journal_message_of, near, newer_journal_claim_of, machine_advert_of_other, serves, setting_switches_of}
+use Rattle.failover.specs.Exports.{AreAdvertsByOrigin, adverts_after_hearing, after_hearing_all, first_adverts, held_advert, is_newer, is_news, names_neighbour, neighbours_named_by_advert, no_adverts}
 use Rattle.failover.proofs.FailoverHeldAdverts.{after_no_news, held-first, held_heard, held_others}
 use Rattle.base.specs.Exports.{has}
 use Rattle.net_file.specs.Exports.{IsNet, links_of}
 use Rattle.net_file.proofs.NetFileRowPlaces.{links}
 use Rattle.steps.specs.Exports.{HasLink, HasSwitch}
 use Rattle.update_machine.proofs.Exports.{folded_append, heard_by_origin, near_usable, start_laws, usable_linked}
-use Rattle.control_laws.specs.Exports.{HasControlItemCause, AdvertNamesLinks}
+use Rattle.control_laws.specs.Exports.{HasControlItemCause, ControlAdvertNamesLinks}
 use Rattle.control_laws.proofs.ControlFactsGrown.{AreKept, boot_more, boot_rises, fact_on, have_weaker, heard_more, up_more}
 use Rattle.control_laws.proofs.ControlSwitchOpenings.{caused_known}
 use Rattle.control_laws.proofs.ControlAllAdverts.{AreSuch, HasBothCauses, IfAdvert, none_held, such_at_first, such_kept}
@@ -103,26 +103,26 @@ advert_heard adverts advert one claim by small same =
 -- ---- one item
 
 others_more : (adverts : List (Option Advert)) (s : ℕ) (bodies : List Body) (body : Body)
-    → after_hearing_all adverts (filter_map (journal_other_advert s) (bodies ++ body ∷ []))
-    ≡ after_hearing_all (after_hearing_all adverts (filter_map (journal_other_advert s) bodies))
-    (filter_map (journal_other_advert s) (body ∷ []))
+    → after_hearing_all adverts (filter_map (machine_advert_of_other s) (bodies ++ body ∷ []))
+    ≡ after_hearing_all (after_hearing_all adverts (filter_map (machine_advert_of_other s) bodies))
+    (filter_map (machine_advert_of_other s) (body ∷ []))
 others_more adverts s bodies body = search (rules, filter_map-append, fold-append)
 
 -- a body that a switch heard, or that wasn't for it
 body_heard : (adverts : List (Option Advert)) (bodies : List Body)
     (s one t boot : ℕ) (up : Bool) (body : Body) (claim : Option JournalClaim) → IsTrue up
-    → AreAdvertsByOrigin (after_hearing_all adverts (filter_map (journal_other_advert s) bodies))
+    → AreAdvertsByOrigin (after_hearing_all adverts (filter_map (machine_advert_of_other s) bodies))
     → one ≢ s → one < 64 → AreSame
-    (held_advert (after_hearing_all adverts (filter_map (journal_other_advert s) bodies)) one) claim
+    (held_advert (after_hearing_all adverts (filter_map (machine_advert_of_other s) bodies)) one) claim
     → AreSame
-    (held_advert (after_hearing_all adverts (filter_map (journal_other_advert s) (option_map_or (λ b. bodies
-    ++ b ∷ []) (if (t == s) && up && journal_body_for_boot boot body then Some body else None) bodies))) one)
+    (held_advert (after_hearing_all adverts (filter_map (machine_advert_of_other s) (option_map_or (λ b. bodies
+    ++ b ∷ []) (if (t == s) && up && is_journal_body_for_boot boot body then Some body else None) bodies))) one)
     (newer_journal_claim_of claim (journal_claim_by s one (Place.Switch t) body))
 body_heard adverts bodies s one t boot up (Advertise advert) claim is by apart small same =
     by_tests (t == s) (advert.origin == s) refl refl
   where
     by_tests : (b c : Bool) → (t == s) ≡ b → (advert.origin == s) ≡ c → AreSame (held_advert
-        (after_hearing_all adverts (filter_map (journal_other_advert s) (option_map_or (λ b. bodies
+        (after_hearing_all adverts (filter_map (machine_advert_of_other s) (option_map_or (λ b. bodies
         ++ b ∷ []) (if (t == s) && up && true then Some (Advertise advert) else None) bodies))) one)
         (newer_journal_claim_of claim (journal_claim_by s one (Place.Switch t) (Advertise advert)))
     by_tests false c e f = rw (e, newer_none claim) same
@@ -132,10 +132,10 @@ body_heard adverts bodies s one t boot up (Advertise advert) claim is by apart s
     by_tests true false e f = rw (e, is, others_more adverts s bodies (Advertise advert), f)
         (advert_heard _ advert one claim by small same)
 body_heard adverts bodies s one t boot up body claim is by apart small same =
-    rw (newer_none claim) (by_test ((t == s) && up && journal_body_for_boot boot body))
+    rw (newer_none claim) (by_test ((t == s) && up && is_journal_body_for_boot boot body))
   where
     by_test : (b : Bool)
-        → AreSame (held_advert (after_hearing_all adverts (filter_map (journal_other_advert s)
+        → AreSame (held_advert (after_hearing_all adverts (filter_map (machine_advert_of_other s)
         (option_map_or (λ b. bodies ++ b ∷ []) (if b then Some body else None) bodies))) one) claim
     by_test true = rw (others_more adverts s bodies body) same
     by_test false = same
@@ -150,15 +150,15 @@ pub record AreHeld (setting : Setting) (one : ℕ) (journal : List Item) : Type 
 -- what is held, by the boot and the bodies
 abbrev held_by : Setting → ℕ → ℕ → Bool → List Body → Option Advert
 held_by setting s one first bodies = held_advert (after_hearing_all (if first
-    then first_adverts (map (links_of setting.net.links) (switches_of setting))
-    (length setting.net.switches) else no_adverts) (filter_map (journal_other_advert s) bodies)) one
+    then first_adverts (map (links_of setting.net.links) (setting_switches_of setting))
+    (length setting.net.switches) else no_adverts) (filter_map (machine_advert_of_other s) bodies)) one
 
 -- what a message says to a switch, if it is for it
 abbrev said_by : List Item → ℕ → Option Message → Option Body
 said_by before s message = elim message [
   | None ↦ None
   | Some told ↦ if is_journal_receiver_switch s told.to && is_up before s
-      && journal_body_for_boot (journal_boot_of before s) told.body then Some told.body else None
+      && is_journal_body_for_boot (journal_boot_of before s) told.body then Some told.body else None
 ]
 
 -- facts that an item leaves as they are
@@ -207,9 +207,9 @@ same_on setting one before (Item.Delivered number) small cause kept s apart up =
     let now : List Item = before ++ Item.Delivered number ∷ [] in
     let first : is_first_boot_in_journal now s ≡ is_first_boot_in_journal before s = rw (up_more, boot_more) refl in
     rw (claim_more setting before (Item.Delivered number) s one)
-    (rw (ap (λ b. held_by setting s one b (changes_heard s before (heard before s)
+    (rw (ap (λ b. held_by setting s one b (changes_journal_heard s before (heard before s)
     (Item.Delivered number))) (sym first) ∙ ap (held_by setting s one (is_first_boot_in_journal now s))
-    (sym (heard_more before (Item.Delivered number) s))) at (by_message (message_of before number)))
+    (sym (heard_more before (Item.Delivered number) s))) at (by_message (journal_message_of before number)))
   where
     was : IsTrue (is_up before s)
     was = sym (up_more before (Item.Delivered number) s) ∙ up
@@ -221,7 +221,7 @@ same_on setting one before (Item.Delivered number) small cause kept s apart up =
     by_receiver : (to : Place) (body : Body)
         → AreSame (held_by setting s one (is_first_boot_in_journal before s) (option_map_or
         (λ heard_body. heard before s ++ heard_body ∷ []) (if is_journal_receiver_switch s to && is_up before s
-        && journal_body_for_boot (journal_boot_of before s) body then Some body else None) (heard before s)))
+        && is_journal_body_for_boot (journal_boot_of before s) body then Some body else None) (heard before s)))
         (newer_journal_claim_of (journal_claim_of setting before s one) (journal_claim_by s one to body))
     by_receiver (Place.Switch t) body = body_heard (journal_adverts_begun setting before s)
         (heard before s) s one t (journal_boot_of before s) (is_up before s) body
@@ -273,13 +273,13 @@ newer_links : (net : Net) (one : ℕ) (old new : Option JournalClaim) → Claims
 newer_links net one old new olds news = search rules
 
 claimed_links : (net : Net) (s one : ℕ) (to : Place) (body : Body)
-    → IfAdvert (AdvertNamesLinks net) body → ClaimsLinks net one (journal_claim_by s one to body)
+    → IfAdvert (ControlAdvertNamesLinks net) body → ClaimsLinks net one (journal_claim_by s one to body)
 unfolding has
 claimed_links net s one to body such = search (rules, nat_tests)
 
 -- what is kept of it, item by item
 record ClaimLinks (setting : Setting) (journal : List Item) : Type 0 where
-  such : AreSuch setting (λ js. AdvertNamesLinks setting.net) journal
+  such : AreSuch setting (λ js. ControlAdvertNamesLinks setting.net) journal
   claims : (s one : ℕ) → ClaimsLinks setting.net one (journal_claim_of setting journal s one)
 
 claims_on : (setting : Setting) (before : List Item) (next : Item) (s one : ℕ) → ClaimLinks setting
@@ -288,9 +288,9 @@ claims_on : (setting : Setting) (before : List Item) (next : Item) (s one : ℕ)
 claims_on setting before (Item.Down t) s one kept = search rules
 claims_on setting before (Item.Booted t boot) s one kept = search rules
 claims_on setting before (Item.Delivered number) s one kept = newer_links setting.net one _ _
-    (kept.claims s one) (by_message (message_of before number) refl)
+    (kept.claims s one) (by_message (journal_message_of before number) refl)
   where
-    by_message : (message : Option Message) → message_of before number ≡ message
+    by_message : (message : Option Message) → journal_message_of before number ≡ message
         → ClaimsLinks setting.net one (option_and_then (journal_claim_in_message s one) message)
     by_message None e = tt
     by_message (Some message) e = claimed_links setting.net s one message.to message.body

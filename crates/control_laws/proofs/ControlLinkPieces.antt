@@ -1,7 +1,7 @@
 -- What items do to links, and pieces in which links of one switch change.
 use Rattle.std.proofs.Common.{[], if◌then◌else◌, ◌&&◌, ◌++◌, ◌+◌, ◌==◌, ◌∙◌, ◌∷◌, ◌≡◌, ◌≢◌, Bool, IsFalse, List, None, Some, ap, append_assoc, inl, inr, max, min, ne_eqb, sym, true, ℕ, rules}
 use Rattle.base.proofs.Exports.{nat_tests, none_where_other}
-use Rattle.update_machine.specs.Exports.{Item, LinkRow, MachineLinksKeep, NoneConcern, Setting, journal_boot_of, concerns_links, gives_journal_link, item_gives_serving, is_link_up_in_journal, is_up, is_usable_in_journal, journal_link_changes, near, own_advert, serves}
+use Rattle.update_machine.specs.Exports.{Item, LinkRow, MachineLinksKeep, NoneConcern, Setting, journal_boot_of, concerns_links, gives_journal_link, machine_item_gives_serving, is_link_up_in_journal, is_up, is_usable_in_journal, journal_link_changes, near, own_advert, serves}
 use Rattle.update_machine.proofs.Exports.{last_given_append, links_keep, stays}
 use Rattle.control_laws.proofs.ControlFactsGrown.{boot_more, serving_more, up_more}
 use Rattle.control_laws.proofs.ControlSaidToController.{ChangedNoLinks, HasLinkCause}
@@ -16,13 +16,13 @@ link_same : (before : List Item) (next : Item) (a b : ℕ) → gives_journal_lin
 unfolding is_link_up_in_journal
 link_same before next a b none = search (rules, last_given_append)
 
-serving_same : (before : List Item) (next : Item) (s : ℕ) → item_gives_serving s next ≡ None
+serving_same : (before : List Item) (next : Item) (s : ℕ) → machine_item_gives_serving s next ≡ None
     → serves (before ++ next ∷ []) s ≡ serves before s
 serving_same before next s none = cc (serving_more before next s, none)
 
 usable_same : (before : List Item) (next : Item) (link : LinkRow)
     → gives_journal_link (min link.one link.two) (max link.one link.two) next ≡ None
-    → item_gives_serving link.one next ≡ None → item_gives_serving link.two next ≡ None
+    → machine_item_gives_serving link.one next ≡ None → machine_item_gives_serving link.two next ≡ None
     → is_usable_in_journal (before ++ next ∷ []) link ≡ is_usable_in_journal before link
 usable_same before next link up one two = search (rules, link_same, serving_same)
 
@@ -31,7 +31,7 @@ silent_link : (next : Item) (a b : ℕ) (before : List Item) → IsFalse (concer
 silent_link next a b before apart = search rules
 
 silent_serving : (next : Item) (s : ℕ) (before : List Item)
-    → IsFalse (concerns_links before next) → item_gives_serving s next ≡ None
+    → IsFalse (concerns_links before next) → machine_item_gives_serving s next ≡ None
 silent_serving next s before apart = search rules
 
 usable_stays : (before items : List Item) (link : LinkRow) → NoneConcern concerns_links before items

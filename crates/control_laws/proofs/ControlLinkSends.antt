@@ -1,8 +1,8 @@
 -- How many adverts are sent where the links of one switch change.
 use Rattle.std.proofs.Common.{[], ◌&&◌, ◌*◌, ◌+◌, ◌<◌, ◌==◌, ◌||◌, ◌∙◌, ◌∷◌, ◌≡◌, ◌≢◌, ◌≤◌, ◌⊎◌, Bool, IsTrue, List, ap, arith, cond, eq-eqb, eqb-true, false, filter, flat_map, inl, inr, length, map, mul-add, mul-le-mul_right, ne_eqb, not, refl, suc, sum_by, sym, true, zero, ℕ, rules}
 use Rattle.base.proofs.Exports.{cases_eq, length-filter_map, length-flat_map, length-map, length-range_with_len, length_filter_less, list_any, mask_of_lt, range_with_len, sum_by-cons, sum_by-le-sum_by, sum_each, sum_filter, sum_some}
-use Rattle.net_file.specs.Exports.{IsNet, are_linked, joins, links_of}
-use Rattle.update_machine.specs.Exports.{Item, LinkRow, Message, Setting, advert_to, journal_usable_links_changed, journal_held_adverts, is_usable_in_journal, machine_messages_of, machine_messages_over_link, near, own_advert, switches_of, usable_links}
+use Rattle.net_file.specs.Exports.{IsNet, are_linked_in_net, joins, links_of}
+use Rattle.update_machine.specs.Exports.{Item, LinkRow, Message, Setting, machine_advert_to, journal_usable_links_changed, journal_held_adverts, is_usable_in_journal, machine_messages_of, machine_messages_over_link, near, own_advert, setting_switches_of, usable_links}
 use Rattle.base.specs.Exports.{has, switches}
 use Rattle.net_file.proofs.NetFilePortMasks.{in_mask_of, in_mask_past}
 use Rattle.control_laws.proofs.ControlNetLinks.{linked_by_mask}
@@ -76,18 +76,18 @@ ends_few b c one two low n = let all : List ℕ = range_with_len low n in
 
 -- how many pairs the links join
 abbrev pub pairs : List LinkRow → ℕ → ℕ → ℕ
-pairs links n m = sum_by (λ s. sum_by (λ x. once (are_linked links s x)) (range_with_len 0 m))
+pairs links n m = sum_by (λ s. sum_by (λ x. once (are_linked_in_net links s x)) (range_with_len 0 m))
     (range_with_len 0 n)
 
 sum_more : (link : LinkRow) (links : List LinkRow) (s m : ℕ)
-    → sum_by (λ x. once (are_linked (link ∷ links) s x)) (range_with_len 0 m) ≤ once (link.one == s)
-    + once (link.two == s) + sum_by (λ x. once (are_linked links s x)) (range_with_len 0 m)
+    → sum_by (λ x. once (are_linked_in_net (link ∷ links) s x)) (range_with_len 0 m) ≤ once (link.one == s)
+    + once (link.two == s) + sum_by (λ x. once (are_linked_in_net links s x)) (range_with_len 0 m)
 sum_more link links s m = omega (
   arith,
-  sum_by-le-sum_by (λ x. once (are_linked (link ∷ links) s x))
-      (λ x. once (joins s x link) + once (are_linked links s x)) (range_with_len 0 m)
-      (λ x. either (joins s x link) (are_linked links s x)),
-  sum_plus (λ x. once (joins s x link)) (λ x. once (are_linked links s x)) (range_with_len 0 m),
+  sum_by-le-sum_by (λ x. once (are_linked_in_net (link ∷ links) s x))
+      (λ x. once (joins s x link) + once (are_linked_in_net links s x)) (range_with_len 0 m)
+      (λ x. either (joins s x link) (are_linked_in_net links s x)),
+  sum_plus (λ x. once (joins s x link)) (λ x. once (are_linked_in_net links s x)) (range_with_len 0 m),
   ends_few (link.one == s) (link.two == s) link.one link.two 0 m,
 )
 
@@ -95,14 +95,14 @@ sum_more link links s m = omega (
 pub pairs_few : (links : List LinkRow) (n m : ℕ) → pairs links n m ≤ 2 * length links
 pairs_few [] n m = omega (
   arith,
-  sum_each (λ s. sum_by (λ x. once (are_linked [] s x)) (range_with_len 0 m)) 0 (range_with_len 0 n)
+  sum_each (λ s. sum_by (λ x. once (are_linked_in_net [] s x)) (range_with_len 0 m)) 0 (range_with_len 0 n)
       (λ s. omega (arith, sum_each (λ x. 0) 0 (range_with_len 0 m) (λ x. omega arith))),
 )
 pairs_few (link ∷ links) n m =
-    let joined : ℕ → ℕ = λ s. sum_by (λ x. once (are_linked links s x)) (range_with_len 0 m) in
+    let joined : ℕ → ℕ = λ s. sum_by (λ x. once (are_linked_in_net links s x)) (range_with_len 0 m) in
     omega (
       arith,
-      sum_by-le-sum_by (λ s. sum_by (λ x. once (are_linked (link ∷ links) s x))
+      sum_by-le-sum_by (λ s. sum_by (λ x. once (are_linked_in_net (link ∷ links) s x))
           (range_with_len 0 m)) (λ s. once (link.one == s) + once (link.two == s) + joined s)
           (range_with_len 0 n) (λ s. sum_more link links s m),
       sum_plus (λ s. once (link.one == s) + once (link.two == s)) joined (range_with_len 0 n),
@@ -131,8 +131,8 @@ away x y z end one two h6 = search rules
 
 -- links of other switches join as before
 linked_same : (before now : List Item) (t s k : ℕ) → ChangesAt before now t
-    → s ≢ t → k ≢ t → (links : List LinkRow) → are_linked (filter (is_usable_in_journal now) links) s k
-    ≡ are_linked (filter (is_usable_in_journal before) links) s k
+    → s ≢ t → k ≢ t → (links : List LinkRow) → are_linked_in_net (filter (is_usable_in_journal now) links) s k
+    ≡ are_linked_in_net (filter (is_usable_in_journal before) links) s k
 linked_same before now t s k changes other far [] = refl
 linked_same before now t s k changes other far (link ∷ links) =
     by_joins (joins s k link) refl (linked_same before now t s k changes other far links)
@@ -159,7 +159,7 @@ linked_same before now t s k changes other far (link ∷ links) =
         by_usable false = rest
 
 -- a mask of neighbours, bit by bit
-same_bits : (one other : List LinkRow) (s k : ℕ) → are_linked one s k ≡ are_linked other s k
+same_bits : (one other : List LinkRow) (s k : ℕ) → are_linked_in_net one s k ≡ are_linked_in_net other s k
     → has (links_of one s) k ≡ has (links_of other s) k
 unfolding has
 same_bits one other s k same = search (rules, in_mask_of, in_mask_past, mask_of_lt)
@@ -190,35 +190,35 @@ over_few : (setting : Setting) (before now : List Item) (s k : ℕ)
     ≤ once (has (near setting now s) k) + 63 * once (is_new setting before now s k)
 over_few setting before now s k = by_links (has (near setting now s) k) _ where
   by_links : (b c : Bool) → cond b (length {A = Message} (elim c [
-    | true ↦ advert_to k (own_advert setting now s) ∷ []
-    | false ↦ map (advert_to k) (journal_held_adverts setting now s)
+    | true ↦ machine_advert_to k (own_advert setting now s) ∷ []
+    | false ↦ map (machine_advert_to k) (journal_held_adverts setting now s)
   ])) 0 ≤ once b + 63 * once (b && not c)
   by_links true true = omega arith
   by_links true false = omega (
     arith,
     held_few setting now s,
-    length-map (journal_held_adverts setting now s) (advert_to k),
+    length-map (journal_held_adverts setting now s) (machine_advert_to k),
   )
   by_links false c = omega arith
 
 constant_few : (setting : Setting) → IsNet setting.net → (b : ℕ)
-    → sum_by (λ k. b) (switches_of setting) ≤ 64 * b
+    → sum_by (λ k. b) (setting_switches_of setting) ≤ 64 * b
 constant_few setting net b =
-    let few : length (switches_of setting) ≤ 64 =
+    let few : length (setting_switches_of setting) ≤ 64 =
     omega (arith, length-range_with_len 0 (length setting.net.switches), net.few_switches) in
     omega (
       arith,
-      sum_each (λ k. b) b (switches_of setting) (λ k. omega arith),
+      sum_each (λ k. b) b (setting_switches_of setting) (λ k. omega arith),
       mul-le-mul_right b few,
     )
 
 -- what a switch sends: one advert over each usable link, and 63 more over each new one
 by_few : (setting : Setting) (before now : List Item) (t s : ℕ) → IsNet setting.net
     → ChangesAt before now t → length (machine_messages_of setting before now s)
-    ≤ sum_by (λ k. once (has (near setting now s) k)) (switches_of setting)
+    ≤ sum_by (λ k. once (has (near setting now s) k)) (setting_switches_of setting)
     + 63 * (64 * once (t == s) + 1)
 by_few setting before now t s net changes =
-    let all : List ℕ = switches_of setting in
+    let all : List ℕ = setting_switches_of setting in
     let fresh : ℕ → ℕ = λ k. once (is_new setting before now s k) in
     omega (
       arith,
@@ -241,21 +241,21 @@ by_few setting before now t s net changes =
 -- what the switches tell whose links changed
 abbrev pub all_adverts_sent : Setting → List Item → List Item → List Message
 all_adverts_sent setting before now = flat_map (machine_messages_of setting before now)
-    (filter (journal_usable_links_changed setting before now) (switches_of setting))
+    (filter (journal_usable_links_changed setting before now) (setting_switches_of setting))
 
 pairs_near : (setting : Setting) (now : List Item) → IsNet setting.net
-    → sum_by (λ s. sum_by (λ k. once (has (near setting now s) k)) (switches_of setting))
-    (switches_of setting) ≤ 512
+    → sum_by (λ s. sum_by (λ k. once (has (near setting now s) k)) (setting_switches_of setting))
+    (setting_switches_of setting) ≤ 512
 unfolding near
 pairs_near setting now net =
     let links : List LinkRow = usable_links setting now in
-    let all : List ℕ = switches_of setting in
+    let all : List ℕ = setting_switches_of setting in
     omega (
       arith,
       sum_by-le-sum_by (λ s. sum_by (λ k. once (has (links_of links s) k)) all)
-          (λ s. sum_by (λ k. once (are_linked links s k)) all) all (λ s. sum_by-le-sum_by
-          (λ k. once (has (links_of links s) k)) (λ k. once (are_linked links s k)) all (λ k.
-          implied (has (links_of links s) k) (are_linked links s k) (linked_by_mask links s k))),
+          (λ s. sum_by (λ k. once (are_linked_in_net links s k)) all) all (λ s. sum_by-le-sum_by
+          (λ k. once (has (links_of links s) k)) (λ k. once (are_linked_in_net links s k)) all (λ k.
+          implied (has (links_of links s) k) (are_linked_in_net links s k) (linked_by_mask links s k))),
       pairs_few links (length setting.net.switches) (length setting.net.switches),
       length_filter_less (is_usable_in_journal now) setting.net.links,
       net.few_links,
@@ -268,7 +268,7 @@ pairs_near setting now net =
 pub changes_few : (setting : Setting) (before now : List Item) (t : ℕ) → IsNet setting.net
     → ChangesAt before now t → length (all_adverts_sent setting before now) ≤ 8576
 changes_few setting before now t net changes =
-    let all : List ℕ = switches_of setting in
+    let all : List ℕ = setting_switches_of setting in
     let row : ℕ → ℕ = λ s. sum_by (λ k. once (has (near setting now s) k)) all in
     let more : ℕ → ℕ = λ s. 64 * once (t == s) + 1 in
     omega (

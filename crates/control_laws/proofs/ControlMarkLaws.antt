@@ -1,9 +1,9 @@
 -- All that items with their causes keep of versions and marks, together.
 use Rattle.std.proofs.Common.{[], ◌++◌, ◌-◌, ◌<◌, ◌∷◌, ◌≡◌, ◌≤◌, IsFalse, IsTrue, List, None, Some, ap, arith, eq-eqb, inl, inr, is_some, length, map, refl, subst, unwrap_or, ℕ, rules}
 use Rattle.base.proofs.Exports.{⊤, AllByRecursion, cases_lt, each_unmap, list_any, nat_tests}
-use Rattle.update_machine.specs.Exports.{Body, Collect, JournalItemsHaveCauses, Item, Message, OpenAt, Place, Setting, Stamp, acked_stamp, journal_collects_version, journal_current_mark, heard, holds_version, is_member, is_up, machine_least_number, members, message_of, journal_next_retired, open_version, opened_at, journal_retired_mark, journal_stamp_of, machine_message_to_switch}
+use Rattle.update_machine.specs.Exports.{Body, Collect, JournalItemsHaveCauses, Item, Message, OpenAt, Place, Setting, Stamp, acked_stamp, is_collect_message_of_version, journal_current_mark, heard, holds_version, is_member, is_up, machine_least_number, members, journal_message_of, journal_next_retired, open_version, journal_opened_at, journal_retired_mark, journal_stamp_of, machine_message_to_switch}
 use Rattle.update_machine.proofs.Exports.{start_laws}
-use Rattle.control_laws.specs.Exports.{HasControlItemCause, HasHeardTables, IsAckedFirst, IsFirstOpeningMessage, IsLetStampAfterAck, IsRightMessage, IsRightOpening, IsRightStamp, LetsStampAfterAck, MarksAreBounded, MembersAcknowledged, ControlRetirementHasCause, ServingHoldVersions, ServingIsKnown}
+use Rattle.control_laws.specs.Exports.{HasControlItemCause, HasHeardTables, IsAckedFirst, IsFirstOpeningMessage, IsControlStampAfterAck, IsRightControlMessage, IsRightControlOpening, IsRightStamp, ControlLetsStampAfterAck, ControlMarksAreBounded, ControlMembersAcknowledged, ControlRetirementHasCause, ServingHoldVersions, ServingIsKnown}
 use Rattle.control_laws.proofs.ControlFactsGrown.{AreKept, Behind, FromCauses, NeverFalls, by_number, fact_on, from_causes, retired_more, with_fact}
 use Rattle.control_laws.proofs.ControlCurrentVersions.{StampsAreCurrent, acked_current, current_at_first, current_kept, heard_on, right_current}
 use Rattle.control_laws.proofs.ControlSaidToController.{acked_stamp_opened, acked_stamp_rises, each_in_range, least_below}
@@ -29,7 +29,7 @@ same_above setting before next s leaves retired is =
 
 new_above : (setting : Setting) (before : List Item) (n s version : ℕ) (message : Message)
     → StampsAreCurrent before → IsFirstOpeningMessage before s version
-    → opened_at (before ++ Item.Sent n message ∷ []) s ≡ Some version
+    → journal_opened_at (before ++ Item.Sent n message ∷ []) s ≡ Some version
     → IsAbove setting (before ++ Item.Sent n message ∷ []) s
 unfolding is_member journal_retired_mark acked_stamp
 new_above setting before n s version message are first now =
@@ -71,7 +71,7 @@ above_at_first setting s = search (rules, start_laws)
 -- no message tells a switch to drop a version that isn't retired
 abbrev pub CollectsRetired : List Item → Type 0
 CollectsRetired journal = (s boot version n : ℕ)
-    → message_of journal n ≡ Some (machine_message_to_switch s (Collect boot version))
+    → journal_message_of journal n ≡ Some (machine_message_to_switch s (Collect boot version))
     → version ≤ journal_retired_mark journal
 
 pub retired_rises : NeverFalls journal_retired_mark
@@ -125,7 +125,7 @@ caused_marked = from_causes AreMarked marked_kept marked_at_first
 
 -- ---- members
 
-pub acknowledged : FromCauses MembersAcknowledged
+pub acknowledged : FromCauses ControlMembersAcknowledged
 acknowledged setting journal have = let are = caused_marked setting journal have in record {
   acked = λ s version there member above below.
       (are.acked s).acked there member version above below;
@@ -134,7 +134,7 @@ acknowledged setting journal have = let are = caused_marked setting journal have
 
 -- ---- marks
 
-pub bounded : FromCauses MarksAreBounded
+pub bounded : FromCauses ControlMarksAreBounded
 bounded setting journal have = let are = caused_marked setting journal have in record {
   first = are.current.marks.first;
   there = are.current.marks.there;
@@ -149,7 +149,7 @@ bounded setting journal have = let are = caused_marked setting journal have in r
 -- ---- what lets switches stamp
 
 opening_let : (setting : Setting) (before : List Item) (s boot version : ℕ) → AreMarked setting
-    before → IsRightOpening before s boot version → IsLetStampAfterAck setting before s boot version
+    before → IsRightControlOpening before s boot version → IsControlStampAfterAck setting before s boot version
 opening_let setting before s boot version are right = record {
   known = right.to.known;
   acked = λ there. elim right.opens [
@@ -164,7 +164,7 @@ opening_let setting before s boot version are right = record {
 
 stamp_let : (setting : Setting) (before : List Item) (s boot version : ℕ) (touched : List WordValue)
     → AreMarked setting before → IsRightStamp setting before s boot version touched
-    → IsLetStampAfterAck setting before s boot version
+    → IsControlStampAfterAck setting before s boot version
 stamp_let setting before s boot version touched are right = record {
   known = right.to.known;
   acked = λ there. (are.acked s).acked there right.member version
@@ -173,8 +173,8 @@ stamp_let setting before s boot version touched are right = record {
 }
 
 message_let : (setting : Setting) (before : List Item) (to : Place) (body : Body)
-    → AreMarked setting before → IsRightMessage setting before to body
-    → LetsStampAfterAck setting before to body
+    → AreMarked setting before → IsRightControlMessage setting before to body
+    → ControlLetsStampAfterAck setting before to body
 message_let setting before (Place.Switch s) (OpenAt boot version) are right =
     opening_let setting before s boot version are right
 message_let setting before (Place.Switch s) (Stamp boot version touched) are right =
@@ -218,7 +218,7 @@ drops_more mark after rises (Collect boot version) drops = omega (arith, rises, 
 drops_more mark after rises _ drops = tt
 
 sent_drops : (before : List Item) (s number : ℕ) → CollectsRetired before → (body : Body)
-    → message_of before number ≡ Some (machine_message_to_switch s body) → DropsUpTo (journal_retired_mark before) body
+    → journal_message_of before number ≡ Some (machine_message_to_switch s body) → DropsUpTo (journal_retired_mark before) body
 sent_drops before s number are (Collect boot version) sent = are s boot version number sent
 sent_drops before s number are _ sent = tt
 
@@ -238,14 +238,14 @@ caused_drops setting journal have = fact_on _ DropsRetired (drops_kept setting) 
 -- ---- what is held
 
 none_dropped : (mark version : ℕ) → mark < version → (bodies : List Body)
-    → AllByRecursion (DropsUpTo mark) bodies → IsFalse (list_any (journal_collects_version version) bodies)
+    → AllByRecursion (DropsUpTo mark) bodies → IsFalse (list_any (is_collect_message_of_version version) bodies)
 none_dropped mark version above [] all = refl
 none_dropped mark version above (body ∷ bodies) all =
     search (rules, nat_tests, none_dropped mark version above bodies all.1)
 
 -- tables that it has and didn't drop
 tables_held : (journal : List Item) (s version : ℕ) → IsTrue (is_up journal s)
-    → HasHeardTables journal s version → IsFalse (list_any (journal_collects_version version) (heard journal s))
+    → HasHeardTables journal s version → IsFalse (list_any (is_collect_message_of_version version) (heard journal s))
     → IsTrue (holds_version journal s version)
 unfolding holds_version
 tables_held journal s version up has kept = search (rules, eq-eqb)
@@ -265,10 +265,10 @@ serving_hold setting journal have s there serving = record {
   known : ServingIsKnown journal
   known = serving_known journal (caused_known setting journal have)
 
-  members : MembersAcknowledged setting journal
+  members : ControlMembersAcknowledged setting journal
   members = acknowledged setting journal have
 
-  marks : MarksAreBounded setting journal
+  marks : ControlMarksAreBounded setting journal
   marks = bounded setting journal have
 
   current : journal_stamp_of journal s ≤ journal_current_mark journal

@@ -1,9 +1,9 @@
 -- At the end of each step the marks are settled.
 use Rattle.std.proofs.Common.{[], ◌++◌, ◌+◌, ◌<◌, ◌∙◌, ◌∷◌, ◌≡◌, ◌≤◌, All, Bool, IsTrue, List, None, Option, Some, append-nil, append_assoc, arith, drop, false, fold, get_or, inl, length, min, refl, subst, suc, sym, take, take-append-drop, true, unwrap_or, ℕ, rules}
-use Rattle.update_machine.specs.Exports.{JournalAnswersSoFar, AreMachineMarksSettled, JournalBeginsAnswer, Body, Deliver, Event, Forget, JournalItemsHaveCauses, Hello, Hop, Install, Installed, IsJournalReached, IsSetting, Item, Lose, Message, Place, Setting, Step, StepOfRow, Update, acked_stamp, after_hello, journal_after_steps, all_acked, confirm_items, controller_heard, controller_items, journal_current_mark, deliver_items, machine_delivery_items, has_acked, machine_installs_to, machine_installs_to_all, is_member, is_journal_controller_message, is_over, journal_known_boot, machine_least_number, members, message_of, journal_next_retired, nothing, opened_at, piece, journal_retired_mark, settling, step_items, switches_of, machine_message_to_switch, update_items, journal_version_count}
+use Rattle.update_machine.specs.Exports.{JournalAnswersSoFar, AreMachineMarksSettled, JournalBeginsAnswer, Body, Deliver, Event, Forget, JournalItemsHaveCauses, Hello, Hop, Install, Installed, IsJournalReached, IsSetting, Item, Lose, Message, Place, Setting, Step, StepOfRow, Update, acked_stamp, machine_after_hello, journal_after_steps, all_acked, confirm_items, journal_controller_heard, controller_items, journal_current_mark, deliver_items, machine_delivery_items, has_acked, machine_installs_to, machine_installs_to_all, is_member, is_journal_controller_message, is_over, journal_known_boot, machine_least_number, members, journal_message_of, journal_next_retired, nothing, journal_opened_at, piece, journal_retired_mark, settling, machine_step_items, setting_switches_of, machine_message_to_switch, machine_update_items, journal_version_count}
 use Rattle.ctrl_msg.specs.Exports.{to_controller}
 use Rattle.update_machine.proofs.Exports.{AreOf, HasNexts, IsEventOf, answers_so_far, begins_itself, first_steps_are, have_append, have_take, open_net, start_laws}
-use Rattle.control_laws.specs.Exports.{HasControlItemCause, HoldsAtEnds, HoldsReached, CurrentMarkRiseHasCause, asks_controller}
+use Rattle.control_laws.specs.Exports.{HasControlItemCause, ControlLawHoldsAtEnds, ControlLawHoldsReached, CurrentMarkRiseHasCause, control_asks_controller}
 use Rattle.control_laws.proofs.ControlVersionTrials.{second}
 use Rattle.base.proofs.Exports.{⊤, All-from_recursion, AllByRecursion, each_always, each_map, take-append_seam}
 use Rattle.steps.specs.Exports.{IsEvent, IsStep}
@@ -24,22 +24,22 @@ answered = Item.Submitted 2 2 ∷ Item.Sent 1 (machine_message_to_switch 0 (Inst
     ∷ Item.Sent 2 (to_controller (Installed 0 1 2)) ∷ []
 
 -- the acknowledgement is for the controller, the tables are not, nor is a message that wasn't sent
-its_answer : asks_controller answered (Step.Deliver 2) ≡ true
-unfolding message_of
+its_answer : control_asks_controller answered (Step.Deliver 2) ≡ true
+unfolding journal_message_of
 its_answer = refl
 
-not_its_tables : asks_controller answered (Step.Deliver 1) ≡ false
-unfolding message_of
+not_its_tables : control_asks_controller answered (Step.Deliver 1) ≡ false
+unfolding journal_message_of
 not_its_tables = refl
 
-not_unsent : asks_controller answered (Step.Deliver 3) ≡ false
-unfolding message_of
+not_unsent : control_asks_controller answered (Step.Deliver 3) ≡ false
+unfolding journal_message_of
 not_unsent = refl
 
-an_update : asks_controller answered (Step.Update 1) ≡ true
+an_update : control_asks_controller answered (Step.Update 1) ≡ true
 an_update = refl
 
-not_a_crash : asks_controller answered (Step.Crash 0) ≡ false
+not_a_crash : control_asks_controller answered (Step.Crash 0) ≡ false
 not_a_crash = refl
 
 -- ---- rises of the current mark
@@ -52,7 +52,7 @@ both_answered = answered ++ Item.Sent 3 (to_controller (Installed 1 1 2)) ∷ It
     ∷ Item.Delivered 3 ∷ []
 
 rises : CurrentMarkRiseHasCause open_net both_answered (Item.Current 2)
-unfolding controller_heard journal_current_mark has_acked is_member is_over journal_known_boot message_of opened_at
+unfolding journal_controller_heard journal_current_mark has_acked is_member is_over journal_known_boot journal_message_of journal_opened_at
     journal_version_count
 rises = record {
   rises = omega arith;
@@ -63,7 +63,7 @@ rises = record {
 
 -- not before both switches are heard
 not_before : CurrentMarkRiseHasCause open_net answered (Item.Current 2) → ⊥
-unfolding controller_heard journal_current_mark has_acked is_member is_over journal_known_boot message_of opened_at
+unfolding journal_controller_heard journal_current_mark has_acked is_member is_over journal_known_boot journal_message_of journal_opened_at
     journal_version_count
 not_before rises =
     let no : false ≡ true = rises.acknowledged 2 (omega arith) (omega arith) in absurd cc
@@ -118,11 +118,11 @@ own_event setting event is = search rules
 pub behind_piece : (setting : Setting) (journal : List Item) (row : ℕ) (step : Step)
     (Fact : List Item → Type 0)
     → (let here = journal ++ Item.Row row step ∷ [] in
-    Fact (here ++ step_items setting journal step here))
+    Fact (here ++ machine_step_items setting journal step here))
     → Fact (journal ++ piece setting journal row step)
 unfolding piece
 behind_piece setting journal row step Fact = subst Fact (append_assoc journal
-    (Item.Row row step ∷ []) (step_items setting journal step (journal ++ Item.Row row step ∷ [])))
+    (Item.Row row step ∷ []) (machine_step_items setting journal step (journal ++ Item.Row row step ∷ [])))
 
 -- what holds at first, and behind each piece of such a step where it held before it
 pub record IsCarried (setting : Setting) (Fact : List Item → Type 0) : Type 0 where
@@ -156,7 +156,7 @@ so_far_carries setting Fact carried events journal own answers = subst Fact (sym
 pub carried_reached : (Fact Holds : Setting → List Item → Type 0)
     → ((setting : Setting) → IsCarried setting (Fact setting))
     → ((setting : Setting) (journal rest : List Item) → Fact setting (journal ++ rest)
-    → Holds setting journal) → HoldsReached Holds
+    → Holds setting journal) → ControlLawHoldsReached Holds
 carried_reached Fact Holds carried firsts = record {
   reached = λ setting journal is. firsts setting journal [] (rw (append-nil journal)
       (reached_carries setting (Fact setting) (carried setting) journal is));
@@ -184,7 +184,7 @@ begin_has cause journal rest whole = subst (JournalItemsHaveCauses cause []) (ta
 pub reached : (Holds : Setting → List Item → Type 0) (cause : Setting → List Item → Item → Type 0)
     → ((setting : Setting) (journal : List Item) → JournalItemsHaveCauses (cause setting) [] journal
     → Holds setting journal) → ((setting : Setting) → OwnPiecesHave (cause setting) setting)
-    → HoldsReached Holds
+    → ControlLawHoldsReached Holds
 reached Holds cause caused pieces = carried_reached _ Holds (λ setting. record {
   first = tt;
   piece = λ journal row step own have.
@@ -212,7 +212,7 @@ pub reached_by : (Fact Holds : Setting → List Item → Type 0)
     → ((setting : Setting) (journal : List Item) → Fact setting journal
     → JournalItemsHaveCauses (cause setting) [] journal) → ((setting : Setting) (journal : List Item)
     → IsSetting setting → JournalItemsHaveCauses (cause setting) [] journal → Holds setting journal)
-    → HoldsReached (OfSettings Holds)
+    → ControlLawHoldsReached (OfSettings Holds)
 reached_by Fact Holds cause carried causes caused = carried_reached (OfSettings Fact)
     (OfSettings Holds) carried (λ setting journal rest fact is. caused setting journal is
     (begin_has (cause setting) journal rest (causes setting (journal ++ rest) (fact is))))
@@ -279,7 +279,7 @@ unfolding machine_installs_to
 installs_leave setting s journal = sends_leave journal _ (installs_reopen setting journal s _)
 
 hello_leaves : (setting : Setting) (before : List Item) (body : Body) (journal : List Item)
-    → Leave journal (after_hello setting before body journal)
+    → Leave journal (machine_after_hello setting before body journal)
 hello_leaves setting before (Hello s boot) journal = grind (arith, installs_leave)
 hello_leaves setting before _ journal = tt
 
@@ -289,26 +289,26 @@ heard_settled : (setting : Setting) (before : List Item) (body : Body) (now : Li
 unfolding controller_items
 heard_settled setting before body now =
     let one : List Item = now ++ settling setting now in
-    let hello : List Item = after_hello setting before body one in
+    let hello : List Item = machine_after_hello setting before body one in
     subst (λ js. AreCaused setting js → AreMachineMarksSettled setting js)
-    (sym (in_two (settling setting) (after_hello setting before body) now))
+    (sym (in_two (settling setting) (machine_after_hello setting before body) now))
     (λ have. left_settled setting one hello (hello_leaves setting before body one)
     (settled_in setting now (have_front (HasControlItemCause setting) [] one hello have)))
 
 -- a message to the controller is there
 pub told_is : (before : List Item) (number : ℕ) → IsTrue (is_journal_controller_message before number)
-    → (body : Body) × (message_of before number ≡ Some (to_controller body))
-told_is before number is = by_message (message_of before number) refl is where
+    → (body : Body) × (journal_message_of before number ≡ Some (to_controller body))
+told_is before number is = by_message (journal_message_of before number) refl is where
   by_receiver : (to : Place) (body : Body)
-      → message_of before number ≡ Some (record { to = to; body = body })
+      → journal_message_of before number ≡ Some (record { to = to; body = body })
       → IsTrue (is_journal_controller_message before number)
-      → (body : Body) × (message_of before number ≡ Some (to_controller body))
+      → (body : Body) × (journal_message_of before number ≡ Some (to_controller body))
   by_receiver Place.Controller body e is = (body, e)
   by_receiver (Place.Switch s) body e is = let no : false ≡ true = rw e at is in absurd cc
 
-  by_message : (o : Option Message) → message_of before number ≡ o
+  by_message : (o : Option Message) → journal_message_of before number ≡ o
       → IsTrue (is_journal_controller_message before number)
-      → (body : Body) × (message_of before number ≡ Some (to_controller body))
+      → (body : Body) × (journal_message_of before number ≡ Some (to_controller body))
   by_message None e is = let no : false ≡ true = rw e at is in absurd cc
   by_message (Some message) e is = by_receiver message.to message.body e is
 
@@ -333,7 +333,7 @@ deliver_settled setting before number here is settled = deliver_cases (Settles s
 -- ---- an update, and a confirmation
 
 update_settled : (setting : Setting) (file : ℕ) (here : List Item) → AreMachineMarksSettled setting here
-    → Settles setting (here ++ update_items setting file here)
+    → Settles setting (here ++ machine_update_items setting file here)
 update_settled setting file here settled =
     let now : List Item = here ++ Item.Submitted file (journal_version_count here + 1) ∷ [] in
     update_cases (Settles setting) setting file here
@@ -348,15 +348,15 @@ confirm_settled setting s here settled = confirm_cases (Settles setting) setting
 -- ---- steps
 
 told_settled : (setting : Setting) (before here : List Item) (step : Step)
-    → IsTrue (asks_controller before step) → AreMachineMarksSettled setting here
-    → Settles setting (here ++ step_items setting before step here)
+    → IsTrue (control_asks_controller before step) → AreMachineMarksSettled setting here
+    → Settles setting (here ++ machine_step_items setting before step here)
 told_settled setting before here step is settled =
     search (rules, deliver_settled, update_settled, confirm_settled)
 
 step_settled : (setting : Setting) (before : List Item) (row : ℕ) (step : Step)
     → AreMachineMarksSettled setting before → Settles setting (before ++ piece setting before row step)
-step_settled setting before row step settled = by_kind (asks_controller before step) refl where
-  by_kind : (b : Bool) → asks_controller before step ≡ b
+step_settled setting before row step settled = by_kind (control_asks_controller before step) refl where
+  by_kind : (b : Bool) → control_asks_controller before step ≡ b
       → Settles setting (before ++ piece setting before row step)
   by_kind false e = λ have. settled_on _ before _ (others_keep setting before row step e) settled
   by_kind true e = behind_piece setting before row step (Settles setting) (told_settled setting
@@ -381,11 +381,11 @@ none_joins_first s joins = search (rules, start_laws)
 first_settled : (setting : Setting) → AreMachineMarksSettled setting []
 first_settled setting = record {
   current = inl (start_laws.current ∙ sym start_laws.count);
-  joining = All-from_recursion (NoneJoins []) (switches_of setting)
-      (each_always (NoneJoins []) none_joins_first (switches_of setting));
+  joining = All-from_recursion (NoneJoins []) (setting_switches_of setting)
+      (each_always (NoneJoins []) none_joins_first (setting_switches_of setting));
   retired = let current = start_laws.current in
       omega (arith, start_laws.retired, current, next_below setting [] current_at_first);
 }
 
-pub settled_at_ends : HoldsAtEnds (λ setting journal. AreMachineMarksSettled setting journal)
+pub settled_at_ends : ControlLawHoldsAtEnds (λ setting journal. AreMachineMarksSettled setting journal)
 settled_at_ends = search (rules, at_ends, steps_settled, first_settled)

@@ -1,7 +1,7 @@
 -- Behind their settling the marks are settled, whatever was heard before it.
 use Rattle.std.proofs.Common.{[], ◌&&◌, ◌++◌, ◌+◌, ◌<◌, ◌∙◌, ◌∷◌, ◌≡◌, ◌≤◌, ◌⊎◌, All, Bool, IsFalse, IsTrue, List, Option, Some, ap, append-nil, append_assoc, arith, false, filter, inl, inr, is_some, length, map, nat_lt, not, refl, subst, suc, sym, take_while, true, zero, ℕ, rules}
 use Rattle.base.proofs.Exports.{All-from_recursion, AllByRecursion, list_all, nat_tests, option_or, range_with_len, take_while-cons}
-use Rattle.update_machine.specs.Exports.{AreMachineMarksSettled, JournalControllerKeeps, Item, Message, Setting, acked_stamp, all_acked, machine_collect_for, current_items, journal_current_mark, has_acked, in_turn, is_joining, is_member, is_over, journal_known_boot, members, journal_next_current, journal_next_message, journal_next_retired, journal_open_for, machine_open_items, opened_at, opening_switches, retired_items, journal_retired_mark, send_items, machine_sent_items_from, settling, journal_stamp_for, switches_of, journal_version_count}
+use Rattle.update_machine.specs.Exports.{AreMachineMarksSettled, JournalControllerKeeps, Item, Message, Setting, acked_stamp, all_acked, machine_collect_for, current_items, journal_current_mark, has_acked, in_turn, is_joining, is_member, is_over, journal_known_boot, members, journal_next_current, journal_next_message, journal_next_retired, journal_open_for, machine_open_items, journal_opened_at, opening_switches, machine_retired_items, journal_retired_mark, send_items, machine_sent_items_from, settling, journal_stamp_for, setting_switches_of, journal_version_count}
 use Rattle.control_laws.proofs.ControlCommands.{Grows, IsOfSettling, each_command, grows, parts_settle}
 use Rattle.control_laws.proofs.ControlFactsGrown.{current_more, known_more, opened_at_more, over_more, retired_more, told_more}
 use Rattle.control_laws.proofs.ControlMessageSends.{each_range, sent_kept}
@@ -43,8 +43,8 @@ joining_was : (before after : List Item) (s : ℕ) → Grows before after
 joining_was before after s more joins = search rules
 
 joins_on : (setting : Setting) (before after : List Item) → Grows before after
-    → journal_current_mark after ≡ journal_current_mark before → All (NoneJoins before) (switches_of setting)
-    → All (NoneJoins after) (switches_of setting)
+    → journal_current_mark after ≡ journal_current_mark before → All (NoneJoins before) (setting_switches_of setting)
+    → All (NoneJoins after) (setting_switches_of setting)
 joins_on setting before after more current all = search (rules, joining_was)
 
 -- ---- the retired mark
@@ -94,13 +94,13 @@ or_some : (o : Option ℕ) (version : ℕ) → IsTrue (is_some (option_or o (Som
 or_some o version = search rules
 
 opens_now : (base journal : List Item) (s n version : ℕ) → journal_known_boot journal s ≡ journal_known_boot base s
-    → IsTrue (is_some (opened_at (journal ++ Item.Sent n (journal_open_for base version s) ∷ []) s))
+    → IsTrue (is_some (journal_opened_at (journal ++ Item.Sent n (journal_open_for base version s) ∷ []) s))
 opens_now base journal s n version same =
     search (rules, own_opening, opened_at_more, known_more, or_some)
 
 all_opened : (switches : List ℕ) (base journal : List Item) (n version : ℕ)
     → ((s : ℕ) → journal_known_boot journal s ≡ journal_known_boot base s)
-    → AllByRecursion (λ s. IsTrue (is_some (opened_at
+    → AllByRecursion (λ s. IsTrue (is_some (journal_opened_at
     (journal ++ machine_sent_items_from n (map (journal_open_for base version) switches)) s))) switches
 unfolding machine_sent_items_from
 all_opened [] base journal n version same = tt
@@ -109,7 +109,7 @@ all_opened (t ∷ switches) base journal n version same =
     let messages : List Message = map (journal_open_for base version) switches in
     let rest : List Item = machine_sent_items_from (n + 1) messages in
     subst
-    (λ now. AllByRecursion (λ s. IsTrue (is_some (opened_at now s))) (t ∷ switches))
+    (λ now. AllByRecursion (λ s. IsTrue (is_some (journal_opened_at now s))) (t ∷ switches))
     (append_assoc journal (next ∷ []) rest) (
       (grows (journal ++ next ∷ []) rest (sent_kept IsOfSettling _ (λ before m message is. is)
           (λ before m message other new is. is) messages (journal ++ next ∷ []) (n + 1)
@@ -160,7 +160,7 @@ current_waits setting journal there =
       | inl last ↦ inl (now ∙ last ∙ sym more.count)
       | inr none ↦ inr (rw now (fewer_pass _ (λ s. has_acked after s
           (journal_next_current setting journal + 1)) (is_member journal) (is_member after) (λ s. more.acked
-          s (journal_next_current setting journal + 1)) more.member (switches_of setting) none))
+          s (journal_next_current setting journal + 1)) more.member (setting_switches_of setting) none))
     ]
 
 -- ---- joining switches are opened
@@ -171,7 +171,7 @@ unfolding machine_open_items
 open_keeps setting journal = marks_sent _ journal (journal_next_message journal)
 
 opened_all : (setting : Setting) (journal : List Item) → AllByRecursion
-    (λ s. IsTrue (is_some (opened_at (journal ++ machine_open_items setting journal) s)))
+    (λ s. IsTrue (is_some (journal_opened_at (journal ++ machine_open_items setting journal) s)))
     (opening_switches setting journal)
 unfolding machine_open_items
 opened_all setting journal = search (rules, all_opened)
@@ -212,7 +212,7 @@ none_joins setting journal s there joins = by_acked _ refl where
       → IsFalse (has_acked after s (journal_current_mark after))
   by_acked false e = same ∙ e
   by_acked true e =
-      let opened = each_in_range (λ t. IsTrue (is_some (opened_at after t))) _ 0
+      let opened = each_in_range (λ t. IsTrue (is_some (journal_opened_at after t))) _ 0
       (length setting.net.switches) s (opened_all setting journal) (omega arith) (omega arith)
       (both (is_joining journal s) (has_acked journal s (journal_current_mark journal)) joined e) in
       absurd (not_member (member_of after s (not_over (is_over after s) _ joins) opened) joins)
@@ -250,11 +250,11 @@ retires setting journal version is =
     )
 
 retired_is : (setting : Setting) (journal : List Item)
-    → let after = journal ++ retired_items setting journal in
+    → let after = journal ++ machine_retired_items setting journal in
     journal_retired_mark after ≤ journal_next_retired setting after
     → (journal_current_mark after ≡ journal_current_mark journal)
     × (journal_retired_mark after ≡ journal_next_retired setting after)
-unfolding retired_items
+unfolding machine_retired_items
 retired_is setting journal = let version : ℕ = journal_next_retired setting journal in
     rise_cases (λ now. journal_retired_mark now ≤ journal_next_retired setting now
     → (journal_current_mark now ≡ journal_current_mark journal) × (journal_retired_mark now ≡ journal_next_retired setting now))
@@ -275,7 +275,7 @@ pub settles : (setting : Setting) (journal : List Item)
     → let after = journal ++ settling setting journal in
     journal_retired_mark after ≤ journal_next_retired setting after → AreMachineMarksSettled setting after
 unfolding settling
-settles setting journal there = rw (in_three _ (machine_open_items setting) (retired_items setting) journal)
+settles setting journal there = rw (in_three _ (machine_open_items setting) (machine_retired_items setting) journal)
     settled
   where
     one : List Item
@@ -285,20 +285,20 @@ settles setting journal there = rw (in_three _ (machine_open_items setting) (ret
     two = one ++ machine_open_items setting one
 
     three : List Item
-    three = two ++ retired_items setting two
+    three = two ++ machine_retired_items setting two
 
     opens : Grows one two
     opens = grows one (machine_open_items setting one) ((parts_settle setting).opens one)
 
     ends : Grows two three
-    ends = grows two (retired_items setting two) ((parts_settle setting).retires two)
+    ends = grows two (machine_retired_items setting two) ((parts_settle setting).retires two)
 
     settled : journal_retired_mark three ≤ journal_next_retired setting three → AreMachineMarksSettled setting three
     settled behind = let is = retired_is setting two behind in record {
       current = waits_on setting two three ends is.0 (waits_on setting one two opens
           (open_keeps setting one).current (current_waits setting journal there));
       joining = joins_on setting two three ends is.0 (All-from_recursion (NoneJoins two)
-          (switches_of setting) (each_range (NoneJoins two) 0 (length setting.net.switches)
+          (setting_switches_of setting) (each_range (NoneJoins two) 0 (length setting.net.switches)
           (λ s above below. none_joins setting one s (omega (arith, below)))));
       retired = is.1;
     }

@@ -1,7 +1,7 @@
 -- A fact of members: kept if nothing changes for the member, and true of those that become members.
 use Rattle.std.proofs.Common.{[], ◌++◌, ◌<◌, ◌==◌, ◌||◌, ◌∙◌, ◌∷◌, ◌≡◌, ◌≤◌, Bool, IsTrue, List, None, Option, Some, ap, append_assoc, arith, false, if◌then◌else◌, inl, inr, is_some, length, nat_eq, nat_lt, option_and_then, refl, subst, sym, true, unwrap_or, ℕ}
 use Rattle.base.proofs.Exports.{cases_lt, each_of_all, list_any, list_any-append, nat_tests, option_map_or, option_or}
-use Rattle.update_machine.specs.Exports.{Item, MachineCurrentMayRise, Message, Setting, journal_body_to_controller, controller_heard, journal_current_mark, machine_first_open, has_acked, journal_hello_boot, journal_installed_in_body, is_member, is_over, journal_known_boot, members, machine_open_sent, open_version, opened_at, journal_raises_known_boot, journal_retired_mark}
+use Rattle.update_machine.specs.Exports.{Item, MachineCurrentMayRise, Message, Setting, journal_body_to_controller, journal_controller_heard, journal_current_mark, machine_first_open, has_acked, machine_hello_boot, machine_installed_version, is_member, is_over, journal_known_boot, members, machine_open_sent, open_version, journal_opened_at, journal_raises_known_boot, journal_retired_mark}
 use Rattle.control_laws.specs.Exports.{HasControlItemCause, IsFirstOpeningMessage, ControlRetirementHasCause}
 use Rattle.control_laws.proofs.ControlFactsGrown.{current_more, known_more, opened_at_more, opened_in, opened_is, opened_more, opens_by, over_more, raised, retired_more}
 use Rattle.control_laws.proofs.ControlSwitchOpenings.{member_of, member_parts}
@@ -14,9 +14,9 @@ use Rattle.control_laws.proofs.ControlSaidToController.{each_in_range, tells, to
 -- an item that opens no switch leaves the opening of the known boot
 pub opened_same : (before : List Item) (next : Item) (s : ℕ) → journal_known_boot (before ++ next ∷ []) s
     ≡ journal_known_boot before s → machine_open_sent s (journal_known_boot before s) next ≡ []
-    → opened_at (before ++ next ∷ []) s ≡ opened_at before s
+    → journal_opened_at (before ++ next ∷ []) s ≡ journal_opened_at before s
 opened_same before next s known none =
-    cc (opened_at_more before next s known, none, or_none (opened_at before s))
+    cc (opened_at_more before next s known, none, or_none (journal_opened_at before s))
   where
     or_none : (o : Option ℕ) → option_or o None ≡ o
     or_none None = refl
@@ -26,7 +26,7 @@ opened_same before next s known none =
 pub raised_above : (before : List Item) (number s : ℕ) → journal_raises_known_boot before s number ≡ true
     → journal_known_boot before s < journal_known_boot (before ++ Item.Delivered number ∷ []) s
 raised_above before number s raises = rw (known_more before (Item.Delivered number) s)
-    (rises (option_and_then (journal_hello_boot s) (journal_body_to_controller before number)) raises)
+    (rises (option_and_then (machine_hello_boot s) (journal_body_to_controller before number)) raises)
   where
     rises : (hello : Option ℕ)
         → option_map_or (λ boot. nat_lt (journal_known_boot before s) boot) hello false ≡ true
@@ -37,7 +37,7 @@ raised_above before number s raises = rw (known_more before (Item.Delivered numb
 -- and leaves no member: no message opened it in that boot
 pub raised_none : (before : List Item) (number s : ℕ) → StampsAreCurrent before
     → journal_raises_known_boot before s number ≡ true
-    → opened_at (before ++ Item.Delivered number ∷ []) s ≡ None
+    → journal_opened_at (before ++ Item.Delivered number ∷ []) s ≡ None
 raised_none before number s are raises = opened_is after s
     ∙ opened_more before (Item.Delivered number) s (journal_known_boot after s)
     ∙ ap (λ o. option_or o None) (by_opened (opened_in before s (journal_known_boot after s)) refl)
@@ -58,7 +58,7 @@ raised_none before number s are raises = opened_is after s
 pub unraised_same : (before : List Item) (number s : ℕ) → journal_raises_known_boot before s number ≡ false
     → journal_known_boot (before ++ Item.Delivered number ∷ []) s ≡ journal_known_boot before s
 unraised_same before number s none = known_more before (Item.Delivered number) s
-    ∙ same (option_and_then (journal_hello_boot s) (journal_body_to_controller before number)) none
+    ∙ same (option_and_then (machine_hello_boot s) (journal_body_to_controller before number)) none
   where
     same : (hello : Option ℕ)
         → option_map_or (λ boot. nat_lt (journal_known_boot before s) boot) hello false ≡ false
@@ -72,7 +72,7 @@ unraised_same before number s none = known_more before (Item.Delivered number) s
 pub record LeavesMember (before : List Item) (next : Item) (s : ℕ) : Type 0 where
   pub known : journal_known_boot (before ++ next ∷ []) s ≡ journal_known_boot before s
   pub over : is_over (before ++ next ∷ []) s ≡ is_over before s
-  pub opened : opened_at (before ++ next ∷ []) s ≡ opened_at before s
+  pub opened : journal_opened_at (before ++ next ∷ []) s ≡ journal_opened_at before s
 
 -- so a member was one
 pub member_was : (before : List Item) (next : Item) (s : ℕ) → LeavesMember before next s
@@ -98,7 +98,7 @@ pub record MemberFact (setting : Setting) (Holds : List Item → ℕ → Type 0)
   -- a switch that is opened now has it
   pub new : (before : List Item) (n s version : ℕ) (message : Message)
       → StampsAreCurrent before → IsFirstOpeningMessage before s version
-      → opened_at (before ++ Item.Sent n message ∷ []) s ≡ Some version
+      → journal_opened_at (before ++ Item.Sent n message ∷ []) s ≡ Some version
       → Holds (before ++ Item.Sent n message ∷ []) s
   -- it is kept as the marks rise
   pub raised : (before : List Item) (version s : ℕ) → StampsAreCurrent before
@@ -109,7 +109,7 @@ pub record MemberFact (setting : Setting) (Holds : List Item → ℕ → Type 0)
       → Holds before s → Holds (before ++ Item.Retired version ∷ []) s
 
 -- one that wasn't opened is no member
-closed_no_member : (journal : List Item) (s : ℕ) → opened_at journal s ≡ None
+closed_no_member : (journal : List Item) (s : ℕ) → journal_opened_at journal s ≡ None
     → IsTrue (is_member journal s) → ⊥
 closed_no_member journal s closed member = let parts = member_parts journal s member in
     absurd (cc (sym (ap (λ o. is_some o) closed) ∙ parts.1))
@@ -132,9 +132,9 @@ pub sent_cases : (setting : Setting) (before : List Item) (n s : ℕ) (message :
     → (LeavesMember before (Item.Sent n message) s → Goal)
     → ((IsTrue (is_member (before ++ Item.Sent n message ∷ []) s) → ⊥) → Goal)
     → ((version : ℕ) → IsFirstOpeningMessage before s version
-    → opened_at (before ++ Item.Sent n message ∷ []) s ≡ Some version → Goal) → Goal
+    → journal_opened_at (before ++ Item.Sent n message ∷ []) s ≡ Some version → Goal) → Goal
 sent_cases setting before n s message cause Goal leaves none new =
-    by_opened (opened_at before s) refl
+    by_opened (journal_opened_at before s) refl
   where
     next : Item
     next = Item.Sent n message
@@ -145,12 +145,12 @@ sent_cases setting before n s message cause Goal leaves none new =
     known : journal_known_boot (before ++ next ∷ []) s ≡ boot
     known = known_more before next s
 
-    after : opened_at (before ++ next ∷ []) s
-        ≡ option_or (opened_at before s) (machine_first_open (machine_open_sent s boot next))
+    after : journal_opened_at (before ++ next ∷ []) s
+        ≡ option_or (journal_opened_at before s) (machine_first_open (machine_open_sent s boot next))
     after = opened_at_more before next s known
 
-    by_new : (o : Option ℕ) → opened_at before s ≡ None
-        → machine_first_open (machine_open_sent s boot next) ≡ o → opened_at (before ++ next ∷ []) s ≡ o → Goal
+    by_new : (o : Option ℕ) → journal_opened_at before s ≡ None
+        → machine_first_open (machine_open_sent s boot next) ≡ o → journal_opened_at (before ++ next ∷ []) s ≡ o → Goal
     by_new None closed opens now = none (closed_no_member (before ++ next ∷ []) s now)
     by_new (Some w) closed opens now =
         elim (subst (HasControlItemCause setting before) (opens_by next s boot w opens).1 cause).opens [
@@ -158,7 +158,7 @@ sent_cases setting before n s message cause Goal leaves none new =
           | inr same ↦ let clash : None ≡ Some w = sym closed ∙ same in absurd cc
         ]
 
-    by_opened : (o : Option ℕ) → opened_at before s ≡ o → Goal
+    by_opened : (o : Option ℕ) → journal_opened_at before s ≡ o → Goal
     by_opened (Some w) e = leaves (record {
       known = known;
       over = over_more before next s;
@@ -237,10 +237,10 @@ member_on setting Holds fact before next s cause are is = fact.same before next 
 -- what is acknowledged in a known boot that stays: what was, and what the item tells
 pub acked_more : (before : List Item) (next : Item) (s v : ℕ) → journal_known_boot (before ++ next ∷ []) s
     ≡ journal_known_boot before s → has_acked (before ++ next ∷ []) s v ≡ (has_acked before s v
-    || list_any (nat_eq v) (tells (journal_installed_in_body s (journal_known_boot before s)) before next))
+    || list_any (nat_eq v) (tells (machine_installed_version s (journal_known_boot before s)) before next))
 unfolding has_acked
 acked_more before next s v known =
-    rw (known, told_by_more (journal_installed_in_body s (journal_known_boot before s)) before next)
+    rw (known, told_by_more (machine_installed_version s (journal_known_boot before s)) before next)
     (ap (list_any (nat_eq v)) (sym (append_assoc first told new))
     ∙ list_any-append (nat_eq v) (first ++ told) new)
   where
@@ -248,10 +248,10 @@ acked_more before next s v known =
     first = if journal_known_boot before s == 1 then 1 ∷ [] else []
 
     told : List ℕ
-    told = told_by (journal_installed_in_body s (journal_known_boot before s)) before
+    told = told_by (machine_installed_version s (journal_known_boot before s)) before
 
     new : List ℕ
-    new = tells (journal_installed_in_body s (journal_known_boot before s)) before next
+    new = tells (machine_installed_version s (journal_known_boot before s)) before next
 
 acked_grows : (before : List Item) (next : Item) (s v : ℕ)
     → journal_known_boot (before ++ next ∷ []) s ≡ journal_known_boot before s
@@ -277,7 +277,7 @@ same_acked setting before next s leaves current is = record {
 -- one that is opened now acknowledged the version at which it is
 new_acked : (setting : Setting) (before : List Item) (n s version : ℕ) (message : Message)
     → IsFirstOpeningMessage before s version
-    → opened_at (before ++ Item.Sent n message ∷ []) s ≡ Some version
+    → journal_opened_at (before ++ Item.Sent n message ∷ []) s ≡ Some version
     → IsAcked setting (before ++ Item.Sent n message ∷ []) s
 new_acked setting before n s version message first now =
     let next : Item = Item.Sent n message in
@@ -319,7 +319,7 @@ acked_fact setting = record {
 }
 
 pub first_open : (s : ℕ) → open_version [] s ≡ 1
-unfolding opened_at journal_known_boot controller_heard
+unfolding journal_opened_at journal_known_boot journal_controller_heard
 first_open s = refl
 
 pub acked_at_first : (setting : Setting) (s : ℕ) → IsAcked setting [] s

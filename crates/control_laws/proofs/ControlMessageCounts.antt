@@ -1,7 +1,7 @@
 -- How many messages each block of a piece sends.
 use Rattle.std.proofs.Common.{[], if◌then◌else◌, ◌++◌, ◌+◌, ◌∷◌, ◌≡◌, ◌≤◌, Bool, IsFalse, List, Option, arith, cond, false, filter, flat_map, length, length-append, map, not, refl, true, ℕ, rules}
 use Rattle.base.proofs.Exports.{length-flat_map, length-map, length-range_with_len, length_filter_less, range_with_len, sum_by-cons, sum_each}
-use Rattle.update_machine.specs.Exports.{Action, Advert, AuthorityRule, Body, Found, Header, Item, Leg, Message, NoneConcern, Setting, Step, advert_to, after_hello, machine_arrive_items, machine_authority_items, journal_cache_items, item_concerns_policies, confirm_items, controller_items, count_of, current_items, end_items, machine_expire_items, forget_items, found_items, has_acked, journal_held_adverts, machine_hello_of, machine_hop_items, in_turn, journal_install_for, machine_installs_to, machine_installs_to_all, is_member, is_sending, is_up, journal_items_then, machine_leg_items, lookup_items, lose_items, members, move_items, near, journal_next_message, nothing, machine_open_items, packet_items, machine_advert_passed_on, reroute_items, resend_items, journal_resent_by_controller, journal_resent_by_switch, journal_resent_to_member, retired_items, send_items, machine_sends_or_nothing, machine_sent_items_from, settling, step_items, submitted_items, setting_switches_in, switches_of, journal_unacked_installs, update_items, journal_version_count}
+use Rattle.update_machine.specs.Exports.{Action, Advert, AuthorityRule, Body, Found, Header, Item, Leg, Message, NoneConcern, Setting, Step, machine_advert_to, machine_after_hello, machine_arrive_items, machine_authority_items, journal_cache_items, item_concerns_policies, confirm_items, controller_items, count_of, current_items, machine_end_items, machine_expire_items, machine_forget_items, found_items, has_acked, journal_held_adverts, machine_hello_of, machine_hop_items, in_turn, journal_install_for, machine_installs_to, machine_installs_to_all, is_member, is_sending, is_up, journal_items_then, machine_leg_items, machine_lookup_items, lose_items, members, machine_move_items, near, journal_next_message, nothing, machine_open_items, machine_packet_items, machine_advert_passed_on, machine_reroute_items, machine_resend_items, journal_resent_by_controller, journal_resent_by_switch, journal_resent_to_member, machine_retired_items, send_items, machine_sends_or_nothing, machine_sent_items_from, settling, machine_step_items, submitted_items, setting_switches_in, setting_switches_of, journal_unacked_installs, machine_update_items, journal_version_count}
 use Rattle.base.specs.Exports.{has}
 use Rattle.net_file.specs.Exports.{IsNet}
 use Rattle.update_machine.proofs.Exports.{count_of_append, policies_keep}
@@ -40,8 +40,8 @@ unfolding machine_leg_items
 leg_few setting journal i s leg = grind arith
 
 end_few : (setting : Setting) (i s : ℕ) (act : Action) (journal : List Item)
-    → sent (end_items setting i s act journal) ≡ 0
-unfolding end_items
+    → sent (machine_end_items setting i s act journal) ≡ 0
+unfolding machine_end_items
 end_few setting i s act journal = search (rules, leg_few)
 
 cache_few : (setting : Setting) (i s : ℕ) (rule : AuthorityRule) (journal : List Item)
@@ -60,8 +60,8 @@ found_few : (setting : Setting) (i s : ℕ) (what : Found) (journal : List Item)
 found_few setting i s what journal = grind (arith, sent_more, end_few, authority_few, leg_few)
 
 lookup_few : (setting : Setting) (i s : ℕ) (journal : List Item)
-    → sent (lookup_items setting i s journal) ≤ 1
-unfolding lookup_items
+    → sent (machine_lookup_items setting i s journal) ≤ 1
+unfolding machine_lookup_items
 lookup_few setting i s journal = search (rules, found_few)
 
 arrive_few : (setting : Setting) (i s : ℕ) (journal : List Item)
@@ -70,39 +70,39 @@ unfolding machine_arrive_items
 arrive_few setting i s journal = grind (arith, lookup_few, authority_few)
 
 reroute_few : (setting : Setting) (i s : ℕ) (journal : List Item)
-    → sent (reroute_items setting i s journal) ≤ 1
-unfolding reroute_items
+    → sent (machine_reroute_items setting i s journal) ≤ 1
+unfolding machine_reroute_items
 reroute_few setting i s journal = grind (arith, sent_more, arrive_few)
 
 move_few : (setting : Setting) (i s : ℕ) (journal : List Item)
-    → sent (move_items setting i s journal) ≤ 1
-unfolding move_items
+    → sent (machine_move_items setting i s journal) ≤ 1
+unfolding machine_move_items
 move_few setting i s journal = grind (arith, sent_more, arrive_few, reroute_few)
 
 pub packet_few : (setting : Setting) (i s : ℕ) (header : Header) (journal : List Item)
-    → sent (packet_items setting i s header journal) ≤ 1
-unfolding packet_items
+    → sent (machine_packet_items setting i s header journal) ≤ 1
+unfolding machine_packet_items
 packet_few setting i s header journal = grind (arith, sent_more, lookup_few)
 
 -- so what is work alone sends at most one message
 pub step_few : (setting : Setting) (before : List Item) (step : Step) (here : List Item)
-    → IsWorkStep step → sent (step_items setting before step here) ≤ 1
-unfolding machine_hop_items lose_items forget_items machine_expire_items
+    → IsWorkStep step → sent (machine_step_items setting before step here) ≤ 1
+unfolding machine_hop_items lose_items machine_forget_items machine_expire_items
 step_few setting before step here = search (rules, move_few)
 
 -- ---- settling
 
 switches_few : (setting : Setting) → IsNet setting.net → (test : ℕ → Bool)
-    → length (filter test (switches_of setting)) ≤ 64
+    → length (filter test (setting_switches_of setting)) ≤ 64
 switches_few setting net test = search (rules, length_filter_less, length-range_with_len)
 
 -- the same message to each of these switches
 each_few : (setting : Setting) → IsNet setting.net → (journal : List Item) (to : ℕ → Message)
-    (test : ℕ → Bool) → sent (send_items journal (map to (filter test (switches_of setting)))) ≤ 64
+    (test : ℕ → Bool) → sent (send_items journal (map to (filter test (setting_switches_of setting)))) ≤ 64
 each_few setting net journal to test = omega (
   arith,
-  sends_count journal (map to (filter test (switches_of setting))),
-  length-map (filter test (switches_of setting)) to,
+  sends_count journal (map to (filter test (setting_switches_of setting))),
+  length-map (filter test (setting_switches_of setting)) to,
   switches_few setting net test,
 )
 
@@ -128,8 +128,8 @@ unfolding machine_open_items
 open_few setting net journal = each_few setting net journal _ _
 
 retired_few : (setting : Setting) → IsNet setting.net → (journal : List Item)
-    → sent (retired_items setting journal) ≤ 64
-unfolding retired_items
+    → sent (machine_retired_items setting journal) ≤ 64
+unfolding machine_retired_items
 retired_few setting net journal = mark_few setting net journal (Item.Retired _) refl _ _
 
 pub settling_few : (setting : Setting) → IsNet setting.net → (journal : List Item)
@@ -141,9 +141,9 @@ settling_few setting net journal =
     omega (
       arith,
       put_few (current_items setting journal)
-          (in_turn (machine_open_items setting ∷ retired_items setting ∷ [])) journal,
-      put_few (machine_open_items setting raised) (in_turn (retired_items setting ∷ [])) raised,
-      put_few (retired_items setting opened) (in_turn []) opened,
+          (in_turn (machine_open_items setting ∷ machine_retired_items setting ∷ [])) journal,
+      put_few (machine_open_items setting raised) (in_turn (machine_retired_items setting ∷ [])) raised,
+      put_few (machine_retired_items setting opened) (in_turn []) opened,
       current_few setting net journal,
       open_few setting net raised,
       retired_few setting net opened,
@@ -211,26 +211,26 @@ switch_resent_few setting net journal s = by_up (is_up journal s) where
   by_up : (up : Bool) → length {A = Message} (elim up [
     | false ↦ []
     | true ↦ machine_hello_of journal s
-        ∷ flat_map (λ neighbour. map (advert_to neighbour) (journal_held_adverts setting journal s))
+        ∷ flat_map (λ neighbour. map (machine_advert_to neighbour) (journal_held_adverts setting journal s))
         (setting_switches_in setting (near setting journal s))
   ]) ≤ 4097
   by_up false = omega arith
   by_up true = omega (
     arith,
-    length-flat_map (λ neighbour. map (advert_to neighbour) (journal_held_adverts setting journal s))
+    length-flat_map (λ neighbour. map (machine_advert_to neighbour) (journal_held_adverts setting journal s))
         (setting_switches_in setting (near setting journal s)),
-    sum_each (λ neighbour. length (map (advert_to neighbour) (journal_held_adverts setting journal s))) 64
+    sum_each (λ neighbour. length (map (machine_advert_to neighbour) (journal_held_adverts setting journal s))) 64
         (setting_switches_in setting (near setting journal s)) (λ neighbour. omega (
           arith,
           held_few setting journal s,
-          length-map (journal_held_adverts setting journal s) (advert_to neighbour),
+          length-map (journal_held_adverts setting journal s) (machine_advert_to neighbour),
         )),
     switches_few setting net (has (near setting journal s)),
   )
 
 pub resend_few : (setting : Setting) → IsNet setting.net → (s : ℕ) (journal : List Item)
-    → sent (resend_items setting s journal) ≤ 4100 + journal_version_count journal
-unfolding resend_items
+    → sent (machine_resend_items setting s journal) ≤ 4100 + journal_version_count journal
+unfolding machine_resend_items
 resend_few setting net s journal = by_messages _ (omega (
   arith,
   length-append (journal_resent_by_switch setting journal s) (journal_resent_by_controller setting journal s),
@@ -246,8 +246,8 @@ resend_few setting net s journal = by_messages _ (omega (
 -- ---- steps without links
 
 pub update_few : (setting : Setting) → IsNet setting.net → (file : ℕ) (journal : List Item)
-    → sent (update_items setting file journal) ≤ 256
-unfolding update_items
+    → sent (machine_update_items setting file journal) ≤ 256
+unfolding machine_update_items
 update_few setting net file journal = search (rules, sent_more, submitted_few)
 
 pub confirm_few : (setting : Setting) → IsNet setting.net → (s : ℕ) (journal : List Item)
@@ -260,7 +260,7 @@ pub passed_few : (setting : Setting) → IsNet setting.net → (journal : List I
 passed_few setting net journal s advert = omega (
   arith,
   length-map (setting_switches_in setting (near setting journal s))
-      (λ neighbour. advert_to neighbour advert),
+      (λ neighbour. machine_advert_to neighbour advert),
   switches_few setting net (has (near setting journal s)),
 )
 
@@ -276,7 +276,7 @@ settling_submitless setting journal = have_weaker IsOfSettling _ settling_submit
     (settling_settles setting journal)
 
 hello_few : (setting : Setting) (before : List Item) (body : Body) (journal : List Item)
-    → sent (after_hello setting before body journal) ≤ journal_version_count journal + 1
+    → sent (machine_after_hello setting before body journal) ≤ journal_version_count journal + 1
 hello_few setting before body journal = search (rules, installs_few)
 
 pub controller_few : (setting : Setting) → IsNet setting.net → (before : List Item) (body : Body)
@@ -289,8 +289,8 @@ controller_few setting net before body journal =
     (settling setting journal) (settling_submitless setting journal)).count in
     omega (
       arith,
-      put_few (settling setting journal) (in_turn (after_hello setting before body ∷ [])) journal,
-      put_few (after_hello setting before body settled) (in_turn []) settled,
+      put_few (settling setting journal) (in_turn (machine_after_hello setting before body ∷ [])) journal,
+      put_few (machine_after_hello setting before body settled) (in_turn []) settled,
       settling_few setting net journal,
       hello_few setting before body settled,
       same,

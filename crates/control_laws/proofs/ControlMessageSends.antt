@@ -2,10 +2,10 @@
 use Rattle.std.proofs.Common.{[], ◌&&◌, ◌++◌, ◌+◌, ◌-◌, ◌<◌, ◌∙◌, ◌∷◌, ◌≡◌, ◌≤◌, ◌⊎◌, Bool, IsFalse, IsTrue, List, None, Option, Some, ap, arith, false, filter, flat_map, inl, inr, is_some, length, map, nat_lt, not, refl, subst, suc, sym, true, zero, ℕ, rules}
 use Rattle.base.proofs.Exports.{AllByRecursion, each_always, each_flat_map, each_kept, each_map, each_passing, option_or, range_with_len}
 pub use Rattle.policy_rules.proofs.PolicyRulesCallerLemmas.{each_weaker}
-use Rattle.update_machine.specs.Exports.{Advert, Advertise, Body, CacheRule, Collect, JournalItemsHaveCauses, Hello, Install, Installed, Item, Message, OpenAt, Place, Setting, Stamp, Stamped, JournalSwitchKeeps, advert_to, machine_collect_for, controller_heard, current_items, journal_current_mark, machine_first_open, has_acked, journal_held_adverts, machine_hello_of, journal_install_for, is_joining, is_member, is_over, is_up, journal_items_then, journal_known_boot, members, near, journal_next_current, journal_next_retired, journal_open_for, machine_open_items, machine_open_sent, open_version, opened_at, opening_switches, resend_items, journal_resent_by_controller, journal_resent_by_switch, journal_resent_to_member, retired_items, journal_retired_mark, send_items, machine_sent_items_from, settling, journal_stamp_for, setting_switches_in, switches_of, journal_tables_at, touched_by, journal_unacked_installs, journal_version_count, journal_versions_from_current}
+use Rattle.update_machine.specs.Exports.{Advert, Advertise, Body, CacheRule, Collect, JournalItemsHaveCauses, Hello, Install, Installed, Item, Message, OpenAt, Place, Setting, Stamp, Stamped, JournalSwitchKeeps, machine_advert_to, machine_collect_for, journal_controller_heard, current_items, journal_current_mark, machine_first_open, has_acked, journal_held_adverts, machine_hello_of, journal_install_for, is_joining, is_member, is_over, is_up, journal_items_then, journal_known_boot, members, near, journal_next_current, journal_next_retired, journal_open_for, machine_open_items, machine_open_sent, open_version, journal_opened_at, opening_switches, machine_resend_items, journal_resent_by_controller, journal_resent_by_switch, journal_resent_to_member, machine_retired_items, journal_retired_mark, send_items, machine_sent_items_from, settling, journal_stamp_for, setting_switches_in, setting_switches_of, journal_tables_at, machine_touched_by, journal_unacked_installs, journal_version_count, journal_versions_from_current}
 use Rattle.switch_table.specs.Exports.{tables_of}
 use Rattle.update_machine.proofs.Exports.{have_first, have_in_turn, policies_keep, switch_keeps}
-use Rattle.control_laws.specs.Exports.{HasControlItemCause, IsFirstOpeningMessage, IsControlForKnown, IsControlSenderPresent, IsRightMessageFrom, IsRightMessage, IsRightOpening, IsRightMessageTo}
+use Rattle.control_laws.specs.Exports.{HasControlItemCause, IsFirstOpeningMessage, IsControlForKnown, IsControlSenderPresent, IsRightControlMessageFrom, IsRightControlMessage, IsRightControlOpening, IsRightControlMessageTo}
 use Rattle.control_laws.proofs.ControlFactsGrown.{Has, count_more, current_more, known_more, opened_at_more, opens_by, over_more, retired_more, told_more}
 use Rattle.control_laws.proofs.ControlSwitchOpenings.{each_by_controller, each_to_member, later_versions, member_on, member_parts, resent_has}
 
@@ -22,12 +22,12 @@ each_range P low (suc n) all = (
 
 -- the switches of the network, and those that pass a test
 pub switches_there : (setting : Setting)
-    → AllByRecursion (λ s. s < length setting.net.switches) (switches_of setting)
+    → AllByRecursion (λ s. s < length setting.net.switches) (setting_switches_of setting)
 switches_there setting = each_range _ 0 _ (λ s above below. omega (arith, below))
 
 pub each_of_network : (P : ℕ → Type 0) (setting : Setting) (test : ℕ → Bool)
     → ((s : ℕ) → s < length setting.net.switches → IsTrue (test s) → P s)
-    → AllByRecursion P (filter test (switches_of setting))
+    → AllByRecursion P (filter test (setting_switches_of setting))
 each_of_network P setting test so = each_passing _ P test so _ (switches_there setting)
 
 -- ---- messages that are told as the first of them is sent, each of which stays so behind others
@@ -59,8 +59,8 @@ sends_kept cause Tells causes stays journal messages all = search (rules, sent_k
 -- ---- what a message that is sent leaves as it was
 
 -- what was acknowledged is as what was told
-pub acked_same : (after before : List Item) (s v : ℕ) → controller_heard after
-    ≡ controller_heard before → has_acked after s v ≡ has_acked before s v
+pub acked_same : (after before : List Item) (s v : ℕ) → journal_controller_heard after
+    ≡ journal_controller_heard before → has_acked after s v ≡ has_acked before s v
 unfolding has_acked journal_known_boot
 acked_same after before s v same = rw same refl
 
@@ -83,7 +83,7 @@ present_sent setting before s boot n message present =
     record { up = rw same.up present.up; own = rw same.boot present.own }
 
 from_sent : (setting : Setting) (before : List Item) (n : ℕ) (message : Message) (body : Body)
-    → IsRightMessageFrom before body → IsRightMessageFrom (before ++ Item.Sent n message ∷ []) body
+    → IsRightControlMessageFrom before body → IsRightControlMessageFrom (before ++ Item.Sent n message ∷ []) body
 from_sent setting before n message (Hello s boot) right = search (rules, present_sent)
 from_sent setting before n message (Installed s boot version) right = record {
   present = present_sent setting before s boot n message right.present;
@@ -98,8 +98,8 @@ from_sent setting before n message _ right = absurd right
 -- ---- openings that are sent one after another
 
 opening_sent : (setting : Setting) (before : List Item) (s boot version n : ℕ) (message : Message)
-    → IsRightMessage setting before message.to message.body → IsRightOpening before s boot version
-    → IsRightOpening (before ++ Item.Sent n message ∷ []) s boot version
+    → IsRightControlMessage setting before message.to message.body → IsRightControlOpening before s boot version
+    → IsRightControlOpening (before ++ Item.Sent n message ∷ []) s boot version
 opening_sent setting before s boot version n message new right = record {
   to = known_sent before s boot n message right.to;
   opens = elim right.opens [
@@ -111,13 +111,13 @@ opening_sent setting before s boot version n message new right = record {
   next : Item
   next = Item.Sent n message
 
-  after : opened_at (before ++ next ∷ []) s
-      ≡ option_or (opened_at before s) (machine_first_open (machine_open_sent s (journal_known_boot before s) next))
+  after : journal_opened_at (before ++ next ∷ []) s
+      ≡ option_or (journal_opened_at before s) (machine_first_open (machine_open_sent s (journal_known_boot before s) next))
   after = opened_at_more before next s (known_more before next s)
 
   -- another one opens it at the current version too
   at_current : (w : ℕ) → IsFirstOpeningMessage before s version
-      → IsRightOpening before s (journal_known_boot before s) w → w ≡ version
+      → IsRightControlOpening before s (journal_known_boot before s) w → w ≡ version
   at_current w first other = elim other.opens [
     | inl also ↦ also.current ∙ sym first.current
     | inr same ↦ let clash : None ≡ Some w = sym first.closed ∙ same in absurd cc
@@ -126,7 +126,7 @@ opening_sent setting before s boot version n message new right = record {
   by_opens : IsFirstOpeningMessage before s version → (o : Option ℕ)
       → machine_first_open (machine_open_sent s (journal_known_boot before s) next) ≡ o
       → IsFirstOpeningMessage (before ++ next ∷ []) s version
-      ⊎ (opened_at (before ++ next ∷ []) s ≡ Some version)
+      ⊎ (journal_opened_at (before ++ next ∷ []) s ≡ Some version)
   by_opens first None e = inl (record {
     closed = cc (after, first.closed, e);
     current = rw (current_more before next) first.current;
@@ -146,12 +146,12 @@ tables_sent setting before n v s message = ap (λ plan. tables_of plan v s)
     ((policies_keep before (Item.Sent n message ∷ []) (refl, tt)).plan setting v)
 
 touched_sent : (setting : Setting) (before : List Item) (n v : ℕ) (message : Message)
-    → touched_by setting (before ++ Item.Sent n message ∷ []) v ≡ touched_by setting before v
+    → machine_touched_by setting (before ++ Item.Sent n message ∷ []) v ≡ machine_touched_by setting before v
 touched_sent setting before n v message = (policies_keep before _ (refl, tt)).touched setting v
 
 to_sent : (setting : Setting) (before : List Item) (s n : ℕ) (message : Message) (body : Body)
-    → IsRightMessage setting before message.to message.body → IsRightMessageTo setting before s body
-    → IsRightMessageTo setting (before ++ Item.Sent n message ∷ []) s body
+    → IsRightControlMessage setting before message.to message.body → IsRightControlMessageTo setting before s body
+    → IsRightControlMessageTo setting (before ++ Item.Sent n message ∷ []) s body
 to_sent setting before s n message (Install boot tables) new right = record {
   to = known_sent before s boot n message right.to;
   version = right.version;
@@ -172,11 +172,11 @@ to_sent setting before s n message (Advertise advert) new right = tt
 to_sent setting before s n message _ new right = absurd right
 
 abbrev pub IsRight : Setting → List Item → Message → Type 0
-IsRight setting before message = IsRightMessage setting before message.to message.body
+IsRight setting before message = IsRightControlMessage setting before message.to message.body
 
 right_sent : (setting : Setting) (before : List Item) (n : ℕ) (message : Message) (to : Place)
-    (body : Body) → IsRight setting before message → IsRightMessage setting before to body
-    → IsRightMessage setting (before ++ Item.Sent n message ∷ []) to body
+    (body : Body) → IsRight setting before message → IsRightControlMessage setting before to body
+    → IsRightControlMessage setting (before ++ Item.Sent n message ∷ []) to body
 right_sent setting before n message (Place.Switch s) body new right = search (rules, to_sent)
 right_sent setting before n message Place.Controller body new right = search (rules, from_sent)
 
@@ -217,11 +217,11 @@ pub record SettlingHas (cause : List Item → Item → Type 0) (Tells : List Ite
 pub record PartsHave (cause : List Item → Item → Type 0) (setting : Setting) : Type 0 where
   pub rises : (journal : List Item) → JournalItemsHaveCauses cause journal (current_items setting journal)
   pub opens : (journal : List Item) → JournalItemsHaveCauses cause journal (machine_open_items setting journal)
-  pub retires : (journal : List Item) → JournalItemsHaveCauses cause journal (retired_items setting journal)
+  pub retires : (journal : List Item) → JournalItemsHaveCauses cause journal (machine_retired_items setting journal)
 
 pub parts_have : (cause : List Item → Item → Type 0) (Tells : List Item → Message → Type 0)
     (setting : Setting) → SettlingHas cause Tells setting → PartsHave cause setting
-unfolding current_items machine_open_items retired_items
+unfolding current_items machine_open_items machine_retired_items
 parts_have cause Tells setting has = record {
   rises = λ journal. let version = journal_next_current setting journal in
       rise_has journal (nat_lt (journal_current_mark journal) version) (Item.Current version)
@@ -266,7 +266,7 @@ settling_has cause setting have = search (rules, have_in_turn)
 
 -- adverts may be sent at any time
 adverts_right : (setting : Setting) (journal : List Item) (s : ℕ) (adverts : List Advert)
-    → AllByRecursion (IsRight setting journal) (map (advert_to s) adverts)
+    → AllByRecursion (IsRight setting journal) (map (machine_advert_to s) adverts)
 adverts_right setting journal s adverts = each_map _ _ _ (each_always _ (λ advert. tt) adverts)
 
 resend_by_switch : (setting : Setting) (journal : List Item) (s : ℕ)
@@ -275,7 +275,7 @@ resend_by_switch setting journal s = by_up (is_up journal s) refl where
   by_up : (up : Bool) → is_up journal s ≡ up → AllByRecursion (IsRight setting journal) (elim up [
     | false ↦ []
     | true ↦ machine_hello_of journal s
-        ∷ flat_map (λ neighbour. map (advert_to neighbour) (journal_held_adverts setting journal s))
+        ∷ flat_map (λ neighbour. map (machine_advert_to neighbour) (journal_held_adverts setting journal s))
         (setting_switches_in setting (near setting journal s))
   ])
   by_up false e = tt
@@ -300,8 +300,8 @@ tables_right : (setting : Setting) (journal : List Item) (s version : ℕ)
     → IsRight setting journal (journal_install_for setting journal version s)
 tables_right setting journal s version none above there = search rules
 
-opening_is : (journal : List Item) (s : ℕ) → IsTrue (is_some (opened_at journal s))
-    → opened_at journal s ≡ Some (open_version journal s)
+opening_is : (journal : List Item) (s : ℕ) → IsTrue (is_some (journal_opened_at journal s))
+    → journal_opened_at journal s ≡ Some (open_version journal s)
 opening_is journal s opened = search rules
 
 member_resent : (setting : Setting) (journal : List Item) (s : ℕ) → IsTrue (is_member journal s)
@@ -327,6 +327,6 @@ resend_by_controller setting journal s = each_by_controller (IsRight setting jou
     below. tables_right setting journal s version none above (omega (arith, above, below)))))
 
 pub resend_have : (setting : Setting) (s : ℕ) (journal : List Item)
-    → Has setting journal (resend_items setting s journal)
+    → Has setting journal (machine_resend_items setting s journal)
 resend_have setting s journal = resent_has _ _ setting s journal tt (sends_have setting journal)
     (resend_by_switch setting journal s) (resend_by_controller setting journal s)

@@ -2,10 +2,10 @@
 use Rattle.std.proofs.Common.{[], ◌&&◌, ◌++◌, ◌<◌, ◌==◌, ◌∙◌, ◌∷◌, ◌≡◌, ◌≤◌, Bool, List, None, Option, Some, arith, eqb-true, false, if◌then◌else◌, inl, inr, length, option_and_then, option_to_list, refl, subst, sym, true, ℕ, rules}
 use Rattle.base.proofs.Exports.{All-from_recursion, AllByRecursion, IfSome_then, each_append, each_option, option_map_or, option_or}
 use Rattle.ctrl_msg.specs.Exports.{body_version, to_controller}
-use Rattle.update_machine.specs.Exports.{Advertise, Body, CacheRule, Collect, JournalItemsHaveCauses, Hello, Install, Installed, Item, Message, OpenAt, Place, Setting, Stamp, Stamped, journal_body_to_controller, journal_boot_of, controller_heard, machine_first_open, item_gives_ingress, heard, journal_hello_boot, journal_ingress_of, is_up, journal_known_boot, message_of, machine_open_sent, machine_message_to_switch, journal_version_count}
+use Rattle.update_machine.specs.Exports.{Advertise, Body, CacheRule, Collect, JournalItemsHaveCauses, Hello, Install, Installed, Item, Message, OpenAt, Place, Setting, Stamp, Stamped, journal_body_to_controller, journal_boot_of, journal_controller_heard, machine_first_open, machine_item_gives_ingress, heard, machine_hello_boot, journal_ingress_of, is_up, journal_known_boot, journal_message_of, machine_open_sent, machine_message_to_switch, journal_version_count}
 use Rattle.net_file.specs.Exports.{IsNet}
 use Rattle.update_machine.proofs.Exports.{last_given_append, open_net, start_laws}
-use Rattle.control_laws.specs.Exports.{ControlBodiesNameThere, HasControlItemCause, HoldsReached, IsControlMessageAddressed, IsRightMessage, IsRightOpening, ControlMessageNamesThere}
+use Rattle.control_laws.specs.Exports.{ControlBodiesNameThere, HasControlItemCause, ControlLawHoldsReached, IsControlMessageAddressed, IsRightControlMessage, IsRightControlOpening, ControlMessageNamesThere}
 use Rattle.control_laws.proofs.ControlFactsGrown.{Both, by_number, fact_on, have_both, hello_sent, known_more, opened_in, opened_is, opened_more, opens_by, raised, said_sent, told_more}
 use Rattle.control_laws.proofs.ControlPieceCauses.{pieces_have}
 use Rattle.control_laws.proofs.ControlMarksAtEnds.{reached}
@@ -31,11 +31,11 @@ pub record AreNamed (setting : Setting) (journal : List Item) : Type 0 where
   pub opened : (s boot version : ℕ) → opened_in journal s boot ≡ Some version → 1 ≤ version
   pub ingress : (i s : ℕ) → journal_ingress_of journal i ≡ Some s → s < length setting.net.switches
   pub known : (s : ℕ) → 1 < journal_known_boot journal s → s < length setting.net.switches
-  pub sent : (n : ℕ) (message : Message) → message_of journal n ≡ Some message
+  pub sent : (n : ℕ) (message : Message) → journal_message_of journal n ≡ Some message
       → ControlMessageNamesThere setting journal message
   pub heard : (s : ℕ) → AllByRecursion
       (λ body. ControlMessageNamesThere setting journal (machine_message_to_switch s body)) (heard journal s)
-  pub told : AllByRecursion (IsTold setting journal) (controller_heard journal)
+  pub told : AllByRecursion (IsTold setting journal) (journal_controller_heard journal)
 
 -- each item has its causes, and names what is there
 abbrev Named : Setting → List Item → Item → Type 0
@@ -54,12 +54,12 @@ ingress_there setting before s some are is = search rules
 -- ---- versions
 
 opening_above : (setting : Setting) (before : List Item) (s boot version : ℕ)
-    → AreNamed setting before → IsRightOpening before s boot version → 1 ≤ version
+    → AreNamed setting before → IsRightControlOpening before s boot version → 1 ≤ version
 opening_above setting before s boot version are right = search (rules, opened_is)
 
 names_there : (setting : Setting) (before : List Item) (to : Place) (body : Body)
     → 1 ≤ length setting.net.switches → AreNamed setting before
-    → IsRightMessage setting before to body → SaysThere setting before to body
+    → IsRightControlMessage setting before to body → SaysThere setting before to body
     → ControlMessageNamesThere setting before (record { to = to; body = body })
 names_there setting before (Place.Switch s) (Install boot tables) some are right says =
     let own = own_tables setting before s tables are.planned.so_far.versions
@@ -115,7 +115,7 @@ names_on setting before next message names = record {
 
 sent_named : (setting : Setting) (before : List Item) (next : Item) (n : ℕ) (message : Message)
     → 1 ≤ length setting.net.switches → Named setting before next → AreNamed setting before
-    → message_of (before ++ next ∷ []) n ≡ Some message
+    → journal_message_of (before ++ next ∷ []) n ≡ Some message
     → ControlMessageNamesThere setting (before ++ next ∷ []) message
 sent_named setting before next n message some cause are is = elim (by_number _ next n message is) [
   | inl new ↦ let own = subst (Named setting before) new cause in
@@ -137,9 +137,9 @@ opened_named setting before next s boot version cause are opened =
         (subst (HasControlItemCause setting before) (opens_by next s boot version opens).1 cause)
 
 ingress_more : (before : List Item) (next : Item) (i : ℕ) → journal_ingress_of (before ++ next ∷ []) i
-    ≡ option_or (item_gives_ingress i next) (journal_ingress_of before i)
+    ≡ option_or (machine_item_gives_ingress i next) (journal_ingress_of before i)
 unfolding journal_ingress_of
-ingress_more before next i = last_given_append (item_gives_ingress i) before (next ∷ [])
+ingress_more before next i = last_given_append (machine_item_gives_ingress i) before (next ∷ [])
 
 ingress_named : (setting : Setting) (before : List Item) (next : Item) (i s : ℕ)
     → NamesRightly setting before next → AreNamed setting before
@@ -152,7 +152,7 @@ known_named : (setting : Setting) (before : List Item) (next : Item) (s : ℕ)
 known_named setting before (Item.Delivered number) s are above = by_hello _ refl
     (subst (λ boot. 1 < boot) (known_more before (Item.Delivered number) s) above)
   where
-    by_hello : (o : Option ℕ) → option_and_then (journal_hello_boot s) (journal_body_to_controller before number)
+    by_hello : (o : Option ℕ) → option_and_then (machine_hello_boot s) (journal_body_to_controller before number)
         ≡ o → 1 < raised (journal_known_boot before s) o → s < length setting.net.switches
     by_hello None e above = are.known s above
     by_hello (Some boot) e above = (are.sent number (to_controller (Hello s boot))
@@ -166,10 +166,10 @@ told_on setting before next bodies told = each_weaker (IsTold setting before) _
     (λ body names. names_on setting before next (to_controller body) names) bodies told
 
 told_named : (setting : Setting) (before : List Item) (next : Item) → AreNamed setting before
-    → AllByRecursion (IsTold setting (before ++ next ∷ [])) (controller_heard (before ++ next ∷ []))
+    → AllByRecursion (IsTold setting (before ++ next ∷ [])) (journal_controller_heard (before ++ next ∷ []))
 told_named setting before (Item.Delivered number) are = let next : Item = Item.Delivered number in
     subst (AllByRecursion (IsTold setting (before ++ next ∷ []))) (sym (told_more before next))
-    (told_on setting before next _ (each_append (IsTold setting before) (controller_heard before)
+    (told_on setting before next _ (each_append (IsTold setting before) (journal_controller_heard before)
     (option_to_list (journal_body_to_controller before number)) are.told
     (each_option (IsTold setting before) (journal_body_to_controller before number)
     (λ body said. are.sent number (to_controller body) (said_sent before number body said)))))
@@ -193,8 +193,8 @@ named_kept setting some before next cause are = record {
   told = told_named setting before next are;
 }
 
-none_told : controller_heard [] ≡ []
-unfolding controller_heard
+none_told : journal_controller_heard [] ≡ []
+unfolding journal_controller_heard
 none_told = refl
 
 named_at_first : (setting : Setting) → AreNamed setting []
@@ -207,10 +207,10 @@ named setting journal have net =
       sent = are.sent;
       heard = λ s. All-from_recursion (λ body. ControlMessageNamesThere setting journal (machine_message_to_switch s body))
           (heard journal s) (are.heard s);
-      told = All-from_recursion (IsTold setting journal) (controller_heard journal) are.told;
+      told = All-from_recursion (IsTold setting journal) (journal_controller_heard journal) are.told;
     }
 
-pub bodies_named : HoldsReached (λ setting journal. IsNet setting.net
+pub bodies_named : ControlLawHoldsReached (λ setting journal. IsNet setting.net
     → ControlBodiesNameThere setting journal)
 bodies_named = reached (λ setting journal. IsNet setting.net → ControlBodiesNameThere setting journal)
     Named named
@@ -266,7 +266,7 @@ unfolding journal_version_count
 its_names = record { addressed = (omega arith, refl); version = (omega arith, omega arith) }
 
 name_there : ControlBodiesNameThere open_net stamped
-unfolding message_of heard is_up journal_boot_of controller_heard
+unfolding journal_message_of heard is_up journal_boot_of journal_controller_heard
 name_there = record {
   sent = λ n message is. by_number (1 == n) message is;
   heard = λ s. All-from_recursion (Names s) (heard stamped s) (by_switch s (1 == s) refl);
@@ -289,7 +289,7 @@ name_there = record {
 
 -- a message to a third switch names none, as it is sent
 not_sent_to_third : ControlBodiesNameThere open_net (Item.Sent 1 (machine_message_to_switch 2 (Stamp 1 1 [])) ∷ []) → ⊥
-unfolding message_of
+unfolding journal_message_of
 not_sent_to_third name = not_to_fresh_third (name.sent 1 (machine_message_to_switch 2 (Stamp 1 1 [])) refl) where
   not_to_fresh_third : ControlMessageNamesThere open_net
       (Item.Sent 1 (machine_message_to_switch 2 (Stamp 1 1 [])) ∷ []) (machine_message_to_switch 2 (Stamp 1 1 [])) → ⊥
@@ -298,11 +298,11 @@ not_sent_to_third name = not_to_fresh_third (name.sent 1 (machine_message_to_swi
 -- nor is it as a switch hears of a version that isn't there, or the controller of a third switch
 not_heard_of_version_2 :
     ControlBodiesNameThere open_net (Item.Sent 1 (machine_message_to_switch 1 (Stamp 1 2 [])) ∷ Item.Delivered 1 ∷ []) → ⊥
-unfolding message_of heard is_up journal_boot_of journal_version_count
+unfolding journal_message_of heard is_up journal_boot_of journal_version_count
 not_heard_of_version_2 name =
     let heard = name.heard 1 0 (Stamp 1 1 []) (omega arith) in absurd (omega (arith, heard.version.1))
 
 not_told_of_third : ControlBodiesNameThere open_net
     (Item.Sent 1 (to_controller (Hello 2 1)) ∷ Item.Delivered 1 ∷ []) → ⊥
-unfolding message_of controller_heard
+unfolding journal_message_of journal_controller_heard
 not_told_of_third name = search rules

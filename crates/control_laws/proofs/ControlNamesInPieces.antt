@@ -1,7 +1,7 @@
 -- Each piece of a step of the network names what is there, as far as its items alone tell.
 use Rattle.std.proofs.Common.{[], ◌++◌, ◌<◌, ◌∙◌, ◌∷◌, ◌≡◌, ◌≤◌, ◌⊎◌, Bool, IsTrue, List, Some, arith, false, filter, flat_map, inl, inr, length, map, not, refl, true, ℕ}
 use Rattle.base.proofs.Exports.{AllByRecursion, each_map, nat_tests, ⊤}
-use Rattle.update_machine.specs.Exports.{Advertise, Body, CacheRule, Collect, Confirm, Crash, Deliver, JournalItemsHaveCauses, Hello, Install, Installed, Item, Message, OpenAt, Packet, Place, Resend, Restart, Setting, Stamp, Stamped, Step, Tables, Update, advert_to, confirm_items, deliver_items, has_acked, journal_held_adverts, machine_hello_of, journal_install_for, machine_installs_to, machine_installs_to_all, is_over, is_up, is_version, journal_known_boot, message_of, near, journal_next_packet, journal_raises_known_boot, resend_items, journal_resent_by_controller, journal_resent_by_switch, journal_resent_to_member, restart_items, send_items, machine_sent_items_from, settling, step_items, submitted_items, journal_switch_items, setting_switches_in, switches_of, machine_message_to_switch, update_items, journal_version_count, journal_versions_from_current}
+use Rattle.update_machine.specs.Exports.{Advertise, Body, CacheRule, Collect, Confirm, Crash, Deliver, JournalItemsHaveCauses, Hello, Install, Installed, Item, Message, OpenAt, Packet, Place, Resend, Restart, Setting, Stamp, Stamped, Step, Tables, Update, machine_advert_to, confirm_items, deliver_items, has_acked, journal_held_adverts, machine_hello_of, journal_install_for, machine_installs_to, machine_installs_to_all, is_over, is_up, is_version, journal_known_boot, journal_message_of, near, journal_next_packet, journal_raises_known_boot, machine_resend_items, journal_resent_by_controller, journal_resent_by_switch, journal_resent_to_member, restart_items, send_items, machine_sent_items_from, settling, machine_step_items, submitted_items, journal_switch_items, setting_switches_in, setting_switches_of, machine_message_to_switch, machine_update_items, journal_version_count, journal_versions_from_current}
 use Rattle.update_machine.proofs.Exports.{have_in_turn}
 use Rattle.control_laws.proofs.ControlFactsGrown.{have_weaker, hello_above, known_more, message_more, piece_has}
 use Rattle.control_laws.proofs.ControlCommands.{IsCommand, grows, settling_settles}
@@ -32,7 +32,7 @@ SaysOwn setting before to body = ⊥
 -- the switch answers a message that was sent to it
 pub record AnswersTo (before : List Item) (s : ℕ) (body : Body) : Type 0 where
   pub number : ℕ
-  pub sent : message_of before number ≡ Some (machine_message_to_switch s body)
+  pub sent : journal_message_of before number ≡ Some (machine_message_to_switch s body)
 
 pub record AnswersTables (before : List Item) (s boot version : ℕ) : Type 0 where
   pub tables : Tables
@@ -149,7 +149,7 @@ all_installs_name : (setting : Setting) (journal : List Item)
 unfolding machine_installs_to_all
 all_installs_name setting journal = sends_name setting journal _
     (each_map (IsOwn setting journal) (journal_install_for setting journal (journal_version_count journal))
-    (filter (λ s. not (is_over journal s)) (switches_of setting))
+    (filter (λ s. not (is_over journal s)) (setting_switches_of setting))
     (each_of_network (λ s. ⊤ × IsKnownSwitch setting journal s) setting
     (λ s. not (is_over journal s)) (λ s there is. (tt, inl there))))
 
@@ -204,8 +204,8 @@ deliver_name setting before row number step =
 -- ---- links and switches
 
 update_name : (setting : Setting) (file : ℕ) (journal : List Item)
-    → Name setting journal (update_items setting file journal)
-unfolding update_items
+    → Name setting journal (machine_update_items setting file journal)
+unfolding machine_update_items
 update_name setting file journal = grind (arith, submitted_name)
 
 restart_name : (setting : Setting) (s : ℕ) (journal : List Item)
@@ -229,7 +229,7 @@ switch_own : (setting : Setting) (journal : List Item) (s : ℕ) → s < length 
     → AllByRecursion (IsOwn setting journal) (journal_resent_by_switch setting journal s)
 switch_own setting journal s there = by_up (is_up journal s) where
   adverts : List Message
-  adverts = flat_map (λ neighbour. map (advert_to neighbour) (journal_held_adverts setting journal s))
+  adverts = flat_map (λ neighbour. map (machine_advert_to neighbour) (journal_held_adverts setting journal s))
       (setting_switches_in setting (near setting journal s))
 
   by_up : (up : Bool) → AllByRecursion (IsOwn setting journal) (elim up [
@@ -241,7 +241,7 @@ switch_own setting journal s there = by_up (is_up journal s) where
     there,
     each_weaker (IsAdvert setting) (IsOwn setting journal)
         (λ message is. advert_own setting journal message.to message.body is) adverts
-        (each_told setting (λ neighbour. map (advert_to neighbour) (journal_held_adverts setting journal s))
+        (each_told setting (λ neighbour. map (machine_advert_to neighbour) (journal_held_adverts setting journal s))
         (λ neighbour within. adverts_to setting neighbour within (journal_held_adverts setting journal s))
         (setting_switches_in setting (near setting journal s))
         (masked_there setting (near setting journal s))),
@@ -261,7 +261,7 @@ controller_own setting journal s known = each_by_controller (IsOwn setting journ
     (filter (λ version. not (has_acked journal s version)) (journal_versions_from_current journal)) known)
 
 resend_name : (setting : Setting) (s : ℕ) (journal : List Item)
-    → s < length setting.net.switches → Name setting journal (resend_items setting s journal)
+    → s < length setting.net.switches → Name setting journal (machine_resend_items setting s journal)
 resend_name setting s journal there = resent_has (NamesRightly setting) (IsOwn setting journal)
     setting s journal tt (sends_name setting journal) (switch_own setting journal s there)
     (controller_own setting journal s (inl there))
@@ -270,7 +270,7 @@ resend_name setting s journal there = resent_has (NamesRightly setting) (IsOwn s
 
 step_name : (setting : Setting) (before : List Item) (row : ℕ) (step : Step) → NamesOwn setting step
     → let here = before ++ Item.Row row step ∷ [] in
-    Name setting here (step_items setting before step here)
+    Name setting here (machine_step_items setting before step here)
 step_name setting before row (Packet s header) own = packet_has setting (NamesRightly setting)
     (traffic_names setting) (journal_next_packet before) s header _ own.0
 step_name setting before row (Deliver message) own =

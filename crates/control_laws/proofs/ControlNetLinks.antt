@@ -1,14 +1,14 @@
 -- Adverts, known links and routes name links of the network alone.
 use Rattle.std.proofs.Common.{[], ◌&&◌, ◌<◌, ◌==◌, ◌∙◌, ◌∷◌, ◌≡◌, ◌≤◌, ◌⊎◌, Bool, IsTrue, List, None, Option, Some, ap, arith, eq-eqb, false, filter, get_or, get_or-set_other, get_or-set_same, inl, inr, length, length-set, map, refl, set, subst, sym, true, ℕ}
 use Rattle.base.proofs.Exports.{All-from_recursion, any_filter, cases_eq, cases_lt, get_or-map, get_or_past, has-zero, length-map, list_any, mask_of_lt, nat_tests}
-use Rattle.failover.specs.Exports.{AreJoinedByLinks, IsPath, IsRoute, LinksLeadTo, adverts_after_hearing, first_adverts, held_advert, is_link, is_news, neighbours_by_adverts, neighbours_named}
+use Rattle.failover.specs.Exports.{AreJoinedByLinks, IsPath, IsRoute, LinksLeadTo, adverts_after_hearing, first_adverts, held_advert, is_route_link, is_news, neighbours_by_adverts, neighbours_named_by_advert}
 use Rattle.base.specs.Exports.{has, small_number_mask, number_set_where, switches}
-use Rattle.update_machine.specs.Exports.{Advert, JournalItemsHaveCauses, Hello, Item, LinkRow, Net, Setting, Step, StepOfRow, journal_advert_known, advert_to, journal_adverts_known, journal_after_steps, journal_boot_of, journal_crash_items, heard, journal_held_adverts, is_link_up_in_journal, is_up, is_usable_in_journal, journal_link_changes, machine_link_items, journal_links_known, message_of, near, journal_next_message, own_advert, journal_own_advert_sent, journal_own_seq, piece, restart_items, machine_sent_items_from, serves, journal_steps_in}
-use Rattle.net_file.specs.Exports.{IsNet, IsNetSwitchRow, are_linked, joins, links_of, solo_net}
+use Rattle.update_machine.specs.Exports.{Advert, JournalItemsHaveCauses, Hello, Item, LinkRow, Net, Setting, Step, StepOfRow, journal_advert_known, machine_advert_to, journal_adverts_known, journal_after_steps, journal_boot_of, journal_crash_items, heard, journal_held_adverts, is_link_up_in_journal, is_up, is_usable_in_journal, journal_link_changes, machine_link_items, journal_links_known, journal_message_of, near, journal_next_message, own_advert, journal_own_advert_sent, journal_own_seq, piece, restart_items, machine_sent_items_from, serves, journal_steps_in}
+use Rattle.net_file.specs.Exports.{IsNet, IsNetSwitchRow, are_linked_in_net, joins, links_of, net_of_one_switch}
 use Rattle.net_file.proofs.NetFilePortMasks.{in_mask, in_mask_of, in_mask_past}
 use Rattle.steps.specs.Exports.{HasLink, HasSwitch}
 use Rattle.update_machine.proofs.Exports.{advert, at, has_known_link, known_link_laws, open_net, to, to_controller, two_switches}
-use Rattle.control_laws.specs.Exports.{AdvertsAreOfSwitches, AllControlAdverts, GoesOverLinks, IsNoNewerControlAdvert, IsOverLinks, AdvertisedLinksAreThere, AdvertNamesLinks, OwnAdvertsAreNewest}
+use Rattle.control_laws.specs.Exports.{ControlAdvertsAreOfSwitches, AllControlAdverts, ControlRouteFollowsLinks, IsNoNewerControlAdvert, IsControlRouteOverLinks, AdvertisedLinksAreThere, ControlAdvertNamesLinks, OwnAdvertsAreNewest}
 use Rattle.control_laws.proofs.ControlAllAdverts.{AreSuch, HasBothCauses, IsAdvertFact, all_such, behind_both, is_newest, known_such, own_told, such_on}
 use Rattle.net_file.proofs.NetFileRowPlaces.{links}
 use Rattle.control_laws.proofs.ControlOwnAdverts.{own_newest}
@@ -17,12 +17,12 @@ use Rattle.control_laws.proofs.ControlOwnAdverts.{own_newest}
 
 -- a mask of neighbours has linked switches alone
 pub linked_by_mask : (links : List LinkRow) (s k : ℕ) → IsTrue (has (links_of links s) k)
-    → IsTrue (are_linked links s k)
+    → IsTrue (are_linked_in_net links s k)
 unfolding has
 linked_by_mask links s k is = elim (cases_lt k 64) [
-  | inl small ↦ sym (in_mask_of (are_linked links s) k small) ∙ is
+  | inl small ↦ sym (in_mask_of (are_linked_in_net links s) k small) ∙ is
   | inr past ↦
-      absurd (cc (in_mask_past (links_of links s) k (mask_of_lt (are_linked links s)) past))
+      absurd (cc (in_mask_past (links_of links s) k (mask_of_lt (are_linked_in_net links s)) past))
 ]
 
 pub near_linked : (setting : Setting) (journal : List Item) (s k : ℕ)
@@ -70,11 +70,11 @@ ends_serve setting journal s k is = any_serves journal s k setting.net.links
 -- ---- adverts
 
 own_names : (setting : Setting) (journal : List Item) (s : ℕ)
-    → AdvertNamesLinks setting.net (own_advert setting journal s)
+    → ControlAdvertNamesLinks setting.net (own_advert setting journal s)
 unfolding own_advert
 own_names setting journal s k is = near_linked setting journal s k is
 
-pub names_fact : (setting : Setting) → IsAdvertFact setting (λ journal. AdvertNamesLinks setting.net)
+pub names_fact : (setting : Setting) → IsAdvertFact setting (λ journal. ControlAdvertNamesLinks setting.net)
 names_fact setting = record {
   kept = λ before next both advert names. names;
   own = λ journal s neighbour linked. own_names setting journal s;
@@ -110,17 +110,17 @@ no_link_in_none k is = let none : has 0 k ≡ false = has-zero k in absurd cc
 
 -- what a switch is told of another one's links
 pub claimed_mask : (adverts : List (Option Advert)) (one : ℕ)
-    → get_or (map neighbours_named adverts) one 0 ≡ neighbours_named (held_advert adverts one)
+    → get_or (map neighbours_named_by_advert adverts) one 0 ≡ neighbours_named_by_advert (held_advert adverts one)
 claimed_mask adverts one = elim (cases_lt one (length adverts)) [
-  | inl within ↦ get_or-map neighbours_named adverts one None 0 within
-  | inr past ↦ get_or_past (map neighbours_named adverts) one 0
-      (omega (arith, past, length-map adverts neighbours_named))
-      ∙ ap neighbours_named (sym (get_or_past adverts one None past))
+  | inl within ↦ get_or-map neighbours_named_by_advert adverts one None 0 within
+  | inr past ↦ get_or_past (map neighbours_named_by_advert adverts) one 0
+      (omega (arith, past, length-map adverts neighbours_named_by_advert))
+      ∙ ap neighbours_named_by_advert (sym (get_or_past adverts one None past))
 ]
 
 claims_linked : (net : Net) (told : Option Advert) (one other : ℕ)
-    → ((advert : Advert) → told ≡ Some advert → AdvertNamesLinks net advert × (advert.origin ≡ one))
-    → IsTrue (has (neighbours_named told) other) → HasLink net one other
+    → ((advert : Advert) → told ≡ Some advert → ControlAdvertNamesLinks net advert × (advert.origin ≡ one))
+    → IsTrue (has (neighbours_named_by_advert told) other) → HasLink net one other
 claims_linked net None one other names is = absurd (no_link_in_none other is)
 claims_linked net (Some advert) one other names is = let named = names advert refl in
     subst (λ origin. HasLink net origin other) named.1 (named.0 other is)
@@ -129,8 +129,8 @@ claims_linked net (Some advert) one other names is = let named = names advert re
 linked_row : (net : Net) (adverts : List (Option Advert)) (at own one other : ℕ)
     → (IsTrue (has own other) → HasLink net at other)
     → ((advert : Advert) → held_advert adverts one ≡ Some advert
-    → AdvertNamesLinks net advert × (advert.origin ≡ one))
-    → IsTrue (has (get_or (set (map neighbours_named adverts) at own) one 0) other)
+    → ControlAdvertNamesLinks net advert × (advert.origin ≡ one))
+    → IsTrue (has (get_or (set (map neighbours_named_by_advert adverts) at own) one 0) other)
     → HasLink net one other
 linked_row net adverts at own one other sees names is = elim (cases_eq one at) [
   | inl same ↦ by_place same (cases_lt at (length rows))
@@ -138,25 +138,25 @@ linked_row net adverts at own one other sees names is = elim (cases_eq one at) [
       (rw (get_or-set_other rows at one own 0 apart ∙ claimed_mask adverts one) at is)
 ] where
   rows : List ℕ
-  rows = map neighbours_named adverts
+  rows = map neighbours_named_by_advert adverts
 
-  by_place : one ≡ at → (at < length (map neighbours_named adverts))
-      ⊎ (length (map neighbours_named adverts) ≤ at) → HasLink net one other
+  by_place : one ≡ at → (at < length (map neighbours_named_by_advert adverts))
+      ⊎ (length (map neighbours_named_by_advert adverts) ≤ at) → HasLink net one other
   by_place same (inl within) =
-      let row = ap (λ x. get_or (set (map neighbours_named adverts) at own) x 0) same
-      ∙ get_or-set_same (map neighbours_named adverts) at own 0 within in
+      let row = ap (λ x. get_or (set (map neighbours_named_by_advert adverts) at own) x 0) same
+      ∙ get_or-set_same (map neighbours_named_by_advert adverts) at own 0 within in
       subst (λ x. HasLink net x other) (sym same)
       (sees (subst (λ mask. IsTrue (has mask other)) row is))
   by_place same (inr past) =
-      let none = get_or_past (set (map neighbours_named adverts) at own) one 0
-      (omega (arith, same, past, length-set (map neighbours_named adverts) at own)) in
+      let none = get_or_past (set (map neighbours_named_by_advert adverts) at own) one 0
+      (omega (arith, same, past, length-set (map neighbours_named_by_advert adverts) at own)) in
       absurd (no_link_in_none other (subst (λ mask. IsTrue (has mask other)) none is))
 
 known_linked : (setting : Setting) (journal : List Item)
-    → AllControlAdverts setting journal (AdvertNamesLinks setting.net)
+    → AllControlAdverts setting journal (ControlAdvertNamesLinks setting.net)
     → (s one other : ℕ) (down : List ℕ) → one < 64 → other < 64
     → AreJoinedByLinks (journal_links_known setting journal s down) one other → HasLink setting.net one other
-unfolding is_link neighbours_by_adverts
+unfolding is_route_link neighbours_by_adverts
 known_linked setting journal adverts s one other down one_small other_small joined =
     linked_row setting.net (journal_adverts_known setting journal s) s (near setting journal s) one other
     (near_linked setting journal s other) (λ advert known. (
@@ -171,7 +171,7 @@ known_linked setting journal adverts s one other down one_small other_small join
 leads_over : (net : Net) (links : List ℕ)
     → ((one other : ℕ) → one < 64 → other < 64 → AreJoinedByLinks links one other → HasLink net one other)
     → (target at : ℕ) (route : List ℕ) → at < 64 → LinksLeadTo links target at route
-    → GoesOverLinks net at route
+    → ControlRouteFollowsLinks net at route
 leads_over net links linked target at [] small leads = tt
 leads_over net links linked target at (next ∷ route) small leads = (
   linked at next small leads.0 leads.1,
@@ -180,7 +180,7 @@ leads_over net links linked target at (next ∷ route) small leads = (
 
 path_over : (net : Net) (links : List ℕ)
     → ((one other : ℕ) → one < 64 → other < 64 → AreJoinedByLinks links one other → HasLink net one other)
-    → (from target : ℕ) (route : List ℕ) → IsPath links from target route → IsOverLinks net route
+    → (from target : ℕ) (route : List ℕ) → IsPath links from target route → IsControlRouteOverLinks net route
 unfolding IsPath
 path_over net links linked from target [] path = tt
 path_over net links linked from target (first ∷ route) path =
@@ -189,7 +189,7 @@ path_over net links linked from target (first ∷ route) path =
 route_over : (net : Net) (links : List ℕ)
     → ((one other : ℕ) → one < 64 → other < 64 → AreJoinedByLinks links one other → HasLink net one other)
     → (from : ℕ) (targets route : List ℕ) → IsRoute links from targets (Some route)
-    → IsOverLinks net route
+    → IsControlRouteOverLinks net route
 unfolding IsRoute
 route_over net links linked from [] route is = absurd cc
 route_over net links linked from (target ∷ targets) route (inl is) =
@@ -202,7 +202,7 @@ route_over net links linked from (target ∷ targets) route (inr is) =
 pub links_there : (setting : Setting) (journal : List Item)
     → JournalItemsHaveCauses (HasBothCauses setting) [] journal → AdvertisedLinksAreThere setting journal
 links_there setting journal have =
-    let adverts = all_such setting (λ js. AdvertNamesLinks setting.net) (names_fact setting) journal have
+    let adverts = all_such setting (λ js. ControlAdvertNamesLinks setting.net) (names_fact setting) journal have
     (own_names setting journal) in record {
       adverts = adverts;
       usable = near_linked setting journal;
@@ -238,10 +238,10 @@ of_fact setting net = record {
 
 pub of_switches : (setting : Setting) (journal : List Item)
     → JournalItemsHaveCauses (HasBothCauses setting) [] journal → IsNet setting.net
-    → AdvertsAreOfSwitches setting journal
+    → ControlAdvertsAreOfSwitches setting journal
 of_switches setting journal have net =
     let such = such_on setting (IsOfSwitch setting) (of_fact setting net) journal have in record {
-      sent = λ n s advert is. such.sent n (advert_to s advert) is;
+      sent = λ n s advert is. such.sent n (machine_advert_to s advert) is;
       heard = such.heard;
       held = λ s origin advert there small known. let at : advert.origin ≡ origin =
           known_origin setting journal s origin advert small known in (
@@ -258,19 +258,19 @@ of_switches setting journal have net =
 abbrev told : ℕ → ℕ → ℕ → Advert
 told boot seq up = record { origin = 0; boot = boot; seq = seq; up = up }
 
-names_b : AdvertNamesLinks two_switches (told 1 1 2)
+names_b : ControlAdvertNamesLinks two_switches (told 1 1 2)
 unfolding small_number_mask number_set_where switches
 names_b k is = linked_by_mask two_switches.links 0 k is
 
 -- there is no switch 2
-names_none : AdvertNamesLinks two_switches (told 1 1 4) → ⊥
+names_none : ControlAdvertNamesLinks two_switches (told 1 1 4) → ⊥
 unfolding has
 names_none names = let linked : false ≡ true = names 2 refl in absurd cc
 
-goes_over : IsOverLinks two_switches (1 ∷ 0 ∷ [])
+goes_over : IsControlRouteOverLinks two_switches (1 ∷ 0 ∷ [])
 goes_over = (refl, tt)
 
-leaps : IsOverLinks two_switches (1 ∷ 2 ∷ []) → ⊥
+leaps : IsControlRouteOverLinks two_switches (1 ∷ 2 ∷ []) → ⊥
 leaps over = let linked : false ≡ true = over.0 in absurd cc
 
 -- ---- own adverts, once the link failed
@@ -355,11 +355,11 @@ newest_once_back = subst (OwnAdvertsAreNewest open_net) written
 -- ---- journals in which wrong adverts were sent
 
 unlinked : AdvertisedLinksAreThere open_net (Item.Sent 1 (to 1 (advert 0 1 1 4)) ∷ []) → ⊥
-unfolding message_of
+unfolding journal_message_of
 unlinked there = names_none (there.adverts.sent 1 1 (told 1 1 4) refl)
 
 newer_sent : OwnAdvertsAreNewest open_net (Item.Sent 1 (to 1 (advert 0 2 1 2)) ∷ []) → ⊥
-unfolding message_of journal_boot_of
+unfolding journal_message_of journal_boot_of
 newer_sent newest = let limit : 2 ≤ 1 = (newest.sent 1 1 (told 2 1 2) refl).boot in omega arith
 
 -- ---- adverts of the network's switches, of which there is no third one
@@ -375,8 +375,8 @@ unfolding journal_adverts_known own_advert journal_own_seq near is_link_up_in_jo
     first_adverts adverts_after_hearing is_news small_number_mask number_set_where switches
 none_of_third = refl
 
-of_third : AdvertsAreOfSwitches open_net (Item.Sent 1 (to 1 (advert 2 1 1 0)) ∷ []) → ⊥
-unfolding message_of
+of_third : ControlAdvertsAreOfSwitches open_net (Item.Sent 1 (to 1 (advert 2 1 1 0)) ∷ []) → ⊥
+unfolding journal_message_of
 of_third are =
     let there : 2 < 2 =
     are.sent 1 1 (record { origin = 2; boot = 1; seq = 1; up = 0 }) refl in omega arith
@@ -384,13 +384,13 @@ of_third are =
 -- ---- a network of one switch, which crashed and restarted
 
 abbrev pub solo : Setting
-solo = record { net = solo_net; files = []; plan = open_net.plan }
+solo = record { net = net_of_one_switch; files = []; plan = open_net.plan }
 
-pub is_net : IsNet solo_net
+pub is_net : IsNet net_of_one_switch
 is_net = record {
   some_switch = omega arith;
   few_switches = omega arith;
-  switches = All-from_recursion IsNetSwitchRow solo_net.switches
+  switches = All-from_recursion IsNetSwitchRow net_of_one_switch.switches
       (record { name = refl; ports = omega arith; room = omega arith }, tt);
   apart = λ i j row before inside. absurd (omega (arith, before, inside));
   few_links = omega arith;
@@ -409,9 +409,9 @@ abbrev pub restarted : List Item
 restarted = Item.Row 1 (Step.Crash 0) ∷ Item.Down 0 ∷ Item.Row 2 (Step.Restart 0) ∷ Item.Booted 0 2
     ∷ Item.Sent 1 (to_controller (Hello 0 2)) ∷ []
 
-of_the_switch : AdvertsAreOfSwitches solo restarted
+of_the_switch : ControlAdvertsAreOfSwitches solo restarted
 unfolding piece journal_crash_items restart_items journal_link_changes near is_link_up_in_journal serves is_up journal_boot_of
     journal_next_message machine_sent_items_from small_number_mask number_set_where switches
 of_the_switch =
-    (behind_both (λ setting journal. IsNet setting.net → AdvertsAreOfSwitches setting journal)
+    (behind_both (λ setting journal. IsNet setting.net → ControlAdvertsAreOfSwitches setting journal)
     of_switches).ends.stepped solo restart is_net

@@ -1,7 +1,7 @@
 -- How the own advert of a switch goes on while the switch is up in its boot.
 use Rattle.std.proofs.Common.{[], ◌&&◌, ◌++◌, ◌+◌, ◌<◌, ◌==◌, ◌||◌, ◌∙◌, ◌∷◌, ◌≡◌, ◌≤◌, ◌⊎◌, Bool, IsTrue, List, ap, append_assoc, arith, cond, count_by, eq-eqb, eqb-true, false, if◌then◌else◌, inl, inr, nat_lt, not, refl, sym, true, ℕ, rules}
 use Rattle.base.proofs.Exports.{All-weaker, nat_tests, sum_by-cons}
-use Rattle.update_machine.specs.Exports.{Advert, JournalItemsHaveCauses, Item, MachineLinksKeep, Setting, StepItems, journal_adverts_heard, journal_boot_of, item_changes_steps, journal_step_changes_links, is_up, near, own_advert, journal_own_seq, journal_steps_in, steps_with_item}
+use Rattle.update_machine.specs.Exports.{Advert, JournalItemsHaveCauses, Item, MachineLinksKeep, Setting, StepItems, journal_adverts_heard, journal_boot_of, item_changes_steps, journal_step_changes_links, is_up, near, own_advert, journal_own_seq, journal_steps_in, machine_steps_with_item}
 use Rattle.update_machine.proofs.Exports.{folded_append, links_keep, start_laws}
 use Rattle.control_laws.proofs.ControlSaidToController.{ChangedNoLinks, HasLinkCause}
 use Rattle.control_laws.specs.Exports.{AllControlAdverts, HasControlItemCause, IsNoNewerControlAdvert, OwnAdvertsAreNewest}
@@ -57,7 +57,7 @@ abbrev longer : StepItems → Item → StepItems
 longer step next = record { before = step.before; items = step.items ++ next ∷ [] }
 
 steps_longer : (before : List Item) (next : Item) (is : ChangedNoLinks before)
-    → ((steps : List StepItems) → item_changes_steps before steps next ≡ steps_with_item steps next)
+    → ((steps : List StepItems) → item_changes_steps before steps next ≡ machine_steps_with_item steps next)
     → journal_steps_in (before ++ next ∷ []) ≡ longer is.newest next ∷ is.earlier
 unfolding journal_steps_in
 steps_longer before next is no_row = search (rules, folded_append)
@@ -90,7 +90,7 @@ now_changed setting before next s is =
 
 counted : (setting : Setting) (before : List Item) (next : Item) (s : ℕ)
     (is : ChangedNoLinks before)
-    → ((steps : List StepItems) → item_changes_steps before steps next ≡ steps_with_item steps next)
+    → ((steps : List StepItems) → item_changes_steps before steps next ≡ machine_steps_with_item steps next)
     → (d : Bool) → (near setting before s == near setting (before ++ next ∷ []) s) ≡ d
     → count_by (journal_step_changes_links setting s (journal_boot_of before s)) (journal_steps_in (before ++ next ∷ []))
     ≡ count_by (journal_step_changes_links setting s (journal_boot_of before s)) (journal_steps_in before) + cond (not d) 1 0
@@ -115,7 +115,7 @@ as_many x y k f after was = omega arith
 
 link_item_on : (setting : Setting) (before : List Item) (next : Item) (s : ℕ)
     → ChangedNoLinks before
-    → ((steps : List StepItems) → item_changes_steps before steps next ≡ steps_with_item steps next)
+    → ((steps : List StepItems) → item_changes_steps before steps next ≡ machine_steps_with_item steps next)
     → is_up before s ≡ true → is_up (before ++ next ∷ []) s ≡ true → journal_boot_of (before ++ next ∷ []) s
     ≡ journal_boot_of before s → AdvertGoesOn setting before (before ++ next ∷ []) s
 link_item_on setting before next s is no_row was_up up boot = by_links _ refl where

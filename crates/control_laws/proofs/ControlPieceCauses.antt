@@ -1,9 +1,9 @@
 -- Each piece has its causes, whatever its step, and so has the journal of any steps.
 use Rattle.std.proofs.Common.{[], ◌&&◌, ◌++◌, ◌+◌, ◌-◌, ◌<◌, ◌==◌, ◌||◌, ◌∙◌, ◌∷◌, ◌≡◌, ◌≤◌, Bool, IsFalse, IsTrue, List, None, Option, Some, ap, arith, cond, eq-eqb, eqb-true, false, if◌then◌else◌, inl, inr, length, not, option_and_then, refl, subst, suc, sym, take_while, true, zero, ℕ}
 use Rattle.base.proofs.Exports.{cases_eq, each_filter, each_map, list_any, list_any-append, nat_tests, option_map_or, or_right, range_with_len, take_while-cons}
-use Rattle.update_machine.specs.Exports.{Advertise, Body, Confirm, Crash, Deliver, JournalItemsHaveCauses, Hello, Install, Installed, Item, MachineCurrentMayRise, Message, OpenAt, Packet, Place, Resend, Restart, Setting, Stamp, Stamped, Step, Update, after_hello, all_acked, journal_body_to_controller, journal_body_to_switch, journal_boot_of, confirm_items, controller_items, journal_current_mark, deliver_items, machine_delivery_items, has_acked, heard, machine_hello_of, in_turn, journal_install_for, machine_installs_to, machine_installs_to_all, installs_version, journal_body_for_boot, is_joining, is_member, is_new_boot_in_journal, is_over, is_up, machine_marks_code, message_of, journal_next_current, journal_next_packet, journal_next_retired, opened_at, journal_raises_known_boot, machine_received_items, restart_items, send_items, settling, journal_stamp_in_body, journal_stamp_of, step_items, submitted_items, journal_switch_items, switches_of, machine_message_to_switch, machine_update_code, update_items, journal_version_count, journal_versions_from_current}
+use Rattle.update_machine.specs.Exports.{Advertise, Body, Confirm, Crash, Deliver, JournalItemsHaveCauses, Hello, Install, Installed, Item, MachineCurrentMayRise, Message, OpenAt, Packet, Place, Resend, Restart, Setting, Stamp, Stamped, Step, Update, machine_after_hello, all_acked, journal_body_to_controller, journal_body_to_switch, journal_boot_of, confirm_items, controller_items, journal_current_mark, deliver_items, machine_delivery_items, has_acked, heard, machine_hello_of, in_turn, journal_install_for, machine_installs_to, machine_installs_to_all, installs_version, is_journal_body_for_boot, is_joining, is_member, is_new_boot_in_journal, is_over, is_up, machine_marks_code, journal_message_of, journal_next_current, journal_next_packet, journal_next_retired, journal_opened_at, journal_raises_known_boot, machine_received_items, restart_items, send_items, settling, machine_stamp_message_version, journal_stamp_of, machine_step_items, submitted_items, journal_switch_items, setting_switches_of, machine_message_to_switch, machine_update_code, machine_update_items, journal_version_count, journal_versions_from_current}
 use Rattle.update_machine.proofs.Exports.{PiecesHave, allowed_next, have_first, have_in_turn, have_put, policies_keep}
-use Rattle.control_laws.specs.Exports.{HasControlItemCause, HoldsAlways, ControlOpeningHasCause, ControlSubmissionHasCause}
+use Rattle.control_laws.specs.Exports.{HasControlItemCause, ControlLawHoldsAlways, ControlOpeningHasCause, ControlSubmissionHasCause}
 use Rattle.control_laws.proofs.ControlFactsGrown.{FromCauses, Has, boot_more, current_more, heard_more, known_more, message_more, over_more, piece_has, raised, retired_more, stamp_told, up_more}
 use Rattle.control_laws.proofs.ControlMessageSends.{IsRight, SettlingHas, each_range, parts_have, resend_have, sends_have, settling_has}
 use Rattle.ctrl_msg.specs.Exports.{to_controller}
@@ -60,7 +60,7 @@ may_rise setting journal rises =
 
 -- a joining switch isn't over, and wasn't opened in its known boot
 joining_parts : (journal : List Item) (s : ℕ) (more : Bool) → IsTrue (is_joining journal s && more)
-    → IsFalse (is_over journal s) × (opened_at journal s ≡ None) × IsTrue more
+    → IsFalse (is_over journal s) × (journal_opened_at journal s ≡ None) × IsTrue more
 unfolding is_member
 joining_parts journal s more joining = grind arith
 
@@ -125,7 +125,7 @@ all_installs_have setting journal = sends_have setting journal _
       which = inl refl;
       there = omega arith;
       planned = refl;
-    }) (switches_of setting)))
+    }) (setting_switches_of setting)))
   where
     not_true : (b : Bool) → IsTrue (not b) → IsFalse b
     not_true true is = absurd cc
@@ -141,14 +141,14 @@ submitted_have setting journal = have_in_turn (HasControlItemCause setting) (mac
 
 pub delivery_has : (Have : List Item → Type 0) (setting : Setting) (before : List Item)
     (number : ℕ) (now : List Item) → Have []
-    → ((body : Body) → message_of before number ≡ Some (to_controller body)
+    → ((body : Body) → journal_message_of before number ≡ Some (to_controller body)
     → Have (controller_items setting before body now))
     → ((s : ℕ) (body : Body) → journal_body_to_switch before s number ≡ Some body
     → Have (journal_switch_items setting before s body now))
     → Have (machine_delivery_items setting before number now)
 unfolding machine_delivery_items
 delivery_has Have setting before number now none at_controller at_switch =
-    by_message (message_of before number) refl
+    by_message (journal_message_of before number) refl
   where
     by_said : (s : ℕ) (o : Option Body) → journal_body_to_switch before s number ≡ o → Have (elim o [
       | None ↦ []
@@ -158,12 +158,12 @@ delivery_has Have setting before number now none at_controller at_switch =
     by_said s (Some body) e = at_switch s body e
 
     by_receiver : (to : Place) (body : Body)
-        → message_of before number ≡ Some (record { to = to; body = body })
+        → journal_message_of before number ≡ Some (record { to = to; body = body })
         → Have (machine_received_items setting before number (record { to = to; body = body }) now)
     by_receiver Place.Controller body e = at_controller body e
     by_receiver (Place.Switch s) body e = by_said s (journal_body_to_switch before s number) refl
 
-    by_message : (o : Option Message) → message_of before number ≡ o → Have (elim o [
+    by_message : (o : Option Message) → journal_message_of before number ≡ o → Have (elim o [
       | None ↦ []
       | Some message ↦ machine_received_items setting before number message now
     ])
@@ -174,7 +174,7 @@ delivery_has Have setting before number now none at_controller at_switch =
 pub deliver_has : (cause : List Item → Item → Type 0) (setting : Setting) (before : List Item)
     (number : ℕ) (here : List Item) → cause here Item.Nothing → cause here (Item.Delivered number)
     → let now = here ++ Item.Delivered number ∷ [] in
-    ((body : Body) → message_of before number ≡ Some (to_controller body)
+    ((body : Body) → journal_message_of before number ≡ Some (to_controller body)
     → JournalItemsHaveCauses cause now (controller_items setting before body now))
     → ((s : ℕ) (body : Body) → journal_body_to_switch before s number ≡ Some body
     → JournalItemsHaveCauses cause now (journal_switch_items setting before s body now))
@@ -190,7 +190,7 @@ deliver_has cause setting before number here nothing delivered at_controller at_
 hello_has : (cause : List Item → Item → Type 0) (setting : Setting) (before settled : List Item)
     (body : Body) → ((s boot : ℕ) → body ≡ Hello s boot → IsTrue (is_new_boot_in_journal before s boot)
     → JournalItemsHaveCauses cause settled (machine_installs_to setting s settled))
-    → JournalItemsHaveCauses cause settled (after_hello setting before body settled)
+    → JournalItemsHaveCauses cause settled (machine_after_hello setting before body settled)
 hello_has cause setting before settled (Hello s boot) begun = grind (arith, begun s boot refl)
 hello_has cause setting before settled _ begun = tt
 
@@ -204,18 +204,18 @@ controller_has : (cause : List Item → Item → Type 0) (setting : Setting) (be
 unfolding controller_items
 controller_has cause setting before now body settles begun =
     let settled : List Item = now ++ settling setting now in
-    have_put cause (settling setting now) (in_turn (after_hello setting before body ∷ [])) now
+    have_put cause (settling setting now) (in_turn (machine_after_hello setting before body ∷ [])) now
     settles
-    (have_put cause (after_hello setting before body settled) (in_turn []) settled
+    (have_put cause (machine_after_hello setting before body settled) (in_turn []) settled
     (hello_has cause setting before settled body begun) tt)
 
 -- a hello of a new boot raises the known one, behind the row of its delivery
 hello_raises : (before : List Item) (row number s boot : ℕ) (step : Step) (body : Body)
-    → message_of before number ≡ Some (to_controller body) → body ≡ Hello s boot
+    → journal_message_of before number ≡ Some (to_controller body) → body ≡ Hello s boot
     → IsTrue (is_new_boot_in_journal before s boot)
     → IsTrue (journal_raises_known_boot (before ++ Item.Row row step ∷ []) s number)
 hello_raises before row number s boot step body sent hello new =
-    let still : message_of (before ++ Item.Row row step ∷ []) number
+    let still : journal_message_of (before ++ Item.Row row step ∷ []) number
     ≡ Some (to_controller (Hello s boot)) = message_more before (Item.Row row step) number
     ∙ sent ∙ ap (λ of. Some (to_controller of)) hello in
     rw ((known_more before (Item.Row row step) s), still, journal_body_to_controller, eq-eqb s s refl) new
@@ -244,9 +244,9 @@ row_delivers cause setting before row number step nothing delivered settles rais
 
 -- a message of this number was sent to the switch, which is up in the boot that it is for
 pub record IsSaid (before : List Item) (s number : ℕ) (body : Body) : Type 0 where
-  pub sent : message_of before number ≡ Some (machine_message_to_switch s body)
+  pub sent : journal_message_of before number ≡ Some (machine_message_to_switch s body)
   pub up : IsTrue (is_up before s)
-  pub own : IsTrue (journal_body_for_boot (journal_boot_of before s) body)
+  pub own : IsTrue (is_journal_body_for_boot (journal_boot_of before s) body)
 
 pub said_parts : (before : List Item) (s number : ℕ) (body : Body)
     → journal_body_to_switch before s number ≡ Some body → IsSaid before s number body
@@ -257,7 +257,7 @@ record IsHeard (now : List Item) (s number : ℕ) (body : Body) : Type 0 where
   said : IsSaid now s number body
   earlier : List Body
   heard : heard now s ≡ earlier ++ body ∷ []
-  stamps : (version : ℕ) → journal_stamp_in_body body ≡ Some version → version ≤ journal_stamp_of now s
+  stamps : (version : ℕ) → machine_stamp_message_version body ≡ Some version → version ≤ journal_stamp_of now s
 
 -- a row changes nothing of what is said
 pub said_row : (before : List Item) (row s number : ℕ) (step : Step)
@@ -280,7 +280,7 @@ delivered_heard before s number body said =
       heard = cc (heard_more before (Item.Delivered number) s, said);
       stamps = λ version is. let after : journal_stamp_of (before ++ Item.Delivered number ∷ []) s
           ≡ raised (journal_stamp_of before s) (Some version) = stamp_told before number s
-          ∙ ap (raised (journal_stamp_of before s)) (ap (option_and_then journal_stamp_in_body) said ∙ is) in
+          ∙ ap (raised (journal_stamp_of before s)) (ap (option_and_then machine_stamp_message_version) said ∙ is) in
           omega (arith, after);
     }
 
@@ -375,8 +375,8 @@ may_submit setting file journal allowed =
     }
 
 update_have : (setting : Setting) (file : ℕ) (journal : List Item)
-    → Has setting journal (update_items setting file journal)
-unfolding update_items
+    → Has setting journal (machine_update_items setting file journal)
+unfolding machine_update_items
 update_have setting file journal = grind (arith, submitted_have, may_submit)
 
 -- a switch that began a boot is up, and says hello of it
@@ -401,7 +401,7 @@ confirm_have setting s journal = grind (arith, settling_have)
 
 step_have : (setting : Setting) (before : List Item) (row : ℕ) (step : Step)
     → let here = before ++ Item.Row row step ∷ [] in
-    Has setting here (step_items setting before step here)
+    Has setting here (machine_step_items setting before step here)
 step_have setting before row (Packet s header) = packet_has setting (HasControlItemCause setting)
     (traffic_right setting) (journal_next_packet before) s header _ tt
 step_have setting before row (Deliver message) =
@@ -419,7 +419,7 @@ pieces_have setting journal row step =
     piece_has (HasControlItemCause setting) setting journal row step tt (step_have setting journal _ _)
 
 -- so a fact that holds where items have their causes always holds
-pub always : (Holds : Setting → List Item → Type 0) → FromCauses Holds → HoldsAlways Holds
+pub always : (Holds : Setting → List Item → Type 0) → FromCauses Holds → ControlLawHoldsAlways Holds
 always Holds caused = record {
   caused = caused;
   behind = behind_items Holds HasControlItemCause pieces_have caused;

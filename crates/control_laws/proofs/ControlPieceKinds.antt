@@ -2,7 +2,7 @@
 -- one switch change and are told of, or a switch begins a boot.
 use Rattle.std.proofs.Common.{[], ◌++◌, ◌+◌, ◌∙◌, ◌∷◌, ◌≡◌, ◌≤◌, ◌⊎◌, Bool, IsFalse, List, None, Option, Some, ap, append-nil, append_assoc, arith, false, inl, inr, length, map, max, min, refl, subst, sym, true, ℕ}
 use Rattle.base.proofs.Exports.{beq}
-use Rattle.update_machine.specs.Exports.{Body, Confirm, Crash, Deliver, Item, LinkDown, LinkUp, Message, NoneConcern, Packet, Place, Resend, Restart, Setting, Step, Update, journal_body_to_switch, journal_boot_of, concerns_links, controller_items, journal_crash_items, deliver_items, machine_delivery_items, machine_hello_of, is_deliverable, is_link_up_in_journal, is_up, journal_items_then, journal_link_changes, machine_link_items, message_of, journal_next_packet, nothing, journal_packets_at, machine_advert_passed_on, piece, machine_received_items, resend_items, restart_items, send_items, journal_stamp_of, step_items, journal_switch_items, journal_version_count}
+use Rattle.update_machine.specs.Exports.{Body, Confirm, Crash, Deliver, Item, LinkDown, LinkUp, Message, NoneConcern, Packet, Place, Resend, Restart, Setting, Step, Update, journal_body_to_switch, journal_boot_of, concerns_links, controller_items, journal_crash_items, deliver_items, machine_delivery_items, machine_hello_of, is_deliverable, is_link_up_in_journal, is_up, journal_items_then, journal_link_changes, machine_link_items, journal_message_of, journal_next_packet, nothing, journal_packets_at, machine_advert_passed_on, piece, machine_received_items, machine_resend_items, restart_items, send_items, journal_stamp_of, machine_step_items, journal_switch_items, journal_version_count}
 use Rattle.net_file.specs.Exports.{IsNet}
 use Rattle.control_laws.proofs.ControlCommands.{confirm_control, controller_control, resends_any, update_has}
 use Rattle.control_laws.proofs.ControlStampingSwitches.{IsPlain, control_is_plain, control_plain, losts_have, packet_plain, plain_keeps_links, sends_silent, step_plain}
@@ -234,7 +234,7 @@ deliver_kind : (setting : Setting) (before : List Item) (row number : ℕ) (step
     PieceKind setting before (Item.Row row step ∷ deliver_items setting before number here)
 unfolding deliver_items machine_delivery_items
 deliver_kind setting before row number step =
-    by_test (is_deliverable before number) (message_of before number)
+    by_test (is_deliverable before number) (journal_message_of before number)
   where
     here : List Item
     here = before ++ Item.Row row step ∷ []
@@ -257,13 +257,13 @@ deliver_kind setting before row number step =
 -- ---- all steps
 
 resend_silent : (setting : Setting) (s : ℕ) (journal : List Item)
-    → NoneConcern concerns_links journal (resend_items setting s journal)
+    → NoneConcern concerns_links journal (machine_resend_items setting s journal)
 resend_silent setting s journal = resends_any (λ before next. IsFalse (concerns_links before next))
     (λ before n message. refl) setting s journal refl
 
 step_kind : (setting : Setting) (before : List Item) (row : ℕ) (step : Step)
     → let here = before ++ Item.Row row step ∷ [] in
-    PieceKind setting before (Item.Row row step ∷ step_items setting before step here)
+    PieceKind setting before (Item.Row row step ∷ machine_step_items setting before step here)
 step_kind setting before row (Packet s header) = behind_row setting before row _ _
     (plain_keeps_links _ _ (packet_plain setting (journal_next_packet before) s header _))
     (λ net versions. omega (

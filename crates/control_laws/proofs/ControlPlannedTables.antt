@@ -1,9 +1,9 @@
 -- Versions are few, each has its plan, and the tables of each are those of its plan.
 use Rattle.std.proofs.Common.{[], ◌&&◌, ◌++◌, ◌+◌, ◌-◌, ◌<◌, ◌==◌, ◌^◌, ◌||◌, ◌∷◌, ◌≡◌, ◌≤◌, Bool, IsTrue, List, None, Option, Some, append_assoc, arith, eqb-true, false, if◌then◌else◌, inl, inr, not, refl, subst, true, unwrap_or, ℕ, rules}
 use Rattle.net_file.specs.Exports.{IsNet}
-use Rattle.update_machine.specs.Exports.{Body, SettingHasPlan, HasRoom, JournalItemsHaveCauses, MachineJournalsHaveRoom, Install, Item, Setting, Step, StepOfRow, Tables, VersionsAreNumbered, journal_adverts_known, journal_after_steps, journal_body_to_switch, journal_boot_of, journal_collects_version, journal_crash_items, heard, journal_held_adverts, holds_version, installs_version, is_first_boot_in_journal, is_link_up_in_journal, is_up, journal_known_boot, journal_link_changes, machine_link_items, message_of, most_live_journal_versions, most_journal_versions, near, journal_next_message, own_advert, journal_own_seq, piece, restart_items, journal_retired_mark, machine_sent_items_from, serves, journal_steps_in, machine_message_to_switch, journal_version_count}
+use Rattle.update_machine.specs.Exports.{Body, SettingHasPlan, HasRoom, JournalItemsHaveCauses, MachineJournalsHaveRoom, Install, Item, Setting, Step, StepOfRow, Tables, JournalVersionsAreNumbered, journal_adverts_known, journal_after_steps, journal_body_to_switch, journal_boot_of, is_collect_message_of_version, journal_crash_items, heard, journal_held_adverts, holds_version, installs_version, is_first_boot_in_journal, is_link_up_in_journal, is_up, journal_known_boot, journal_link_changes, machine_link_items, journal_message_of, most_live_journal_versions, most_journal_versions, near, journal_next_message, own_advert, journal_own_seq, piece, restart_items, journal_retired_mark, machine_sent_items_from, serves, journal_steps_in, machine_message_to_switch, journal_version_count}
 use Rattle.update_machine.proofs.Exports.{first_has_plan, has_plan_stays, have_append, next_has_plan, open_net, plan_stays, start_laws}
-use Rattle.control_laws.specs.Exports.{AreInstallTablesPlanned, AreControlTablesOf, BootsAreKnown, MessageBringsPlannedTables, HasControlItemCause, ControlNumbersAreFew, ControlNumbersFit, StepsSendAtMost, StepsSendFew, TablesArePlanned, ControlVersionsArePlanned, control_messages_sent_count}
+use Rattle.control_laws.specs.Exports.{AreControlInstallTablesPlanned, AreControlTablesOf, BootsAreKnown, MessageBringsPlannedTables, HasControlItemCause, ControlNumbersAreFew, ControlNumbersFit, StepsSendAtMost, StepsSendFew, ControlTablesArePlanned, ControlVersionsArePlanned, control_messages_sent_count}
 use Rattle.control_laws.proofs.ControlFactsGrown.{AreKept, FromCauses, boot_more, count_more, from_causes, heard_more, known_rises, retired_more}
 use Rattle.control_laws.proofs.ControlPieceCauses.{pieces_have, said_parts}
 use Rattle.control_laws.proofs.ControlMessageCounts.{sent}
@@ -221,7 +221,7 @@ HavePlans setting journal = (version : ℕ) → 1 < version → version ≤ jour
     → SettingHasPlan setting journal version
 
 plans_kept : (setting : Setting) (before : List Item) (next : Item)
-    → HasControlItemCause setting before next → VersionsAreNumbered before → HavePlans setting before
+    → HasControlItemCause setting before next → JournalVersionsAreNumbered before → HavePlans setting before
     → HavePlans setting (before ++ next ∷ [])
 plans_kept setting before (Item.Submitted file version) cause are plans v above below =
     let next : Item = Item.Submitted file version in
@@ -249,13 +249,13 @@ brings_on setting before next s _ brings = tt
 
 -- tables that are planned for some version are those of the version that they name
 pub own_tables : (setting : Setting) (journal : List Item) (s : ℕ) (installed : Tables)
-    → VersionsAreNumbered journal → AreInstallTablesPlanned setting journal s installed
+    → JournalVersionsAreNumbered journal → AreControlInstallTablesPlanned setting journal s installed
     → AreControlTablesOf setting journal s installed
 own_tables setting journal s installed are is = search (rules, plan_stays)
 
 sent_brings : (setting : Setting) (journal : List Item) (s number : ℕ)
-    → VersionsAreNumbered journal → IsPlannedSoFar setting journal → (body : Body)
-    → message_of journal number ≡ Some (machine_message_to_switch s body) → MessageBringsPlannedTables setting journal s body
+    → JournalVersionsAreNumbered journal → IsPlannedSoFar setting journal → (body : Body)
+    → journal_message_of journal number ≡ Some (machine_message_to_switch s body) → MessageBringsPlannedTables setting journal s body
 sent_brings setting journal s number are so_far body sent = search (rules, own_tables)
 
 -- ---- together
@@ -309,7 +309,7 @@ held_there : (setting : Setting) (journal : List Item) (s version : ℕ) → IsP
 unfolding holds_version
 held_there setting journal s version is holds =
     by_heard (list_any (installs_version version) (heard journal s)) refl
-    (left _ (not (list_any (journal_collects_version version) (heard journal s))) holds)
+    (left _ (not (list_any (is_collect_message_of_version version) (heard journal s))) holds)
   where
     left : (b c : Bool) → IsTrue (b && c) → IsTrue b
     left true c both = refl
@@ -325,7 +325,7 @@ held_there setting journal s version is holds =
     by_heard true e has = brought setting journal s version (heard journal s) (is.heard s) e
     by_heard false e has = first (eqb-true version 1 (left (version == 1) _ has))
 
-pub tables_planned : FromCauses TablesArePlanned
+pub tables_planned : FromCauses ControlTablesArePlanned
 tables_planned setting journal have = let is = caused_planned setting journal have in record {
   sent = λ s boot n installed sent. own_tables setting journal s installed is.so_far.versions
       (is.so_far.installs s boot n installed sent);

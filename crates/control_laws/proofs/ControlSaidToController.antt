@@ -1,6 +1,6 @@
 -- What was told to the controller, item by item.
 use Rattle.std.proofs.Common.{[], ◌++◌, ◌+◌, ◌<◌, ◌||◌, ◌∙◌, ◌∷◌, ◌≡◌, ◌≤◌, ◌⊎◌, Bool, IsTrue, List, None, Option, Some, ap, append-nil, append_assoc, arith, eqb-true, false, filter, filter_map, fold, if◌then◌else◌, inl, inr, map, max, min, nat_eq, option_and_then, option_to_list, refl, subst, suc, sym, true, unwrap_or, zero, ℕ}
-use Rattle.update_machine.specs.Exports.{Advert, Advertise, Body, JournalItemsHaveCauses, Install, Installed, Item, Message, NoneConcern, OpenAt, Setting, Stamp, Stamped, StepItems, acked_stamp, journal_advert_known, journal_adverts_heard, journal_body_to_controller, journal_boot_of, concerns_links, confirm_items, controller_heard, deliver_items, machine_delivery_items, journal_hello_boot, machine_hello_of, in_turn, machine_installs_to_all, is_deliverable, is_journal_news_to, is_up, journal_items_then, journal_known_boot, machine_least_number, journal_link_changes, members, message_of, near, nothing, open_version, opened_at, own_advert, machine_advert_passed_on, restart_items, send_items, serves, settling, journal_stamp_of, machine_stamped_version_in, journal_steps_in, submitted_items, journal_switch_items, machine_update_code, update_items, journal_version_count}
+use Rattle.update_machine.specs.Exports.{Advert, Advertise, Body, JournalItemsHaveCauses, Install, Installed, Item, Message, NoneConcern, OpenAt, Setting, Stamp, Stamped, StepItems, acked_stamp, journal_advert_known, journal_adverts_heard, journal_body_to_controller, journal_boot_of, concerns_links, confirm_items, journal_controller_heard, deliver_items, machine_delivery_items, machine_hello_boot, machine_hello_of, in_turn, machine_installs_to_all, is_deliverable, is_journal_news_to, is_up, journal_items_then, journal_known_boot, machine_least_number, journal_link_changes, members, journal_message_of, near, nothing, open_version, journal_opened_at, own_advert, machine_advert_passed_on, restart_items, send_items, serves, settling, journal_stamp_of, machine_stamped_version_in, journal_steps_in, submitted_items, journal_switch_items, machine_update_code, machine_update_items, journal_version_count}
 use Rattle.base.proofs.Exports.{⊤, AllByRecursion, cases_eq, filter_map-append, fold-append, list_any, range_with_len}
 use Rattle.base.specs.Exports.{has}
 use Rattle.ctrl_msg.specs.Exports.{to_controller}
@@ -55,8 +55,8 @@ pub update_cases : (F : List Item → Type 0) (setting : Setting) (file : ℕ) (
     → ((code : ℕ) → F (here ++ Item.Refused file code ∷ [])) →
     (let now = here ++ Item.Submitted file (journal_version_count here + 1) ∷ [] in
     let sent = now ++ machine_installs_to_all setting now in F (sent ++ settling setting sent)) →
-    F (here ++ update_items setting file here)
-unfolding update_items
+    F (here ++ machine_update_items setting file here)
+unfolding machine_update_items
 update_cases F setting file here refused submitted = by_code (machine_update_code setting here file) where
   next : Item
   next = Item.Submitted file (journal_version_count here + 1)
@@ -207,7 +207,7 @@ switch_cases P setting before s body now installed stamped opens passes none = n
 
 -- what bodies of this kind told the controller
 abbrev pub told_by : {X : Type 0} → (Body → Option X) → List Item → List X
-told_by reads journal = filter_map reads (controller_heard journal)
+told_by reads journal = filter_map reads (journal_controller_heard journal)
 
 -- what an item tells it
 abbrev pub tells : {X : Type 0} → (Body → Option X) → List Item → Item → List X
@@ -219,7 +219,7 @@ pub told_by_more : {X : Type 0} (reads : Body → Option X) (before : List Item)
     → told_by reads (before ++ next ∷ []) ≡ told_by reads before ++ tells reads before next
 told_by_more {X = X} reads before (Item.Delivered number) =
     ap (filter_map reads) (told_more before (Item.Delivered number)) ∙ filter_map-append reads
-    (controller_heard before) (option_to_list (journal_body_to_controller before number))
+    (journal_controller_heard before) (option_to_list (journal_body_to_controller before number))
     ∙ ap (λ xs. told_by reads before ++ xs) (by_said (journal_body_to_controller before number))
   where
     by_said : (said : Option Body) → filter_map reads (option_to_list said)
@@ -237,11 +237,11 @@ pub told_sent : {X : Type 0} (reads : Body → Option X) (writes : X → Body) �
     ((body : Body) (x : X) → reads body ≡ Some x → body ≡ writes x) →
     (before : List Item) (number : ℕ) (x : X)
     → option_and_then reads (journal_body_to_controller before number) ≡ Some x
-    → message_of before number ≡ Some (to_controller (writes x))
+    → journal_message_of before number ≡ Some (to_controller (writes x))
 told_sent reads writes is before number x told = by_said (journal_body_to_controller before number) refl
   where
     by_said : (said : Option Body) → journal_body_to_controller before number ≡ said
-        → message_of before number ≡ Some (to_controller (writes x))
+        → journal_message_of before number ≡ Some (to_controller (writes x))
     by_said None e = let none : None ≡ Some x = rw e at told in absurd cc
     by_said (Some body) e = cc (said_sent before number body e, is body x (rw e at told))
 
@@ -298,10 +298,10 @@ acked_stamp_within journal s bound opening told = fold_within bound (open_versio
 
 -- an opening within a bound
 pub open_within : (journal : List Item) (s bound : ℕ)
-    → ((version : ℕ) → opened_at journal s ≡ Some version → version ≤ bound)
+    → ((version : ℕ) → journal_opened_at journal s ≡ Some version → version ≤ bound)
     → open_version journal s ≤ bound
-open_within journal s bound within = by_opened (opened_at journal s) refl where
-  by_opened : (o : Option ℕ) → opened_at journal s ≡ o → unwrap_or o 0 ≤ bound
+open_within journal s bound within = by_opened (journal_opened_at journal s) refl where
+  by_opened : (o : Option ℕ) → journal_opened_at journal s ≡ o → unwrap_or o 0 ≤ bound
   by_opened None e = omega arith
   by_opened (Some version) e = within version e
 
@@ -312,7 +312,7 @@ fold_up first (x ∷ xs) = omega (arith, fold_up (max first x) xs)
 -- no known boot is below the first one
 pub known_first : (journal : List Item) (s : ℕ) → 1 ≤ journal_known_boot journal s
 unfolding journal_known_boot
-known_first journal s = fold_up 1 (told_by (journal_hello_boot s) journal)
+known_first journal s = fold_up 1 (told_by (machine_hello_boot s) journal)
 
 -- it is at least the version of the opening
 pub acked_stamp_opened : (journal : List Item) (s : ℕ)

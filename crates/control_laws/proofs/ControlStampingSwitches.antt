@@ -2,12 +2,12 @@
 -- it is known to stamp with.
 use Rattle.base.proofs.Exports.{⊤, AllByRecursion, list_any, nat_tests, same_Some}
 use Rattle.std.proofs.Common.{[], ◌++◌, ◌==◌, ◌||◌, ◌∙◌, ◌∷◌, ◌≡◌, ◌≤◌, Bool, IsFalse, IsTrue, List, None, Option, Some, ap, append-nil, append_assoc, arith, eqb-true, false, if◌then◌else◌, inl, inr, is_some, map, nat_eq, refl, subst, sym, take, true, ℕ}
-use Rattle.update_machine.specs.Exports.{Advertise, Body, JournalItemsHaveCauses, Header, Item, Message, NoneConcern, Setting, Step, StepOfRow, acked_stamp, journal_after_steps, journal_boot_of, concerns_links, controller_heard, journal_crash_items, has_acked, heard, journal_installed_in_body, installs_version, is_advert, is_up, journal_items_then, journal_known_boot, journal_link_changes, nothing, opened_at, packet_items, journal_packets_at, send_items, serves, journal_stamp_of, machine_stamped_version_in, step_items}
+use Rattle.update_machine.specs.Exports.{Advertise, Body, JournalItemsHaveCauses, Header, Item, Message, NoneConcern, Setting, Step, StepOfRow, acked_stamp, journal_after_steps, journal_boot_of, concerns_links, journal_controller_heard, journal_crash_items, has_acked, heard, machine_installed_version, installs_version, is_advert, is_up, journal_items_then, journal_known_boot, journal_link_changes, nothing, journal_opened_at, machine_packet_items, journal_packets_at, send_items, serves, journal_stamp_of, machine_stamped_version_in, machine_step_items}
 use Rattle.control_laws.proofs.ControlCommands.{Control, IsCommand, IsControl, sends_any}
 use Rattle.control_laws.proofs.ControlFactsGrown.{AreKept, FromCauses, from_causes, have_weaker, known_more, opened_in, opened_is, serving_more, steps_have}
 use Rattle.control_laws.proofs.ControlTrafficItems.{IsChange, IsTraffic, IsWork, IsWorkStep, Work, change_traffic, links_change, packet_works, rule_cases, step_work}
 use Rattle.update_machine.proofs.Exports.{PiecesHave, have_put, have_take, start_laws}
-use Rattle.control_laws.specs.Exports.{AcksHold, HasControlItemCause, HasHeardTables, HoldsAtEnds, HoldsBehindItems}
+use Rattle.control_laws.specs.Exports.{AcksHold, HasControlItemCause, HasHeardTables, ControlLawHoldsAtEnds, ControlLawHoldsBehindItems}
 use Rattle.control_laws.proofs.ControlSwitchOpenings.{IsKnown, IsServing, delivery_known, known_at_first, known_kept, opened_on, opening_known}
 use Rattle.control_laws.proofs.ControlAckKinds.{AreTrue, of_stamps, of_tables, stamp_kept, true_at_first, true_on, turns}
 use Rattle.control_laws.proofs.ControlSaidToController.{acked_stamp_within, each_at, open_within, told_by}
@@ -66,12 +66,12 @@ works_plain setting journal items work =
     have_weaker (IsWork setting) IsPlain (work_plain setting) journal items work
 
 pub packet_plain : (setting : Setting) (i s : ℕ) (header : Header) (journal : List Item)
-    → ArePlain journal (packet_items setting i s header journal)
+    → ArePlain journal (machine_packet_items setting i s header journal)
 packet_plain setting i s header journal =
     packet_works setting IsPlain (work_plain setting) i s header journal tt
 
 pub step_plain : (setting : Setting) (before : List Item) (step : Step) (here : List Item)
-    → IsWorkStep step → ArePlain here (step_items setting before step here)
+    → IsWorkStep step → ArePlain here (machine_step_items setting before step here)
 step_plain setting before step here is =
     works_plain setting here _ (step_work setting before step here is)
 
@@ -97,7 +97,7 @@ control_plain = have_weaker IsControl IsPlain control_is_plain
 -- what is true after any steps is true in answers to schedules
 pub at_ends : (Holds : Setting → List Item → Type 0)
     → ((setting : Setting) (steps : List StepOfRow) → Holds setting (journal_after_steps setting [] steps))
-    → HoldsAtEnds Holds
+    → ControlLawHoldsAtEnds Holds
 at_ends Holds stepped = record {
   stepped = stepped;
   answered = λ setting events journal answers. rw answers.written (stepped setting answers.steps);
@@ -109,7 +109,7 @@ pub behind_items : (Holds : Setting → List Item → Type 0)
     (cause : Setting → List Item → Item → Type 0)
     → ((setting : Setting) → PiecesHave (cause setting) setting)
     → ((setting : Setting) (journal : List Item) → JournalItemsHaveCauses (cause setting) [] journal
-    → Holds setting journal) → HoldsBehindItems Holds
+    → Holds setting journal) → ControlLawHoldsBehindItems Holds
 behind_items Holds cause pieces caused = record {
   items = some_items;
   ends = at_ends Holds
@@ -215,18 +215,18 @@ unfolding has_acked
 acked_is journal s version tables up known acked = by_first (journal_known_boot journal s == 1) refl acked
   where
     later : IsTrue (list_any (nat_eq version)
-        (told_by (journal_installed_in_body s (journal_known_boot journal s)) journal)) → HasHeardTables journal s version
+        (told_by (machine_installed_version s (journal_known_boot journal s)) journal)) → HasHeardTables journal s version
     later any = inr (each_at (λ v. IsTrue (list_any (installs_version v) (heard journal s))) version
-        (told_by (journal_installed_in_body s (journal_boot_of journal s)) journal) (tables.told s up) (rw known at any))
+        (told_by (machine_installed_version s (journal_boot_of journal s)) journal) (tables.told s up) (rw known at any))
 
     by_version : (b : Bool) → nat_eq version 1 ≡ b → journal_boot_of journal s ≡ 1 → IsTrue
-        (b || list_any (nat_eq version) (told_by (journal_installed_in_body s (journal_known_boot journal s)) journal))
+        (b || list_any (nat_eq version) (told_by (machine_installed_version s (journal_known_boot journal s)) journal))
         → HasHeardTables journal s version
     by_version true e first any = inl (eqb-true version 1 e, first)
     by_version false e first any = later any
 
     by_first : (b : Bool) → (journal_known_boot journal s == 1) ≡ b → IsTrue (list_any (nat_eq version)
-        ((if b then 1 ∷ [] else []) ++ told_by (journal_installed_in_body s (journal_known_boot journal s)) journal))
+        ((if b then 1 ∷ [] else []) ++ told_by (machine_installed_version s (journal_known_boot journal s)) journal))
         → HasHeardTables journal s version
     by_first true e any = by_version (nat_eq version 1) refl
         (sym known ∙ eqb-true (journal_known_boot journal s) 1 e) any
@@ -246,17 +246,17 @@ acks_held setting journal have = acks_hold journal (caused_told setting journal 
 
 -- it stamps at least with the version at which it was opened
 pub record StampsOpened (journal : List Item) (s : ℕ) : Type 0 where
-  pub stamps : IsTrue (serves journal s) → (version : ℕ) → opened_at journal s ≡ Some version
+  pub stamps : IsTrue (serves journal s) → (version : ℕ) → journal_opened_at journal s ≡ Some version
       → version ≤ journal_stamp_of journal s
 
 -- if the known boot stays, so does the opening before
 opening_stays : (before : List Item) (next : Item) (s version : ℕ)
     → journal_known_boot (before ++ next ∷ []) s ≡ journal_known_boot before s
-    → IsTrue (is_some (opened_at before s))
-    → opened_at (before ++ next ∷ []) s ≡ Some version → opened_at before s ≡ Some version
-opening_stays before next s version known is opened = by_opened (opened_at before s) refl is where
-  by_opened : (o : Option ℕ) → opened_at before s ≡ o → IsTrue (is_some o)
-      → opened_at before s ≡ Some version
+    → IsTrue (is_some (journal_opened_at before s))
+    → journal_opened_at (before ++ next ∷ []) s ≡ Some version → journal_opened_at before s ≡ Some version
+opening_stays before next s version known is opened = by_opened (journal_opened_at before s) refl is where
+  by_opened : (o : Option ℕ) → journal_opened_at before s ≡ o → IsTrue (is_some o)
+      → journal_opened_at before s ≡ Some version
   by_opened None e is = absurd cc
   by_opened (Some w) e is =
       e ∙ sym (opened_is (before ++ next ∷ []) s ∙ ap (opened_in (before ++ next ∷ []) s) known
@@ -266,7 +266,7 @@ opening_stays before next s version known is opened = by_opened (opened_at befor
 served_on : (before : List Item) (next : Item) (s version : ℕ) → IsServing before s
     → StampsOpened before s → IsTrue (serves before s)
     → journal_known_boot (before ++ next ∷ []) s ≡ journal_known_boot before s → IsFalse (turns s next)
-    → opened_at (before ++ next ∷ []) s ≡ Some version → version ≤ journal_stamp_of (before ++ next ∷ []) s
+    → journal_opened_at (before ++ next ∷ []) s ≡ Some version → version ≤ journal_stamp_of (before ++ next ∷ []) s
 served_on before next s version serving stamps served known same opened = omega (
   arith,
   stamp_kept before next s same,
@@ -277,7 +277,7 @@ served_on before next s version serving stamps served known same opened = omega 
 stamps_on : (setting : Setting) (before : List Item) (next : Item) (s : ℕ)
     → HasControlItemCause setting before next → IsKnown before → StampsOpened before s
     → IsTrue (serves (before ++ next ∷ []) s) → (version : ℕ)
-    → opened_at (before ++ next ∷ []) s ≡ Some version
+    → journal_opened_at (before ++ next ∷ []) s ≡ Some version
     → version ≤ journal_stamp_of (before ++ next ∷ []) s
 stamps_on setting before (Item.Opened t stamp) s cause known is serving version opened =
     by_test (t == s) refl
@@ -291,7 +291,7 @@ stamps_on setting before (Item.Opened t stamp) s cause known is serving version 
         let same = opening_known before t cause.number cause.version known.boots cause.sent in
         let at = opened_is before t ∙ ap (opened_in before t) same
         ∙ known.openings t (journal_boot_of before t) cause.version cause.number cause.sent in
-        let here = subst (λ x. opened_at before x ≡ Some cause.version) own at in
+        let here = subst (λ x. journal_opened_at before x ≡ Some cause.version) own at in
         let still = opened_is (before ++ next ∷ []) s
         ∙ ap (opened_in (before ++ next ∷ []) s) (known_more before next s) ∙ opened_on before next
         s (journal_known_boot before s) cause.version (sym (opened_is before s) ∙ here) in
@@ -333,7 +333,7 @@ opened_stamps_on setting before next s cause known is = record {
 }
 
 pub opened_stamps_at_first : (s : ℕ) → StampsOpened [] s
-unfolding opened_at journal_known_boot controller_heard
+unfolding journal_opened_at journal_known_boot journal_controller_heard
 opened_stamps_at_first s = record {
   stamps = λ serving version opened. omega (arith, same_Some 1 version opened, start_laws.stamp s);
 }

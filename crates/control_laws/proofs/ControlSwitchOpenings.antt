@@ -1,9 +1,9 @@
 -- Items that have their causes keep what is known of openings and of switches that serve.
 use Rattle.std.proofs.Common.{[], ◌++◌, ◌+◌, ◌-◌, ◌==◌, ◌∙◌, ◌∷◌, ◌≡◌, ◌≤◌, Bool, IsFalse, IsTrue, List, None, Option, Some, arith, eq-eqb, false, if◌then◌else◌, inl, inr, is_some, nat_lt, refl, ℕ, rules}
 use Rattle.base.proofs.Exports.{AllByRecursion, each_append, nat_tests, option_map_or, range_with_len}
-use Rattle.update_machine.specs.Exports.{JournalItemsHaveCauses, Item, Message, OpenAt, Setting, journal_boot_of, machine_collect_for, controller_heard, journal_current_mark, machine_first_open, is_member, is_over, is_up, journal_known_boot, message_of, journal_open_for, machine_open_sent, open_version, opened_at, resend_items, journal_resent_by_controller, journal_resent_by_switch, journal_resent_to_member, journal_retired_mark, send_items, serves, journal_stamp_for, machine_message_to_switch, journal_unacked_installs, journal_version_count, journal_versions_from_current}
+use Rattle.update_machine.specs.Exports.{JournalItemsHaveCauses, Item, Message, OpenAt, Setting, journal_boot_of, machine_collect_for, journal_controller_heard, journal_current_mark, machine_first_open, is_member, is_over, is_up, journal_known_boot, journal_message_of, journal_open_for, machine_open_sent, open_version, journal_opened_at, machine_resend_items, journal_resent_by_controller, journal_resent_by_switch, journal_resent_to_member, journal_retired_mark, send_items, serves, journal_stamp_for, machine_message_to_switch, journal_unacked_installs, journal_version_count, journal_versions_from_current}
 use Rattle.update_machine.proofs.Exports.{start_laws}
-use Rattle.control_laws.specs.Exports.{BootsAreKnown, HasControlItemCause, IsRightOpening, OpeningMessagesNameOneVersion, ServingIsKnown}
+use Rattle.control_laws.specs.Exports.{BootsAreKnown, HasControlItemCause, IsRightControlOpening, OpeningMessagesNameOneVersion, ServingIsKnown}
 use Rattle.control_laws.proofs.ControlFactsGrown.{AreKept, FromCauses, boot_more, boots_on, by_number, from_causes, known_more, opened_at_more, opened_in, opened_is, opened_more, over_more, raised, serving_more, told_past, up_more}
 
 -- ---- what is sent again, by its parts: what the messages of each part have, its messages have
@@ -35,8 +35,8 @@ pub resent_has : (cause : List Item → Item → Type 0) (P : Message → Type 0
     → JournalItemsHaveCauses cause journal (send_items journal messages))
     → AllByRecursion P (journal_resent_by_switch setting journal s)
     → AllByRecursion P (journal_resent_by_controller setting journal s)
-    → JournalItemsHaveCauses cause journal (resend_items setting s journal)
-unfolding resend_items
+    → JournalItemsHaveCauses cause journal (machine_resend_items setting s journal)
+unfolding machine_resend_items
 resent_has cause P setting s journal nothing sent by_switch by_controller =
     search (rules, each_append)
 
@@ -45,12 +45,12 @@ resent_has cause P setting s journal nothing sent by_switch by_controller =
 -- ---- members
 
 pub member_parts : (journal : List Item) (s : ℕ) → IsTrue (is_member journal s)
-    → IsFalse (is_over journal s) × IsTrue (is_some (opened_at journal s))
+    → IsFalse (is_over journal s) × IsTrue (is_some (journal_opened_at journal s))
 unfolding is_member
 member_parts journal s member = grind arith
 
 pub member_of : (journal : List Item) (s : ℕ) → IsFalse (is_over journal s)
-    → IsTrue (is_some (opened_at journal s)) → IsTrue (is_member journal s)
+    → IsTrue (is_some (journal_opened_at journal s)) → IsTrue (is_member journal s)
 unfolding is_member
 member_of journal s none opened = search rules
 
@@ -59,7 +59,7 @@ member_of journal s none opened = search rules
 -- each message that opens a switch is of the version at which it is opened in that boot
 abbrev pub OpeningsStand : List Item → Type 0
 OpeningsStand journal = (s boot version n : ℕ)
-    → message_of journal n ≡ Some (machine_message_to_switch s (OpenAt boot version))
+    → journal_message_of journal n ≡ Some (machine_message_to_switch s (OpenAt boot version))
     → opened_in journal s boot ≡ Some version
 
 -- a switch that is opened stays opened at that version
@@ -71,7 +71,7 @@ pub own_opening : (s boot version n : ℕ)
     → machine_first_open (machine_open_sent s boot (Item.Sent n (machine_message_to_switch s (OpenAt boot version)))) ≡ Some version
 own_opening s boot version n = search (rules, eq-eqb)
 
-pub new_opening : (before : List Item) (s boot version n : ℕ) → IsRightOpening before s boot version
+pub new_opening : (before : List Item) (s boot version n : ℕ) → IsRightControlOpening before s boot version
     → opened_in (before ++ Item.Sent n (machine_message_to_switch s (OpenAt boot version)) ∷ []) s boot
     ≡ Some version
 new_opening before s boot version n right =
@@ -100,7 +100,7 @@ one_opening journal stand s boot one other m n first second =
 pub record IsServing (journal : List Item) (s : ℕ) : Type 0 where
   pub up : IsTrue (serves journal s) → IsTrue (is_up journal s)
   pub known : IsTrue (serves journal s) → journal_known_boot journal s ≡ journal_boot_of journal s
-  pub opened : IsTrue (serves journal s) → IsTrue (is_some (opened_at journal s))
+  pub opened : IsTrue (serves journal s) → IsTrue (is_some (journal_opened_at journal s))
   pub not_over : IsTrue (is_up journal s) → journal_known_boot journal s ≡ journal_boot_of journal s
       → IsFalse (is_over journal s)
 
@@ -111,7 +111,7 @@ up_on setting before next s cause up serving = search (rules, nat_tests, serving
 
 -- a switch opens in its known boot, by a message of that boot
 pub opening_known : (before : List Item) (s number version : ℕ) → BootsAreKnown before
-    → message_of before number ≡ Some (machine_message_to_switch s (OpenAt (journal_boot_of before s) version))
+    → journal_message_of before number ≡ Some (machine_message_to_switch s (OpenAt (journal_boot_of before s) version))
     → journal_known_boot before s ≡ journal_boot_of before s
 opening_known before s number version boots sent =
     let past = boots.sent number (machine_message_to_switch s (OpenAt (journal_boot_of before s) version)) sent in
@@ -138,7 +138,7 @@ known_on setting before next s cause boots kept serving =
 -- a switch that was opened in its known boot stays so while that boot is the known one
 pub still_opened : (before : List Item) (next : Item) (s : ℕ)
     → journal_known_boot (before ++ next ∷ []) s ≡ journal_known_boot before s
-    → IsTrue (is_some (opened_at before s)) → IsTrue (is_some (opened_at (before ++ next ∷ []) s))
+    → IsTrue (is_some (journal_opened_at before s)) → IsTrue (is_some (journal_opened_at (before ++ next ∷ []) s))
 still_opened before next s same opened = search (rules, opened_at_more)
 
 -- and a member stays one, unless it is over
@@ -150,14 +150,14 @@ member_on before next s known over member = let parts = member_parts before s me
 
 opened_here : (before : List Item) (s number version : ℕ) → BootsAreKnown before
     → OpeningsStand before
-    → message_of before number ≡ Some (machine_message_to_switch s (OpenAt (journal_boot_of before s) version))
-    → IsTrue (is_some (opened_at before s))
+    → journal_message_of before number ≡ Some (machine_message_to_switch s (OpenAt (journal_boot_of before s) version))
+    → IsTrue (is_some (journal_opened_at before s))
 opened_here before s number version boots stand sent = search (rules, opened_is, opening_known)
 
 opened_serving : (setting : Setting) (before : List Item) (next : Item) (s : ℕ)
     → HasControlItemCause setting before next → BootsAreKnown before → OpeningsStand before
     → IsServing before s → IsTrue (serves (before ++ next ∷ []) s)
-    → IsTrue (is_some (opened_at (before ++ next ∷ []) s))
+    → IsTrue (is_some (journal_opened_at (before ++ next ∷ []) s))
 opened_serving setting before next s cause boots stand kept serving =
     search (rules, nat_tests, opened_here, still_opened, known_more, serving_more, delivery_known)
 
@@ -195,8 +195,8 @@ known_kept setting before next cause known = record {
   };
 }
 
-first_opened : (s : ℕ) → IsTrue (is_some (opened_at [] s))
-unfolding opened_at journal_known_boot controller_heard
+first_opened : (s : ℕ) → IsTrue (is_some (journal_opened_at [] s))
+unfolding journal_opened_at journal_known_boot journal_controller_heard
 first_opened s = refl
 
 pub known_at_first : IsKnown []

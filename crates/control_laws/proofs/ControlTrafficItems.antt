@@ -2,12 +2,12 @@
 -- deliver nothing and move no mark, whatever journal they follow.
 use Rattle.std.proofs.Common.{[], ◌++◌, ◌<◌, ◌∷◌, ◌≡◌, Bool, IfSome, IsFalse, IsTrue, List, None, Option, Some, arith, false, filter, flat_map, length, map, option_map, refl, slice_get, true, unwrap_or, ℕ}
 use Rattle.base.proofs.Exports.{AllByRecursion, each_append, each_flat_map, each_map, ⊤}
-use Rattle.update_machine.specs.Exports.{Action, Advert, Advertise, AuthorityRule, Body, CacheRule, Exit, Expire, Forget, Found, JournalItemsHaveCauses, Header, Hop, How, Item, Leg, LinkDown, LinkUp, Lose, Message, Place, Rule, Seek, Setting, Step, advert_to, journal_leg_arrival_items, machine_arrive_items, machine_authority_items, journal_authority_rule, journal_cache_items, cache_rule, end_items, machine_expire_items, first_place, forget_items, journal_found_down, found_items, go_on, journal_usable_links_changed, journal_packet_header_at, journal_held_adverts, holds_version, machine_hop_items, in_turn, journal_ingress_of, is_at, is_deliverable, is_version, journal_items_then, machine_leg_items, journal_leg_of, journal_link_changes, machine_link_items, lookup_at, lookup_items, lose_items, machine_messages_of, machine_messages_over_link, move_items, near, nothing, own_advert, packet_items, machine_advert_passed_on, journal_plan_at, journal_reroute_by, reroute_items, journal_packet_route, journal_route_from, send_items, machine_sent_items_from, serves, journal_stamp_of, step_items, stuck_on_leg_items, setting_switches_in, switches_of, takes_route, targets_of}
+use Rattle.update_machine.specs.Exports.{Action, Advert, Advertise, AuthorityRule, Body, CacheRule, Exit, Expire, Forget, Found, JournalItemsHaveCauses, Header, Hop, How, Item, Leg, LinkDown, LinkUp, Lose, Message, Place, Rule, Seek, Setting, Step, machine_advert_to, journal_leg_arrival_items, machine_arrive_items, machine_authority_items, journal_authority_rule, journal_cache_items, cache_rule, machine_end_items, machine_expire_items, first_place, machine_forget_items, journal_found_down, found_items, go_on, journal_usable_links_changed, journal_packet_header_at, journal_held_adverts, holds_version, machine_hop_items, in_turn, journal_ingress_of, is_at, is_deliverable, is_version, journal_items_then, machine_leg_items, journal_leg_of, journal_link_changes, machine_link_items, lookup_at, machine_lookup_items, lose_items, machine_messages_of, machine_messages_over_link, machine_move_items, near, nothing, own_advert, machine_packet_items, machine_advert_passed_on, journal_plan_at, journal_reroute_by, machine_reroute_items, journal_packet_route, journal_route_from, send_items, machine_sent_items_from, serves, journal_stamp_of, machine_step_items, machine_stuck_on_leg_item, setting_switches_in, setting_switches_of, machine_takes_route, journal_leg_targets}
 use Rattle.base.specs.Exports.{has}
 use Rattle.update_machine.proofs.Exports.{have_first, have_in_turn, have_put, part_there, version_kept}
 use Rattle.partition.specs.Plan.{Hosted}
 use Rattle.switch_table.specs.Exports.{part_of}
-use Rattle.control_laws.specs.Exports.{HasControlItemCause, IsRightMessage}
+use Rattle.control_laws.specs.Exports.{HasControlItemCause, IsRightControlMessage}
 use Rattle.control_laws.proofs.ControlFactsGrown.{Has, have_weaker}
 use Rattle.control_laws.proofs.ControlMessageSends.{each_of_network}
 use Rattle.control_laws.proofs.ControlCommands.{sends_each}
@@ -36,7 +36,7 @@ rule_cases before P rules to body is = absurd is
 pub record KnowsNoRoute (setting : Setting) (before : List Item) (i s : ℕ) (leg : Leg)
     (down : List ℕ) : Type 0 where
   pub found : down ≡ journal_found_down before i
-  pub none : journal_route_from setting before s (targets_of setting before leg) down ≡ None
+  pub none : journal_route_from setting before s (journal_leg_targets setting before leg) down ≡ None
 
 -- what becomes of packets once they entered, and of messages and cache rules that end. Nothing is
 -- sent but cache rules, nothing is forgotten that can't be delivered, and no link changes. A packet
@@ -90,7 +90,7 @@ between_cases setting before P rules adverts to body is = rule_cases before P ru
 pub traffic_right : (setting : Setting) (before : List Item) (next : Item)
     → IsTraffic setting before next → HasControlItemCause setting before next
 traffic_right setting before (Item.Sent number message) is = between_cases setting before
-    (IsRightMessage setting before) (λ s version word rule action there ingress. tt)
+    (IsRightControlMessage setting before) (λ s version word rule action there ingress. tt)
     (λ s advert there. tt) message.to message.body is
 traffic_right setting before (Item.Entered packet s header) is = absurd is
 traffic_right setting before (Item.Down s) is = absurd is
@@ -121,21 +121,21 @@ leg_work : (setting : Setting) (journal : List Item) (i s : ℕ) (leg : Leg)
     → Work setting journal (machine_leg_items setting journal i s leg)
 unfolding machine_leg_items
 leg_work setting journal i s leg = by_route (journal_packet_route setting journal i s leg) refl where
-  takes : (leg : Leg) (route : List ℕ) → Work setting journal (takes_route i leg route ∷ [])
+  takes : (leg : Leg) (route : List ℕ) → Work setting journal (machine_takes_route i leg route ∷ [])
   takes (Seek version partition) route = (tt, tt)
   takes (Exit port) route = (tt, tt)
 
   by_route : (o : Option (List ℕ)) → journal_packet_route setting journal i s leg ≡ o
       → Work setting journal (elim o [
-        | None ↦ stuck_on_leg_items setting journal i s leg ∷ []
-        | Some route ↦ takes_route i leg route ∷ []
+        | None ↦ machine_stuck_on_leg_item setting journal i s leg ∷ []
+        | Some route ↦ machine_takes_route i leg route ∷ []
       ])
   by_route None e = (record { found = refl; none = e }, tt)
   by_route (Some route) e = takes leg route
 
 end_work : (setting : Setting) (i s : ℕ) (act : Action) (journal : List Item)
-    → Work setting journal (end_items setting i s act journal)
-unfolding end_items
+    → Work setting journal (machine_end_items setting i s act journal)
+unfolding machine_end_items
 end_work setting i s Action.Drop journal = (tt, tt)
 end_work setting i s (Action.Out port) journal = grind (arith, leg_work)
 
@@ -190,19 +190,19 @@ authority_work setting i s (Some rule) journal there =
     (How.Authority s rule.part.number) in
     let now : List Item = journal ++ decided ∷ [] in
     have_first (IsWork setting) decided
-    (in_turn (journal_cache_items setting i s rule ∷ end_items setting i s rule.rule.action ∷ [])) journal
+    (in_turn (journal_cache_items setting i s rule ∷ machine_end_items setting i s rule.rule.action ∷ [])) journal
     tt
     (have_put (IsWork setting) (journal_cache_items setting i s rule now)
-    (in_turn (end_items setting i s rule.rule.action ∷ [])) now
+    (in_turn (machine_end_items setting i s rule.rule.action ∷ [])) now
     (cache_work setting i s rule now (version_kept journal (decided ∷ []) rule.version there))
-    (have_in_turn (IsWork setting) (end_items setting i s rule.rule.action ∷ [])
+    (have_in_turn (IsWork setting) (machine_end_items setting i s rule.rule.action ∷ [])
     (end_work setting i s rule.rule.action, tt) (now ++ journal_cache_items setting i s rule now)))
 
 found_work : (setting : Setting) (i s : ℕ) (what : Found) (journal : List Item)
     → Work setting journal (found_items setting i s what journal)
 found_work setting i s (Found.Cached entry) journal =
     let decided = Item.Decided i entry.version entry.rule entry.action (How.Cached entry.message) in
-    have_first (IsWork setting) decided (end_items setting i s entry.action) journal tt
+    have_first (IsWork setting) decided (machine_end_items setting i s entry.action) journal tt
     (end_work setting i s entry.action (journal ++ decided ∷ []))
 found_work setting i s (Found.Authority partition place) journal = authority_work setting i s
     (journal_authority_rule setting journal (journal_stamp_of journal s) partition place) journal
@@ -211,8 +211,8 @@ found_work setting i s (Found.Redirect partition targets) journal =
     leg_work setting journal i s (Seek (journal_stamp_of journal s) partition)
 
 lookup_work : (setting : Setting) (i s : ℕ) (journal : List Item)
-    → Work setting journal (lookup_items setting i s journal)
-unfolding lookup_items
+    → Work setting journal (machine_lookup_items setting i s journal)
+unfolding machine_lookup_items
 lookup_work setting i s journal =
     found_work setting i s (lookup_at setting journal s (journal_packet_header_at journal i)) journal
 
@@ -227,7 +227,7 @@ arrive_by_work setting i s (Some (Seek version partition)) journal =
     place = first_place setting journal version partition (journal_packet_header_at journal i)
 
     by_held : (b : Bool) → Work setting journal (elim b [
-      | false ↦ lookup_items setting i s journal
+      | false ↦ machine_lookup_items setting i s journal
       | true ↦ machine_authority_items setting i s (journal_authority_rule setting journal version partition place)
           journal
     ])
@@ -248,7 +248,7 @@ reroute_by_work setting i s (Some leg) journal = by_route (journal_packet_route 
   where
     by_route : (o : Option (List ℕ)) → journal_packet_route setting journal i s leg ≡ o
         → Work setting journal (elim o [
-          | None ↦ stuck_on_leg_items setting journal i s leg ∷ []
+          | None ↦ machine_stuck_on_leg_item setting journal i s leg ∷ []
           | Some route ↦ journal_items_then (Item.Rerouted i route ∷ []) (go_on setting i s) journal
         ])
     by_route None e = (record { found = refl; none = e }, tt)
@@ -256,38 +256,38 @@ reroute_by_work setting i s (Some leg) journal = by_route (journal_packet_route 
         (go_on setting i s) journal tt (grind (arith, arrive_work))
 
 reroute_work : (setting : Setting) (i s : ℕ) (journal : List Item)
-    → Work setting journal (reroute_items setting i s journal)
-unfolding reroute_items
+    → Work setting journal (machine_reroute_items setting i s journal)
+unfolding machine_reroute_items
 reroute_work setting i s journal = reroute_by_work setting i s (journal_leg_of journal i) journal
 
 move_work : (setting : Setting) (i s : ℕ) (journal : List Item)
-    → Work setting journal (move_items setting i s journal)
-unfolding move_items
+    → Work setting journal (machine_move_items setting i s journal)
+unfolding machine_move_items
 move_work setting i s journal = grind (arith, arrive_work, reroute_work)
 
 -- a packet that enters is no work yet: its cause is to be given
 pub packet_works : (setting : Setting) (cause : List Item → Item → Type 0) →
     ((before : List Item) (next : Item) → IsWork setting before next → cause before next) →
     (i s : ℕ) (header : Header) (journal : List Item) → cause journal (Item.Entered i s header)
-    → JournalItemsHaveCauses cause journal (packet_items setting i s header journal)
-unfolding packet_items
+    → JournalItemsHaveCauses cause journal (machine_packet_items setting i s header journal)
+unfolding machine_packet_items
 packet_works setting cause weaker i s header journal enters = by_serving (serves journal s) where
   entered : Item
   entered = Item.Entered i s header
 
   by_serving : (b : Bool) → JournalItemsHaveCauses cause journal (elim b [
     | false ↦ Item.Closed i s ∷ []
-    | true ↦ journal_items_then (entered ∷ []) (lookup_items setting i s) journal
+    | true ↦ journal_items_then (entered ∷ []) (machine_lookup_items setting i s) journal
   ])
   by_serving false = (weaker journal (Item.Closed i s) tt, tt)
-  by_serving true = have_first cause entered (lookup_items setting i s) journal enters
-      (have_weaker (IsWork setting) cause weaker (journal ++ entered ∷ []) (lookup_items setting i
+  by_serving true = have_first cause entered (machine_lookup_items setting i s) journal enters
+      (have_weaker (IsWork setting) cause weaker (journal ++ entered ∷ []) (machine_lookup_items setting i
       s (journal ++ entered ∷ [])) (lookup_work setting i s (journal ++ entered ∷ [])))
 
 pub packet_has : (setting : Setting) (cause : List Item → Item → Type 0) →
     ((before : List Item) (next : Item) → IsTraffic setting before next → cause before next) →
     (i s : ℕ) (header : Header) (journal : List Item) → cause journal (Item.Entered i s header)
-    → JournalItemsHaveCauses cause journal (packet_items setting i s header journal)
+    → JournalItemsHaveCauses cause journal (machine_packet_items setting i s header journal)
 packet_has setting cause weaker = packet_works setting cause
     (λ before next is. weaker before next (work_is_traffic setting before next is))
 
@@ -304,8 +304,8 @@ lose_work setting i journal = grind arith
 -- ---- caches and messages
 
 forget_work : (setting : Setting) (number : ℕ) (journal : List Item)
-    → Work setting journal (forget_items number journal)
-unfolding forget_items
+    → Work setting journal (machine_forget_items number journal)
+unfolding machine_forget_items
 forget_work setting number journal = by_test (is_deliverable journal number) refl where
   by_test : (b : Bool) → is_deliverable journal number ≡ b → Work setting journal (elim b [
     | false ↦ nothing
@@ -355,7 +355,7 @@ change_traffic setting before Item.Nothing is = tt
 change_traffic setting before _ is = absurd is
 
 pub adverts_to : (setting : Setting) (s : ℕ) → s < length setting.net.switches
-    → (adverts : List Advert) → AllByRecursion (IsAdvert setting) (map (advert_to s) adverts)
+    → (adverts : List Advert) → AllByRecursion (IsAdvert setting) (map (machine_advert_to s) adverts)
 adverts_to setting s there [] = tt
 adverts_to setting s there (advert ∷ adverts) = (there, adverts_to setting s there adverts)
 
@@ -381,8 +381,8 @@ told_adverts setting before journal s neighbour there =
     by_link (has (near setting before s) neighbour)
   where
     by_link : (old : Bool) → AllByRecursion (IsAdvert setting) (elim old [
-      | true ↦ advert_to neighbour (own_advert setting journal s) ∷ []
-      | false ↦ map (advert_to neighbour) (journal_held_adverts setting journal s)
+      | true ↦ machine_advert_to neighbour (own_advert setting journal s) ∷ []
+      | false ↦ map (machine_advert_to neighbour) (journal_held_adverts setting journal s)
     ])
     by_link true = (there, tt)
     by_link false = adverts_to setting neighbour there (journal_held_adverts setting journal s)
@@ -395,7 +395,7 @@ links_change setting before journal = sends_each (IsChange setting) (IsAdvert se
     (each_flat_map (IsAdvert setting) (machine_messages_of setting before journal) (λ s. each_told setting
     (machine_messages_over_link setting before journal s) (told_adverts setting before journal s)
     (setting_switches_in setting (near setting journal s)) (masked_there setting (near setting journal s)))
-    (filter (journal_usable_links_changed setting before journal) (switches_of setting)))
+    (filter (journal_usable_links_changed setting before journal) (setting_switches_of setting)))
 
 pub link_change : (setting : Setting) (before : List Item) (one two : ℕ) (up : Bool)
     (journal : List Item) → Change setting journal (machine_link_items setting before one two up journal)
@@ -422,7 +422,7 @@ pub passed_traffic : (setting : Setting) (journal : List Item) (s : ℕ) (advert
 passed_traffic setting journal s advert = sends_each (IsTraffic setting) (IsAdvert setting)
     (λ before n message is. advert_between setting before message.to message.body is) journal
     (machine_advert_passed_on setting journal s advert)
-    (each_map (IsAdvert setting) (λ neighbour. advert_to neighbour advert)
+    (each_map (IsAdvert setting) (λ neighbour. machine_advert_to neighbour advert)
     (setting_switches_in setting (near setting journal s)) (masked_there setting (near setting journal s)))
 
 -- ---- steps
@@ -446,9 +446,9 @@ work_cases P hop lose forget expire (Expire s place) is = expire s place
 work_cases P hop lose forget expire step is = absurd is
 
 pub step_work : (setting : Setting) (before : List Item) (step : Step) (here : List Item)
-    → IsWorkStep step → Work setting here (step_items setting before step here)
+    → IsWorkStep step → Work setting here (machine_step_items setting before step here)
 step_work setting before step here =
-    work_cases (λ step. Work setting here (step_items setting before step here))
+    work_cases (λ step. Work setting here (machine_step_items setting before step here))
     (λ packet. hop_work setting packet here) (λ packet. lose_work setting packet here)
     (λ message. forget_work setting message here) (λ s place. expire_work setting s place here) step
 
@@ -459,7 +459,7 @@ IsTrafficStep (LinkUp one two) = ⊤
 IsTrafficStep step = IsWorkStep step
 
 pub step_traffic : (setting : Setting) (before : List Item) (step : Step) (here : List Item)
-    → IsTrafficStep step → Traffic setting here (step_items setting before step here)
+    → IsTrafficStep step → Traffic setting here (machine_step_items setting before step here)
 step_traffic setting before (LinkDown one two) here is =
     changes_traffic setting here _ (link_change setting before one two false here)
 step_traffic setting before (LinkUp one two) here is =

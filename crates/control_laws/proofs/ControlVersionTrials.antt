@@ -2,10 +2,10 @@
 -- stamp does, and what is planned.
 use Rattle.std.proofs.Common.{[], ◌++◌, ◌∙◌, ◌∷◌, ◌≡◌, ◌≤◌, List, ap, arith, false, inl, inr, length, refl, subst, sym, true, ℕ, rules}
 use Rattle.base.proofs.Exports.{All-from_recursion, cases_lt}
-use Rattle.update_machine.specs.Exports.{Collect, Drop, SettingHasPlan, JournalItemsHaveCauses, Install, Item, OpenAt, Stamp, Step, StepOfRow, Tables, journal_boot_of, controller_heard, journal_current_mark, heard, holds_version, is_over, is_up, journal_known_boot, message_of, journal_next_policy, piece, journal_retired_mark, serves, journal_stamp_of, journal_tables_at, machine_message_to_switch, journal_version_count}
+use Rattle.update_machine.specs.Exports.{Collect, Drop, SettingHasPlan, JournalItemsHaveCauses, Install, Item, OpenAt, Stamp, Step, StepOfRow, Tables, journal_boot_of, journal_controller_heard, journal_current_mark, heard, holds_version, is_over, is_up, journal_known_boot, journal_message_of, journal_next_policy, piece, journal_retired_mark, serves, journal_stamp_of, journal_tables_at, machine_message_to_switch, journal_version_count}
 use Rattle.steps.specs.Exports.{IsStep}
 use Rattle.update_machine.proofs.Exports.{all_to, at, first_planned, none_of_7, open_net, plan_q, second_plan, second_planned, tables_of, versions}
-use Rattle.control_laws.specs.Exports.{AreControlTablesOf, MessageBringsPlannedTables, HasControlItemCause, HoldsAtEnds, HoldsBehindItems, HoldsReached, HoldsStampedVersions, ServingHoldVersions, ControlSubmissionHasCause, TablesArePlanned, ControlVersionsArePlanned}
+use Rattle.control_laws.specs.Exports.{AreControlTablesOf, MessageBringsPlannedTables, HasControlItemCause, ControlLawHoldsAtEnds, ControlLawHoldsBehindItems, ControlLawHoldsReached, HoldsStampedVersions, ServingHoldVersions, ControlSubmissionHasCause, ControlTablesArePlanned, ControlVersionsArePlanned}
 use Rattle.control_laws.proofs.ControlPlannedTables.{tables_planned}
 use Rattle.control_laws.proofs.ControlMarkLaws.{serving_hold}
 
@@ -42,7 +42,7 @@ not_behind_64 submits = submits.few refl
 
 -- ---- what is reached
 
-pub not_all_are_empty : HoldsReached (λ setting journal. journal ≡ []) → ⊥
+pub not_all_are_empty : ControlLawHoldsReached (λ setting journal. journal ≡ []) → ⊥
 unfolding piece
 not_all_are_empty holds = let one = at 1 (Step.Lose 1) ∷ [] in
     cc (holds.reached open_net _ (record {
@@ -52,11 +52,11 @@ not_all_are_empty holds = let one = at 1 (Step.Lose 1) ∷ [] in
       written = refl;
     }))
 
-pub not_empty_behind_items : HoldsBehindItems (λ setting journal. journal ≡ []) → ⊥
+pub not_empty_behind_items : ControlLawHoldsBehindItems (λ setting journal. journal ≡ []) → ⊥
 unfolding piece
 not_empty_behind_items holds = cc (holds.items open_net (at 1 (Step.Lose 1) ∷ []) 1)
 
-pub not_empty_at_ends : HoldsAtEnds (λ setting journal. journal ≡ []) → ⊥
+pub not_empty_at_ends : ControlLawHoldsAtEnds (λ setting journal. journal ≡ []) → ⊥
 unfolding piece
 not_empty_at_ends holds = cc (holds.stepped open_net (at 1 (Step.Lose 1) ∷ []))
 
@@ -81,7 +81,7 @@ only_one : (version : ℕ) → 1 ≤ version → version ≤ 1 → 1 ≡ version
 only_one version above below = omega (arith, above, below)
 
 holds_both : HoldsStampedVersions (installed ++ stamped) 0
-unfolding journal_boot_of heard is_up journal_current_mark journal_retired_mark message_of holds_version journal_stamp_of
+unfolding journal_boot_of heard is_up journal_current_mark journal_retired_mark journal_message_of holds_version journal_stamp_of
 holds_both = search (rules, only_two)
 
 -- a switch without the tables of its stamp doesn't hold it
@@ -89,7 +89,7 @@ abbrev untold : List Item
 untold = Item.Submitted 2 2 ∷ Item.Current 2 ∷ stamped
 
 not_without_tables : HoldsStampedVersions untold 0 → ⊥
-unfolding journal_boot_of heard is_up journal_current_mark journal_retired_mark message_of holds_version journal_stamp_of
+unfolding journal_boot_of heard is_up journal_current_mark journal_retired_mark journal_message_of holds_version journal_stamp_of
 not_without_tables holds = let no : false ≡ true = holds.stamp in absurd cc
 
 -- nor one that is told to drop them
@@ -97,7 +97,7 @@ abbrev dropped : List Item
 dropped = (installed ++ stamped) ++ Item.Sent 3 (machine_message_to_switch 0 (Collect 1 2)) ∷ Item.Delivered 3 ∷ []
 
 not_dropped : HoldsStampedVersions dropped 0 → ⊥
-unfolding journal_boot_of heard is_up journal_current_mark journal_retired_mark message_of holds_version journal_stamp_of
+unfolding journal_boot_of heard is_up journal_current_mark journal_retired_mark journal_message_of holds_version journal_stamp_of
 not_dropped holds = let no : false ≡ true = holds.stamp in absurd cc
 
 -- a switch that serves without its tables doesn't hold its stamp
@@ -171,27 +171,27 @@ told = Item.Submitted 2 2 ∷ Item.Sent 1 (machine_message_to_switch 0 (Install 
     ∷ Item.Delivered 1 ∷ []
 
 told_rightly : JournalItemsHaveCauses (HasControlItemCause open_net) [] told
-unfolding journal_version_count journal_retired_mark journal_known_boot is_over controller_heard journal_next_policy
+unfolding journal_version_count journal_retired_mark journal_known_boot is_over journal_controller_heard journal_next_policy
 told_rightly = search (rules, second_file, its_tables)
 
 -- each switch serves, and goes on to stamp with the first version
 serve_once_told : ServingHoldVersions open_net told
 serve_once_told = serving_hold open_net told told_rightly
 
-tables_once_told : TablesArePlanned open_net told
+tables_once_told : ControlTablesArePlanned open_net told
 tables_once_told = tables_planned open_net told told_rightly
 
 -- tables that aren't planned break it where they are sent, and where they are heard
-not_of_no_plan : TablesArePlanned open_net installed → ⊥
-unfolding message_of
+not_of_no_plan : ControlTablesArePlanned open_net installed → ⊥
+unfolding journal_message_of
 not_of_no_plan are = not_second sent (are.sent 0 1 1 second refl).planned
 
-not_heard_of_no_plan : TablesArePlanned open_net installed → ⊥
-unfolding heard is_up journal_boot_of message_of
+not_heard_of_no_plan : ControlTablesArePlanned open_net installed → ⊥
+unfolding heard is_up journal_boot_of journal_message_of
 not_heard_of_no_plan are = not_second sent (are.heard 0 0 (OpenAt 1 1) (omega arith)).planned
 
 -- and so does a version that is held without being there
-not_held_unless_there : TablesArePlanned open_net
+not_held_unless_there : ControlTablesArePlanned open_net
     (Item.Sent 1 (machine_message_to_switch 0 (Install 1 second)) ∷ Item.Delivered 1 ∷ []) → ⊥
-unfolding holds_version heard is_up journal_boot_of message_of journal_version_count
+unfolding holds_version heard is_up journal_boot_of journal_message_of journal_version_count
 not_held_unless_there are = let there = are.held 0 2 refl in absurd (omega (arith, there.1))

@@ -7,27 +7,27 @@ use Rattle.journal.specs.declared.item.Item.TheVariants as item
 
 -- a switch of the network may stamp with a version, in its known boot, only if it acknowledged
 -- this version in that boot; the version is at most the current one
-pub record IsLetStampAfterAck (setting : Setting) (before : List Item) (s boot version : ℕ) : Type 0 where
+pub record IsControlStampAfterAck (setting : Setting) (before : List Item) (s boot version : ℕ) : Type 0 where
   pub known : boot ≡ journal_known_boot before s
   pub acked : s < length setting.net.switches → IsTrue (has_acked before s version)
   pub current : version ≤ journal_current_mark before
 
-abbrev pub LetsStampAfterAck : Setting → List Item → Place → Body → Type 0
-LetsStampAfterAck setting before (receiver.Switch s) (OpenAt boot version) =
-    IsLetStampAfterAck setting before s boot version
-LetsStampAfterAck setting before (receiver.Switch s) (Stamp boot version touched) =
-    IsLetStampAfterAck setting before s boot version
-LetsStampAfterAck setting before to body = ⊤
+abbrev pub ControlLetsStampAfterAck : Setting → List Item → Place → Body → Type 0
+ControlLetsStampAfterAck setting before (receiver.Switch s) (OpenAt boot version) =
+    IsControlStampAfterAck setting before s boot version
+ControlLetsStampAfterAck setting before (receiver.Switch s) (Stamp boot version touched) =
+    IsControlStampAfterAck setting before s boot version
+ControlLetsStampAfterAck setting before to body = ⊤
 
 -- a message that lets a switch stamp has this cause; other items need none
 abbrev pub IsAckedFirst : Setting → List Item → Item → Type 0
 IsAckedFirst setting before (item.Sent number message) =
-    LetsStampAfterAck setting before message.to message.body
+    ControlLetsStampAfterAck setting before message.to message.body
 IsAckedFirst setting before _ = ⊤
 
 -- a member of the network acknowledged each version from the one at which it was opened to the
 -- current one; the stamp of a switch that serves is at least the one that the controller knows
-pub record MembersAcknowledged (setting : Setting) (journal : List Item) : Type 0 where
+pub record ControlMembersAcknowledged (setting : Setting) (journal : List Item) : Type 0 where
   pub acked : (s version : ℕ) → s < length setting.net.switches → IsTrue (is_member journal s)
       → open_version journal s ≤ version → version ≤ journal_current_mark journal
       → IsTrue (has_acked journal s version)

@@ -4,7 +4,7 @@
 use Rattle.std.specs.Prelude.{[], ◌<◌, ◌∷◌, ◌≡◌, ◌≤◌, ◌⊎◌, All, IsTrue, List, Some, ℕ, ⊤}
 use Rattle.failover.specs.Exports.{AreJoinedByLinks, is_newer}
 use Rattle.base.specs.Exports.{has}
-use Rattle.update_machine.specs.Exports.{Advert, Item, Net, Setting, journal_advert_known, advert_to, journal_adverts_heard, journal_boot_of, is_up, journal_links_known, message_of, near, own_advert, journal_route_from}
+use Rattle.update_machine.specs.Exports.{Advert, Item, Net, Setting, journal_advert_known, machine_advert_to, journal_adverts_heard, journal_boot_of, is_up, journal_links_known, journal_message_of, near, own_advert, journal_route_from}
 use Rattle.steps.specs.Exports.{HasLink, HasSwitch}
 
 -- ---- all adverts of a journal
@@ -12,7 +12,7 @@ use Rattle.steps.specs.Exports.{HasLink, HasSwitch}
 -- true of each advert that was sent, and of each that a switch heard in its boot, has or makes
 pub record AllControlAdverts (setting : Setting) (journal : List Item) (Holds : Advert → Type 0)
     : Type 0 where
-  pub sent : (n s : ℕ) (advert : Advert) → message_of journal n ≡ Some (advert_to s advert) →
+  pub sent : (n s : ℕ) (advert : Advert) → journal_message_of journal n ≡ Some (machine_advert_to s advert) →
       Holds advert
   pub heard : (s : ℕ) → All Holds (journal_adverts_heard journal s)
   pub held : (s origin : ℕ) (advert : Advert) → origin < 64 →
@@ -22,26 +22,26 @@ pub record AllControlAdverts (setting : Setting) (journal : List Item) (Holds : 
 -- ---- links of the network
 
 -- the advert names only switches that the network links to its origin
-abbrev pub AdvertNamesLinks : Net → Advert → Type 0
-AdvertNamesLinks net advert = (k : ℕ) → IsTrue (has advert.up k) → HasLink net advert.origin k
+abbrev pub ControlAdvertNamesLinks : Net → Advert → Type 0
+ControlAdvertNamesLinks net advert = (k : ℕ) → IsTrue (has advert.up k) → HasLink net advert.origin k
 
 -- the route continues from the switch over links of the network
-abbrev pub GoesOverLinks : Net → ℕ → List ℕ → Type 0
-GoesOverLinks net at [] = ⊤
-GoesOverLinks net at (next ∷ route) = HasLink net at next × GoesOverLinks net next route
+abbrev pub ControlRouteFollowsLinks : Net → ℕ → List ℕ → Type 0
+ControlRouteFollowsLinks net at [] = ⊤
+ControlRouteFollowsLinks net at (next ∷ route) = HasLink net at next × ControlRouteFollowsLinks net next route
 
-abbrev pub IsOverLinks : Net → List ℕ → Type 0
-IsOverLinks net [] = ⊤
-IsOverLinks net (first ∷ route) = GoesOverLinks net first route
+abbrev pub IsControlRouteOverLinks : Net → List ℕ → Type 0
+IsControlRouteOverLinks net [] = ⊤
+IsControlRouteOverLinks net (first ∷ route) = ControlRouteFollowsLinks net first route
 
 -- all adverts name only links of the network, so known links are links of it, and routes use these
 pub record AdvertisedLinksAreThere (setting : Setting) (journal : List Item) : Type 0 where
-  pub adverts : AllControlAdverts setting journal (AdvertNamesLinks setting.net)
+  pub adverts : AllControlAdverts setting journal (ControlAdvertNamesLinks setting.net)
   pub usable : (s k : ℕ) → IsTrue (has (near setting journal s) k) → HasLink setting.net s k
   pub known : (s one other : ℕ) (down : List ℕ) → one < 64 → other < 64 →
       AreJoinedByLinks (journal_links_known setting journal s down) one other → HasLink setting.net one other
   pub routes : (s : ℕ) (targets down route : List ℕ) →
-      journal_route_from setting journal s targets down ≡ Some route → IsOverLinks setting.net route
+      journal_route_from setting journal s targets down ≡ Some route → IsControlRouteOverLinks setting.net route
 
 -- ---- own adverts
 
@@ -61,8 +61,8 @@ OwnAdvertsAreNewest setting journal = AllControlAdverts setting journal (IsNoNew
 
 -- the origin of each advert is a switch of the network, whatever sent it; the advert that a switch
 -- of the network has for an origin's number is from that origin
-pub record AdvertsAreOfSwitches (setting : Setting) (journal : List Item) : Type 0 where
-  pub sent : (n s : ℕ) (advert : Advert) → message_of journal n ≡ Some (advert_to s advert) →
+pub record ControlAdvertsAreOfSwitches (setting : Setting) (journal : List Item) : Type 0 where
+  pub sent : (n s : ℕ) (advert : Advert) → journal_message_of journal n ≡ Some (machine_advert_to s advert) →
       HasSwitch setting.net advert.origin
   pub heard : (s : ℕ) →
       All (λ (advert : Advert). HasSwitch setting.net advert.origin) (journal_adverts_heard journal s)

@@ -7,7 +7,7 @@ use Rattle.control_laws.specs.ItemCauses.{HasControlItemCause}
 
 -- it is true after any steps of any kind; so of each answer to a schedule, and of each beginning
 -- of one that ends where a step ends
-pub record HoldsAtEnds (Holds : Setting → List Item → Type 0) : Type 0 where
+pub record ControlLawHoldsAtEnds (Holds : Setting → List Item → Type 0) : Type 0 where
   pub stepped : (setting : Setting) (steps : List StepOfRow) →
       Holds setting (journal_after_steps setting [] steps)
   pub answered : (setting : Setting) (events : List Event) (journal : List Item) →
@@ -17,18 +17,18 @@ pub record HoldsAtEnds (Holds : Setting → List Item → Type 0) : Type 0 where
 
 -- it is true after any first items that steps of any kind wrote, and after all of them; so of each
 -- beginning of an answer to a schedule, which may end within a step
-pub record HoldsBehindItems (Holds : Setting → List Item → Type 0) : Type 0 where
+pub record ControlLawHoldsBehindItems (Holds : Setting → List Item → Type 0) : Type 0 where
   pub items : (setting : Setting) (steps : List StepOfRow) (n : ℕ) →
       Holds setting (take n (journal_after_steps setting [] steps))
-  pub ends : HoldsAtEnds Holds
+  pub ends : ControlLawHoldsAtEnds Holds
   pub begun : (setting : Setting) (events : List Event) (journal : List Item) →
       JournalBeginsAnswer setting events journal → Holds setting journal
 
 -- it is true of each journal whose items have their causes; so after any first items of any steps
-pub record HoldsAlways (Holds : Setting → List Item → Type 0) : Type 0 where
+pub record ControlLawHoldsAlways (Holds : Setting → List Item → Type 0) : Type 0 where
   pub caused : (setting : Setting) (journal : List Item) →
       JournalItemsHaveCauses (HasControlItemCause setting) [] journal → Holds setting journal
-  pub behind : HoldsBehindItems Holds
+  pub behind : ControlLawHoldsBehindItems Holds
 
 -- events of a schedule: they name only switches and links of the network, and files that exist
 abbrev pub AreNetworkEvents : Setting → List Event → Type 0
@@ -36,7 +36,7 @@ AreNetworkEvents setting events = All (IsEvent setting.net (length setting.files
 
 -- it is true after any steps that the network may take, and after any first items that they wrote,
 -- which may end within a step; of each answer to its events, and of each beginning of one
-pub record HoldsReached (Holds : Setting → List Item → Type 0) : Type 0 where
+pub record ControlLawHoldsReached (Holds : Setting → List Item → Type 0) : Type 0 where
   pub reached : (setting : Setting) (journal : List Item) → IsJournalReached setting journal
       → Holds setting journal
   pub within : (setting : Setting) (journal rest : List Item)

@@ -10,7 +10,7 @@ use Rattle.switch_table.specs.Exports.{Hosted, part_of}
 
 -- the partition at this place of the version's plan has this number, its region holds the header,
 -- and the switch is one of its targets
-pub record IsSoughtAt (setting : Setting) (journal : List Item) (s : ℕ) (header : Header)
+pub record IsSoughtAtControlAuthority (setting : Setting) (journal : List Item) (s : ℕ) (header : Header)
     (version partition : ℕ) : Type 0 where
   pub hosted : Hosted
   pub found : slice_get (journal_plan_at setting journal version) partition ≡ Some hosted
@@ -21,5 +21,5 @@ pub record IsSoughtAt (setting : Setting) (journal : List Item) (s : ℕ) (heade
 -- the switch is where the leg leads: at an authority of the partition, or at the port's switch
 abbrev pub LegEndsAt : Setting → List Item → ℕ → Header → Leg → Type 0
 LegEndsAt setting journal s header (Seek version partition) =
-    IsSoughtAt setting journal s header version partition
+    IsSoughtAtControlAuthority setting journal s header version partition
 LegEndsAt setting journal s header (Exit port) = net_port_owner setting.net.switches port ≡ Some s

@@ -1,7 +1,7 @@
 -- What is known of boots, whatever steps are taken, and if messages are lost, repeated or late.
 use Rattle.std.specs.Prelude.{◌≡◌, ◌≤◌, IfSome, IsFalse, IsTrue, List, Some, ℕ}
 use Rattle.ctrl_msg.specs.Exports.{body_boot}
-use Rattle.update_machine.specs.Exports.{Body, Item, Message, OpenAt, Place, journal_boot_of, is_member, is_over, is_up, journal_known_boot, message_of, serves, machine_speaking_in_body, machine_message_to_switch}
+use Rattle.update_machine.specs.Exports.{Body, Item, Message, OpenAt, Place, journal_boot_of, is_member, is_over, is_up, journal_known_boot, journal_message_of, serves, machine_speaking_in_body, machine_message_to_switch}
 use Rattle.ctrl_msg.specs.declared.message.Place.TheVariants as receiver
 
 -- a message to a switch carries at most the boot that the controller knows of it, and one from a
@@ -15,14 +15,14 @@ HasPastBoot journal receiver.Controller body =
 -- the known boot of a switch is at most its own, and no message carries a later boot
 pub record BootsAreKnown (journal : List Item) : Type 0 where
   pub known : (s : ℕ) → journal_known_boot journal s ≤ journal_boot_of journal s
-  pub sent : (n : ℕ) (message : Message) → message_of journal n ≡ Some message →
+  pub sent : (n : ℕ) (message : Message) → journal_message_of journal n ≡ Some message →
       HasPastBoot journal message.to message.body
 
 -- all messages that open a switch in one of its boots carry the same version
 abbrev pub OpeningMessagesNameOneVersion : List Item → Type 0
 OpeningMessagesNameOneVersion journal = (s boot one other m n : ℕ)
-    → message_of journal m ≡ Some (machine_message_to_switch s (OpenAt boot one))
-    → message_of journal n ≡ Some (machine_message_to_switch s (OpenAt boot other)) → one ≡ other
+    → journal_message_of journal m ≡ Some (machine_message_to_switch s (OpenAt boot one))
+    → journal_message_of journal n ≡ Some (machine_message_to_switch s (OpenAt boot other)) → one ≡ other
 
 -- a switch that serves is up and a member, and the controller knows its boot; a switch that is up
 -- and whose boot is known isn't over

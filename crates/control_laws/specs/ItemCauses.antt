@@ -4,7 +4,7 @@
 -- Schlesinger and Walker, "Abstractions for Network Update"; boots and acknowledgements are ours.
 use Rattle.std.specs.Prelude.{◌+◌, ◌-◌, ◌<◌, ◌≡◌, ◌≢◌, ◌≤◌, ◌⊎◌, IsFalse, IsOk, IsTrue, List, None, Ok, Some, ℕ, ⊤}
 use Rattle.base.specs.Exports.{list_any}
-use Rattle.update_machine.specs.Exports.{Advertise, Body, CacheRule, Collect, Hello, Install, Installed, Item, MachineCurrentMayRise, OpenAt, Place, Row, Setting, Stamp, Stamped, Tables, journal_boot_of, journal_current_mark, has_acked, heard, installs_version, is_member, is_over, is_up, journal_known_boot, message_of, most_live_journal_versions, most_journal_versions, journal_next_policy, journal_next_retired, opened_at, journal_retired_mark, journal_stamp_of, journal_tables_at, machine_message_to_switch, touched_by, journal_version_count}
+use Rattle.update_machine.specs.Exports.{Advertise, Body, CacheRule, Collect, Hello, Install, Installed, Item, MachineCurrentMayRise, OpenAt, Place, Row, Setting, Stamp, Stamped, Tables, journal_boot_of, journal_current_mark, has_acked, heard, installs_version, is_member, is_over, is_up, journal_known_boot, journal_message_of, most_live_journal_versions, most_journal_versions, journal_next_policy, journal_next_retired, journal_opened_at, journal_retired_mark, journal_stamp_of, journal_tables_at, machine_message_to_switch, machine_touched_by, journal_version_count}
 use Rattle.ctrl_msg.specs.declared.message.Place.TheVariants as receiver
 use Rattle.ternary.specs.Exports.{WordValue}
 use Rattle.journal.specs.declared.item.Item.TheVariants as item
@@ -28,14 +28,14 @@ pub record IsRightInstallMessage (setting : Setting) (before : List Item) (s boo
 
 -- the switch wasn't opened before in this boot, acknowledged the current version, and opens at it
 pub record IsFirstOpeningMessage (before : List Item) (s version : ℕ) : Type 0 where
-  pub closed : opened_at before s ≡ None
+  pub closed : journal_opened_at before s ≡ None
   pub current : version ≡ journal_current_mark before
   pub acked : IsTrue (has_acked before s version)
 
 -- the message opens the switch first at the current version; if sent again, at the same version
-pub record IsRightOpening (before : List Item) (s boot version : ℕ) : Type 0 where
+pub record IsRightControlOpening (before : List Item) (s boot version : ℕ) : Type 0 where
   pub to : IsControlForKnown before s boot
-  pub opens : IsFirstOpeningMessage before s version ⊎ (opened_at before s ≡ Some version)
+  pub opens : IsFirstOpeningMessage before s version ⊎ (journal_opened_at before s ≡ Some version)
 
 -- a member is told to stamp with the current version, and gets the words that its change touches
 pub record IsRightStamp (setting : Setting) (before : List Item) (s boot version : ℕ)
@@ -43,7 +43,7 @@ pub record IsRightStamp (setting : Setting) (before : List Item) (s boot version
   pub to : IsControlForKnown before s boot
   pub member : IsTrue (is_member before s)
   pub current : version ≡ journal_current_mark before
-  pub says : touched ≡ touched_by setting before version
+  pub says : touched ≡ machine_touched_by setting before version
 
 -- a member is told to drop the versions up to the retired mark
 pub record IsRightCollectMessage (before : List Item) (s boot version : ℕ) : Type 0 where
@@ -52,15 +52,15 @@ pub record IsRightCollectMessage (before : List Item) (s boot version : ℕ) : T
   pub retired : version ≡ journal_retired_mark before
 
 -- what may be sent to a switch; cache rules and adverts carry no boot of it, so they always may be
-abbrev pub IsRightMessageTo : Setting → List Item → ℕ → Body → Type 0
-IsRightMessageTo setting before s (Install boot tables) = IsRightInstallMessage setting before s boot tables
-IsRightMessageTo setting before s (OpenAt boot version) = IsRightOpening before s boot version
-IsRightMessageTo setting before s (Stamp boot version touched) =
+abbrev pub IsRightControlMessageTo : Setting → List Item → ℕ → Body → Type 0
+IsRightControlMessageTo setting before s (Install boot tables) = IsRightInstallMessage setting before s boot tables
+IsRightControlMessageTo setting before s (OpenAt boot version) = IsRightControlOpening before s boot version
+IsRightControlMessageTo setting before s (Stamp boot version touched) =
     IsRightStamp setting before s boot version touched
-IsRightMessageTo setting before s (Collect boot version) = IsRightCollectMessage before s boot version
-IsRightMessageTo setting before s (CacheRule version word rule action) = ⊤
-IsRightMessageTo setting before s (Advertise advert) = ⊤
-IsRightMessageTo setting before s _ = ⊥
+IsRightControlMessageTo setting before s (Collect boot version) = IsRightCollectMessage before s boot version
+IsRightControlMessageTo setting before s (CacheRule version word rule action) = ⊤
+IsRightControlMessageTo setting before s (Advertise advert) = ⊤
+IsRightControlMessageTo setting before s _ = ⊥
 
 -- ---- what a switch sends to the controller
 
@@ -79,15 +79,15 @@ pub record IsRightStampAck (before : List Item) (s boot version : ℕ) : Type 0 
   pub present : IsControlSenderPresent before s boot
   pub stamps : version ≤ journal_stamp_of before s
 
-abbrev pub IsRightMessageFrom : List Item → Body → Type 0
-IsRightMessageFrom before (Hello s boot) = IsControlSenderPresent before s boot
-IsRightMessageFrom before (Installed s boot version) = IsRightInstalledAck before s boot version
-IsRightMessageFrom before (Stamped s boot version) = IsRightStampAck before s boot version
-IsRightMessageFrom before _ = ⊥
+abbrev pub IsRightControlMessageFrom : List Item → Body → Type 0
+IsRightControlMessageFrom before (Hello s boot) = IsControlSenderPresent before s boot
+IsRightControlMessageFrom before (Installed s boot version) = IsRightInstalledAck before s boot version
+IsRightControlMessageFrom before (Stamped s boot version) = IsRightStampAck before s boot version
+IsRightControlMessageFrom before _ = ⊥
 
-abbrev pub IsRightMessage : Setting → List Item → Place → Body → Type 0
-IsRightMessage setting before (receiver.Switch s) body = IsRightMessageTo setting before s body
-IsRightMessage setting before receiver.Controller body = IsRightMessageFrom before body
+abbrev pub IsRightControlMessage : Setting → List Item → Place → Body → Type 0
+IsRightControlMessage setting before (receiver.Switch s) body = IsRightControlMessageTo setting before s body
+IsRightControlMessage setting before receiver.Controller body = IsRightControlMessageFrom before body
 
 -- ---- switches and marks
 
@@ -102,7 +102,7 @@ pub record ControlOpeningHasCause (before : List Item) (s stamp : ℕ) : Type 0 
   pub up : IsTrue (is_up before s)
   pub number : ℕ
   pub version : ℕ
-  pub sent : message_of before number ≡ Some (machine_message_to_switch s (OpenAt (journal_boot_of before s) version))
+  pub sent : journal_message_of before number ≡ Some (machine_message_to_switch s (OpenAt (journal_boot_of before s) version))
   pub stamped : version ≤ journal_stamp_of before s
   pub own : stamp ≡ journal_stamp_of before s
 
@@ -124,7 +124,7 @@ pub record ControlRetirementHasCause (setting : Setting) (before : List Item) (v
 -- each item of switches and their controller has its cause earlier in the journal
 abbrev pub HasControlItemCause : Setting → List Item → Item → Type 0
 HasControlItemCause setting before (item.Sent number message) =
-    IsRightMessage setting before message.to message.body
+    IsRightControlMessage setting before message.to message.body
 HasControlItemCause setting before (item.Down s) = IsTrue (is_up before s)
 HasControlItemCause setting before (item.Booted s boot) = ControlBootHasCause before s boot
 HasControlItemCause setting before (item.Opened s version) = ControlOpeningHasCause before s version

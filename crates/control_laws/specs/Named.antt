@@ -1,7 +1,7 @@
 -- What messages name: the switch that they are to or from, and the version that they are about.
 use Rattle.std.specs.Prelude.{◌≡◌, ◌≤◌, All, IfSome, List, None, Option, Some, ℕ}
 use Rattle.ctrl_msg.specs.Exports.{body_version, to_controller}
-use Rattle.update_machine.specs.Exports.{Body, Item, Message, Place, Setting, controller_heard, heard, message_of, machine_speaking_in_body, machine_message_to_switch, journal_version_count}
+use Rattle.update_machine.specs.Exports.{Body, Item, Message, Place, Setting, journal_controller_heard, heard, journal_message_of, machine_speaking_in_body, machine_message_to_switch, journal_version_count}
 use Rattle.ctrl_msg.specs.declared.message.Place.TheVariants as receiver
 use Rattle.steps.specs.Exports.{HasSwitch}
 
@@ -25,9 +25,9 @@ pub record ControlMessageNamesThere (setting : Setting) (journal : List Item) (m
 
 -- this is true of each message that was sent, and of all that switches and the controller heard
 pub record ControlBodiesNameThere (setting : Setting) (journal : List Item) : Type 0 where
-  pub sent : (n : ℕ) (message : Message) → message_of journal n ≡ Some message
+  pub sent : (n : ℕ) (message : Message) → journal_message_of journal n ≡ Some message
       → ControlMessageNamesThere setting journal message
   pub heard : (s : ℕ) → All (λ body. ControlMessageNamesThere setting journal (machine_message_to_switch s body))
       (heard journal s)
   pub told : All (λ body. ControlMessageNamesThere setting journal (to_controller body))
-      (controller_heard journal)
+      (journal_controller_heard journal)

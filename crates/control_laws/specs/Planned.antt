@@ -1,6 +1,6 @@
 -- Versions and their plans: how many there are, and which of their tables switches have.
 use Rattle.std.specs.Prelude.{[], ◌++◌, ◌-◌, ◌≡◌, ◌≤◌, All, IsTrue, List, Some, ℕ, ⊤}
-use Rattle.update_machine.specs.Exports.{Body, SettingHasPlan, Install, Item, Setting, Tables, heard, holds_version, message_of, most_live_journal_versions, most_journal_versions, journal_retired_mark, journal_tables_at, machine_message_to_switch, journal_version_count}
+use Rattle.update_machine.specs.Exports.{Body, SettingHasPlan, Install, Item, Setting, Tables, heard, holds_version, journal_message_of, most_live_journal_versions, most_journal_versions, journal_retired_mark, journal_tables_at, machine_message_to_switch, journal_version_count}
 
 -- ---- versions
 
@@ -29,9 +29,9 @@ MessageBringsPlannedTables setting journal s (Install boot installed) = AreContr
 MessageBringsPlannedTables setting journal s body = ⊤
 
 -- this is true of all tables that a switch was sent or heard; and each version that it has exists
-pub record TablesArePlanned (setting : Setting) (journal : List Item) : Type 0 where
+pub record ControlTablesArePlanned (setting : Setting) (journal : List Item) : Type 0 where
   pub sent : (s boot n : ℕ) (installed : Tables)
-      → message_of journal n ≡ Some (machine_message_to_switch s (Install boot installed))
+      → journal_message_of journal n ≡ Some (machine_message_to_switch s (Install boot installed))
       → AreControlTablesOf setting journal s installed
   pub heard : (s : ℕ) → All (MessageBringsPlannedTables setting journal s) (heard journal s)
   pub held : (s version : ℕ) → IsTrue (holds_version journal s version)

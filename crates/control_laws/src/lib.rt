@@ -13,13 +13,14 @@ mod advert_laws;
 mod version_laws;
 
 pub use advert_laws::{
-    adverts_are_of_switches, adverts_name_links, numbers_are_few, numbers_fit,
-    own_adverts_are_newest, steps_send_few,
+    adverts_are_of_switches, adverts_name_links, control_numbers_are_few, control_numbers_fit,
+    own_adverts_are_newest, steps_send_few_control_messages,
 };
 pub use version_laws::{
-    acknowledgements_hold, bodies_name_what_is_there, boots_are_known, current_rises_rightly,
-    installs_are_planned, items_have_causes, marks_are_bounded, marks_settle,
-    members_have_acknowledged, other_steps_leave_controller, retired_stays_behind,
-    serving_is_known, serving_switches_hold, stamps_are_acked_first, stamps_say_what_is_touched,
-    switches_open_once, tables_are_planned, versions_are_numbered, versions_are_planned,
+    acknowledgements_hold, boots_are_known, control_bodies_name_what_exists,
+    control_current_rises_rightly, control_items_have_causes, control_knows_serving_switches,
+    control_retired_stays_behind, control_serving_holds_versions, control_stamps_say_touched,
+    control_tables_are_planned, installs_are_planned, marks_are_bounded, marks_settle,
+    members_have_acknowledged, only_control_steps_change_controller, stamps_are_acked_first,
+    switches_open_once, versions_are_numbered, versions_are_planned,
 };

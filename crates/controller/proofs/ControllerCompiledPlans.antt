@@ -9,14 +9,14 @@ use Rattle.net_file.specs.declared.net.Net.{Net}
 use Rattle.cut_tree.specs.Exports.{Shape, leaf_count, tree_of}
 use Rattle.placement.specs.Placement.{RefusesPlacement, placement_of}
 use Rattle.placement.specs.declared.NoRoom.{NoRoom}
-use Rattle.policy_rules.specs.Exports.{RefusesRules, rules_of, rule_word_total}
+use Rattle.policy_rules.specs.Exports.{RefusesPolicyRuleList, rules_of, policy_row_word_total}
 use Rattle.policy_rules.specs.declared.rule_list.TooManyWords.{TooManyWords}
 use Rattle.cut_tree.specs.declared.tree.TooManyLeaves.{TooManyLeaves}
 use Rattle.partition.specs.Parts.{parts_of}
 use Rattle.partition.specs.Plan.{IsPartitionPlan, Hosted, partition_plan_of, rooms_of, sizes_of}
 use Rattle.policy_rules.specs.Hosted as no_plan
 use Rattle.partition.proofs.PartitionCallerLemmas.{no_leaves, no_room, no_words, planned}
-use Rattle.controller.specs.Exports.{IsSoundPlan, PlanLeadsEveryHeader, RefusesPlan, placement_plan_cause, rules_plan_cause, controller_tree_plan_cause}
+use Rattle.controller.specs.Exports.{IsSoundPlan, PlanLeadsEveryHeader, ControllerRefusesPlan, controller_placement_plan_cause, controller_rules_plan_cause, controller_tree_plan_cause}
 use Rattle.policy_rules.specs.declared.policy.Row.{Row}
 use Rattle.policy_rules.specs.declared.rules.Partition.{Partition}
 use Rattle.policy_rules.specs.declared.rules.Rule.{Rule}
@@ -90,23 +90,23 @@ retargeted_leads rows plan targets len is some version switch header sound =
 -- ---- the refusals of the way are those of the plan
 
 pub rules_refused : (rows : List Row) (net : Net) (error : Failure TooManyWords)
-    → IfRefused (RefusesRules rows) error → RefusesPlan rows net (rules_plan_cause error)
+    → IfRefused (RefusesPolicyRuleList rows) error → ControllerRefusesPlan rows net (controller_rules_plan_cause error)
 rules_refused rows net (Refused words) is =
-    let many : 4096 < rule_word_total rows = omega (arith, is.0, is.1) in
+    let many : 4096 < policy_row_word_total rows = omega (arith, is.0, is.1) in
     no_words rows net many ∙ ap (λ n. Err (no_plan.TooManyWords n)) (sym is.0)
 rules_refused rows net NoMemory is = tt
 
 pub tree_refused : (rows : List Row) (net : Net) (list : List Rule) (error : Failure TooManyLeaves)
-    → rule_word_total rows ≤ 4096 → list ≡ rules_of rows
+    → policy_row_word_total rows ≤ 4096 → list ≡ rules_of rows
     → IfRefused (λ _. 512 < leaf_count (tree_of list net.leaf_rules)) error
-    → RefusesPlan rows net (controller_tree_plan_cause error)
+    → ControllerRefusesPlan rows net (controller_tree_plan_cause error)
 tree_refused rows net list (Refused many) few is refused = no_leaves rows net few (rw is at refused)
 tree_refused rows net list NoMemory few is refused = tt
 
 -- what the way has found before it places the partitions
 pub record IsReady (rows : List Row) (net : Net) (list : List Rule) (shape : Shape)
     (sizes rooms : List ℕ) : Type 0 where
-  pub few : rule_word_total rows ≤ 4096
+  pub few : policy_row_word_total rows ≤ 4096
   pub rules : list ≡ rules_of rows
   pub tree : shape ≡ tree_of list net.leaf_rules
   pub leaves : leaf_count shape ≤ 512
@@ -120,7 +120,7 @@ ready_tree rows net list shape sizes rooms is = cc (is.tree, is.rules)
 pub placement_refused : (rows : List Row) (net : Net) (list : List Rule) (shape : Shape)
     (sizes rooms : List ℕ) (error : Failure NoRoom) → IsReady rows net list shape sizes rooms
     → IfRefused (RefusesPlacement sizes rooms net.backups) error
-    → RefusesPlan rows net (placement_plan_cause error)
+    → ControllerRefusesPlan rows net (controller_placement_plan_cause error)
 placement_refused rows net list shape sizes rooms (Refused lack) is refused =
     no_room rows net shape lack.partition is.few (ready_tree rows net list shape sizes rooms is)
     is.leaves (sym (ap (λ s. placement_of s (rooms_of net) net.backups) is.sizes_are)

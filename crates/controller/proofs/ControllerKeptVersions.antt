@@ -1,7 +1,7 @@
 -- The versions of the plans that are kept, as the marks settle.
 use Rattle.std.proofs.Common.{[], ◌++◌, ◌+◌, ◌-◌, ◌<◌, ◌∙◌, ◌∷◌, ◌≡◌, ◌≤◌, All, Bool, List, ap, arith, cond, false, filter, get_or, leb, length, map, refl, subst, suc, sym, true, zero, ℕ}
 use Rattle.base.proofs.Exports.{All-append, All-filter, get_or-map, get_or-range_with_len, length-map, length-range_with_len, map-append, nat_tests, range_more, range_with_len}
-use Rattle.version_update.specs.Exports.{MarksValue, Settles, UpdateMarksStaySettled, at_switch, with_version}
+use Rattle.version_update.specs.Exports.{MarksValue, Settles, VersionMarksStaySettled, at_switch, with_version}
 use Rattle.version_update.specs.declared.marks.Settled.{Settled}
 use Rattle.version_update.specs.declared.record.SwitchRecord.{SwitchRecord}
 use Rattle.controller.specs.Exports.{ControllerValue, IsSoundController, IsSoundPlan, KeptPlan, ControllerSettlesWith, ControllerStaysSound, controller_live_versions, kept_plans_from}
@@ -103,7 +103,7 @@ abbrev pub IsWhole : MarksValue → List KeptPlan → Type 0
 IsWhole marks plans = IsSoundController (record { marks = marks; plans = plans })
 
 pub whole : (old before marks : MarksValue) (answer : Settled) (kept plans : List KeptPlan)
-    → UpdateMarksStaySettled old marks → Settles before marks answer
+    → VersionMarksStaySettled old marks → Settles before marks answer
     → before.current ≤ before.count → map (λ kept. kept.version) kept ≡ controller_live_versions before
     → AreSoundPlans kept → plans ≡ kept_plans_from marks.current kept → IsWhole marks plans
 whole old before marks answer kept plans stays is low versions sound picked =
@@ -126,7 +126,7 @@ settles_seen s change old marks kept answer value seen settled =
 module _ (s : ℕ) (change : SwitchRecord → SwitchRecord) (old : MarksValue) (kept : List KeptPlan)
     (marks : MarksValue) (answer : Settled) (plans : List KeptPlan) where
   -- one switch's record changed
-  pub whole_at : IsWhole old kept → UpdateMarksStaySettled old marks
+  pub whole_at : IsWhole old kept → VersionMarksStaySettled old marks
       → Settles (at_switch s change old) marks answer → plans ≡ kept_plans_from marks.current kept
       → IsWhole marks plans
   whole_at is stays settled picked = whole old (at_switch s change old) marks answer kept
@@ -142,7 +142,7 @@ module _ (s : ℕ) (change : SwitchRecord → SwitchRecord) (old : MarksValue) (
       subst P seen (record { marks = (answer, settled); plans = picked })
 
   pub stays_at : (value : ControllerValue) → record { marks = old; plans = kept } ≡ value
-      → IsWhole old kept → UpdateMarksStaySettled old marks → Settles (at_switch s change old) marks
+      → IsWhole old kept → VersionMarksStaySettled old marks → Settles (at_switch s change old) marks
       answer → plans ≡ kept_plans_from marks.current kept
       → ControllerStaysSound value (record { marks = marks; plans = plans })
   stays_at value seen is stays settled picked =
@@ -164,7 +164,7 @@ module _ (old : MarksValue) (kept : List KeptPlan) (next : KeptPlan) (marks : Ma
   with_next pushed picked = picked ∙ ap (kept_plans_from marks.current) pushed
 
   -- one more version
-  pub whole_more : IsSoundPlan next.plan → next.version ≡ old.count + 1 → IsWhole old kept → UpdateMarksStaySettled old marks
+  pub whole_more : IsSoundPlan next.plan → next.version ≡ old.count + 1 → IsWhole old kept → VersionMarksStaySettled old marks
       → Settles (with_version old) marks answer → IsPushed → plans ≡ kept_plans_from marks.current mid
       → IsWhole marks plans
   whole_more sound number is stays settled pushed picked = whole old (with_version old) marks answer
@@ -174,7 +174,7 @@ module _ (old : MarksValue) (kept : List KeptPlan) (next : KeptPlan) (marks : Ma
       (with_next pushed picked)
 
   pub stays_more : IsSoundPlan next.plan → next.version ≡ old.count + 1 → (value : ControllerValue)
-      → record { marks = old; plans = kept } ≡ value → IsWhole old kept → UpdateMarksStaySettled old marks
+      → record { marks = old; plans = kept } ≡ value → IsWhole old kept → VersionMarksStaySettled old marks
       → Settles (with_version old) marks answer → IsPushed → plans ≡ kept_plans_from marks.current mid
       → ControllerStaysSound value (record { marks = marks; plans = plans })
   stays_more sound number value seen is stays settled pushed picked =

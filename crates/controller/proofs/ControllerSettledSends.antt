@@ -6,7 +6,7 @@ use Rattle.ctrl_msg.specs.declared.message.Body.TheVariants.{OpenAt}
 use Rattle.version_update.specs.declared.record.SwitchRecord.{SwitchRecord}
 use Rattle.version_update.specs.declared.marks.Settled.{Settled}
 use Rattle.version_update.specs.Exports.{MarksValue, Names, Settles, is_member, update_joining_opens_at, mark_rises_to}
-use Rattle.controller.specs.Exports.{controller_collect_acts, controller_open_acts, controller_posts_to, controller_mark_rising_acts, controller_settling_acts, stamp_acts, controller_switches_in_mask, controller_switches_by_record}
+use Rattle.controller.specs.Exports.{controller_collect_acts, controller_open_acts, controller_posts_to, controller_mark_rising_acts, controller_settling_acts, controller_stamp_acts, controller_switches_in_mask, controller_switches_by_record}
 use Rattle.controller.specs.declared.sends.Act.{Act}
 use Rattle.controller.proofs.ControllerPickedSwitches.{those_named}
 use Rattle.ternary.specs.Exports.{WordValue}
@@ -83,10 +83,10 @@ told_current before after number told = sym (rose before.current after.current n
 -- the three parts, one after another
 pub settling_told : (touched : List WordValue) (before after : MarksValue)
     (old one two three : List Act)
-    → one ≡ old ++ stamp_acts touched before after → two ≡ one ++ controller_open_acts before after
+    → one ≡ old ++ controller_stamp_acts touched before after → two ≡ one ++ controller_open_acts before after
     → three ≡ two ++ controller_collect_acts before after → three ≡ old ++ controller_settling_acts touched before after
 settling_told touched before after old one two three a b c =
-    let first = stamp_acts touched before after in
+    let first = controller_stamp_acts touched before after in
     let second = controller_open_acts before after in
     let third = controller_collect_acts before after in
     c ∙ ap (λ l. l ++ third) (b ∙ ap (λ l. l ++ second) a ∙ append_assoc old first second)

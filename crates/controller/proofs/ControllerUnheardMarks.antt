@@ -4,7 +4,7 @@ use Rattle.base.proofs.Exports.{nat_tests, option_map_or, range_with_len, slice_
 use Rattle.ctrl_msg.specs.declared.message.Body.{Body}
 use Rattle.ctrl_msg.specs.declared.message.Body.TheVariants.{Hello, Installed, Stamped}
 use Rattle.version_update.specs.declared.record.SwitchRecord.{SwitchRecord}
-use Rattle.version_update.specs.Exports.{AreUpdateMarksSettled, MarksValue, is_member, update_joining_opens_at, unknown_switch_record}
+use Rattle.version_update.specs.Exports.{AreVersionMarksSettled, MarksValue, is_member, update_joining_opens_at, unknown_switch_record}
 use Rattle.controller.specs.Exports.{ControllerValue, KeptPlan, controller_collect_acts, current_plan_touched, controller_hear_acts, controller_marks_after, controller_open_acts, kept_plans_from, controller_posts_to, controller_settling_acts, controller_switches_by_record}
 use Rattle.controller.specs.declared.sends.Act.TheVariants.{Current, Retired}
 use Rattle.ctrl_msg.specs.declared.message.Body.TheVariants as body
@@ -34,7 +34,7 @@ those_none passes switches fail = picked_same _ (λ _. false) fails
           ap (λ o. option_map_or passes o false) (slice_get_past switches s past)
 
 -- nothing is sent
-pub nothing_sent : (touched : List WordValue) (marks : MarksValue) → AreUpdateMarksSettled marks
+pub nothing_sent : (touched : List WordValue) (marks : MarksValue) → AreVersionMarksSettled marks
     → controller_settling_acts touched marks marks ≡ []
 nothing_sent touched marks is =
     let one = ap (λ b. cond b (Current marks.current ∷ controller_posts_to marks (λ boot. body.Stamp boot

@@ -7,14 +7,14 @@ use Rattle.policy_rules.specs.declared.rule_list.TooManyWords.{TooManyWords as N
 use Rattle.controller.specs.declared.plan_error.PlanError.{PlanError}
 use Rattle.controller.specs.declared.plan_error.PlanError.TheVariants.{TooManyWords, TooManyLeaves, NoRoom, NoMemory}
 
-abbrev pub rules_plan_cause : Failure NoRules → PlanError
-rules_plan_cause (failure.Refused many) = TooManyWords many.words
-rules_plan_cause failure.NoMemory = NoMemory
+abbrev pub controller_rules_plan_cause : Failure NoRules → PlanError
+controller_rules_plan_cause (failure.Refused many) = TooManyWords many.words
+controller_rules_plan_cause failure.NoMemory = NoMemory
 
 abbrev pub controller_tree_plan_cause : Failure NoTree → PlanError
 controller_tree_plan_cause (failure.Refused many) = TooManyLeaves
 controller_tree_plan_cause failure.NoMemory = NoMemory
 
-abbrev pub placement_plan_cause : Failure NoPlacement → PlanError
-placement_plan_cause (failure.Refused lack) = NoRoom lack.partition
-placement_plan_cause failure.NoMemory = NoMemory
+abbrev pub controller_placement_plan_cause : Failure NoPlacement → PlanError
+controller_placement_plan_cause (failure.Refused lack) = NoRoom lack.partition
+controller_placement_plan_cause failure.NoMemory = NoMemory

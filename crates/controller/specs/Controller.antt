@@ -4,7 +4,7 @@ use Rattle.base.specs.Exports.{option_map_or, range_with_len}
 use Rattle.policy_rules.specs.declared.policy.Row.{Row}
 use Rattle.switch_table.specs.Exports.{cache_all_touched, tables_of}
 use Rattle.switch_table.specs.declared.tables.Tables.{Tables}
-use Rattle.version_update.specs.Exports.{AreUpdateMarksSettled, MarksValue, Settles, first_marks}
+use Rattle.version_update.specs.Exports.{AreVersionMarksSettled, MarksValue, Settles, first_marks}
 use Rattle.version_update.specs.declared.marks.Settled.{Settled}
 use Rattle.controller.specs.Plan.{PlanValue, IsSoundPlan}
 use Rattle.ternary.specs.Exports.{WordValue}
@@ -44,14 +44,14 @@ current_plan controller =
     (find (λ (kept : KeptPlan). kept.version == controller.marks.current) controller.plans)
 
 -- what the change of a version touches; everything, if its plan isn't kept
-abbrev pub kept_plan_touched : List KeptPlan → ℕ → List WordValue
-kept_plan_touched plans version =
+abbrev pub controller_kept_plan_touched : List KeptPlan → ℕ → List WordValue
+controller_kept_plan_touched plans version =
     option_map_or (λ (kept : KeptPlan). kept.touched)
     (find (λ (kept : KeptPlan). kept.version == version) plans) cache_all_touched
 
 -- what the change of the current version touches; its plan is always kept
 abbrev pub current_plan_touched : ControllerValue → List WordValue
-current_plan_touched controller = kept_plan_touched controller.plans controller.marks.current
+current_plan_touched controller = controller_kept_plan_touched controller.plans controller.marks.current
 
 -- at the start every switch has version 1
 abbrev pub controller_at_start : ℕ → PlanValue → ControllerValue
@@ -67,7 +67,7 @@ controller_live_versions marks = range_with_len marks.current (marks.count + 1 -
 -- the plans are those of the versions from the current one to the last: no later call names an
 -- earlier one
 pub record IsSoundController (controller : ControllerValue) : Type 0 where
-  pub marks : AreUpdateMarksSettled controller.marks
+  pub marks : AreVersionMarksSettled controller.marks
   pub sound : All (λ kept. IsSoundPlan kept.plan) controller.plans
   pub versions : (map (λ kept. kept.version) controller.plans ≡ controller_live_versions controller.marks)
 
@@ -77,8 +77,8 @@ pub record ControllerStaysSound (old new : ControllerValue) : Type 0 where
   pub switches : length new.marks.switches ≡ length old.marks.switches
 
 -- the marks settle, whichever switches are sent to
-abbrev pub ControllerHasSettled : MarksValue → MarksValue → Type 0
-ControllerHasSettled before after = (answer : Settled) × Settles before after answer
+abbrev pub ControllerSettlesMarks : MarksValue → MarksValue → Type 0
+ControllerSettlesMarks before after = (answer : Settled) × Settles before after answer
 
 -- the plans from this version on
 abbrev pub kept_plans_from : ℕ → List KeptPlan → List KeptPlan
@@ -88,5 +88,5 @@ kept_plans_from version plans = filter (λ kept. nat_le version kept.version) pl
 -- current one are dropped
 pub record ControllerSettlesWith (before : MarksValue) (kept : List KeptPlan)
     (new : ControllerValue) : Type 0 where
-  pub marks : ControllerHasSettled before new.marks
+  pub marks : ControllerSettlesMarks before new.marks
   pub plans : new.plans ≡ kept_plans_from new.marks.current kept

@@ -22,8 +22,8 @@ pub record IsSoundPlan (plan : PlanValue) : Type 0 where
   pub few_rules : All (λ hosted. length hosted.0.rules < 2 ^ 32) plan.hosted
 
 -- why a policy has no plan on a network, or memory ran out
-abbrev pub RefusesPlan : List Row → Net → PlanError → Type 0
-RefusesPlan rows net (TooManyWords words) = partition_plan_of rows net ≡ Err (no_plan.TooManyWords words)
-RefusesPlan rows net TooManyLeaves = partition_plan_of rows net ≡ Err no_plan.TooManyLeaves
-RefusesPlan rows net (NoRoom partition) = partition_plan_of rows net ≡ Err (no_plan.NoRoom partition)
-RefusesPlan rows net NoMemory = ⊤
+abbrev pub ControllerRefusesPlan : List Row → Net → PlanError → Type 0
+ControllerRefusesPlan rows net (TooManyWords words) = partition_plan_of rows net ≡ Err (no_plan.TooManyWords words)
+ControllerRefusesPlan rows net TooManyLeaves = partition_plan_of rows net ≡ Err no_plan.TooManyLeaves
+ControllerRefusesPlan rows net (NoRoom partition) = partition_plan_of rows net ≡ Err (no_plan.NoRoom partition)
+ControllerRefusesPlan rows net NoMemory = ⊤

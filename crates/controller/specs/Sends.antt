@@ -7,7 +7,7 @@ use Rattle.ctrl_msg.specs.declared.message.Body.{Body}
 use Rattle.ctrl_msg.specs.declared.message.Body.TheVariants.{Install, OpenAt, Stamp, Collect, Hello, Installed, Stamped}
 use Rattle.ctrl_msg.specs.declared.message.Place.TheVariants.{Switch}
 use Rattle.switch_table.specs.Exports.{tables_of}
-use Rattle.version_update.specs.Exports.{MarksValue, mark_after_installed, update_after_stamped, at_switch, has_acked, update_hello_recorded, is_member, is_over, update_joining_opens_at, record_of, update_takes_hello, with_version}
+use Rattle.version_update.specs.Exports.{MarksValue, mark_record_after_installed, update_after_stamped, at_switch, has_acked, update_hello_recorded, is_member, is_over, update_joining_opens_at, record_of, update_takes_hello, with_version}
 use Rattle.version_update.specs.declared.record.Phase.{Phase}
 use Rattle.version_update.specs.declared.record.Phase.TheVariants.{Joining, Member, Over}
 use Rattle.version_update.specs.declared.record.SwitchRecord.{SwitchRecord}
@@ -19,12 +19,12 @@ use Rattle.ternary.specs.Exports.{WordValue}
 -- ---- messages
 
 -- a message to a switch
-abbrev pub post_act : ℕ → Body → Act
-post_act s body = Post (record { to = Switch s; body = body })
+abbrev pub controller_post_act : ℕ → Body → Act
+controller_post_act s body = Post (record { to = Switch s; body = body })
 
 -- the tables that the version's plan gives the switch
 abbrev pub controller_install_act : ℕ → ℕ → KeptPlan → Act
-controller_install_act s boot kept = post_act s (Install boot (tables_of kept.plan.hosted kept.version s))
+controller_install_act s boot kept = controller_post_act s (Install boot (tables_of kept.plan.hosted kept.version s))
 
 -- the known boot of a switch
 abbrev pub controller_recorded_boot : MarksValue → ℕ → ℕ
@@ -38,7 +38,7 @@ controller_switches_by_record passes switches =
 
 -- to each of these switches the message for its known boot
 abbrev pub controller_posts_to : MarksValue → (ℕ → Body) → List ℕ → List Act
-controller_posts_to marks body switches = map (λ s. post_act s (body (controller_recorded_boot marks s))) switches
+controller_posts_to marks body switches = map (λ s. controller_post_act s (body (controller_recorded_boot marks s))) switches
 
 -- ---- settling
 
@@ -51,8 +51,8 @@ controller_mark_rising_acts old new says body marks switches = if nat_lt old new
 
 -- a new current version, and its stamps to the members from before, with what its change touches:
 -- they have its tables, and those that join open at it
-abbrev pub stamp_acts : List WordValue → MarksValue → MarksValue → List Act
-stamp_acts touched before after =
+abbrev pub controller_stamp_acts : List WordValue → MarksValue → MarksValue → List Act
+controller_stamp_acts touched before after =
     controller_mark_rising_acts before.current after.current Current (λ boot version. Stamp boot version touched)
     after before.switches
 
@@ -67,16 +67,16 @@ abbrev pub controller_collect_acts : MarksValue → MarksValue → List Act
 controller_collect_acts before after =
     controller_mark_rising_acts before.retired after.retired Retired Collect after after.switches
 
--- what is sent when marks settle, if the change of the current version touches this
+-- what is sent when marks settle, if the change of the current version touches these words
 abbrev pub controller_settling_acts : List WordValue → MarksValue → MarksValue → List Act
-controller_settling_acts touched before after = stamp_acts touched before after ++ controller_open_acts before after
+controller_settling_acts touched before after = controller_stamp_acts touched before after ++ controller_open_acts before after
     ++ controller_collect_acts before after
 
 -- ---- the calls
 
 -- the new version to each switch that isn't over; then settling
-abbrev pub submit_acts : MarksValue → KeptPlan → ControllerValue → List Act
-submit_acts old next new =
+abbrev pub controller_submit_acts : MarksValue → KeptPlan → ControllerValue → List Act
+controller_submit_acts old next new =
     map (λ s. controller_install_act s (controller_recorded_boot old s) next)
     (controller_switches_by_record (λ known. not (is_over known.phase)) old.switches)
     ++ controller_settling_acts (current_plan_touched new) (with_version old) new.marks
@@ -85,12 +85,13 @@ submit_acts old next new =
 abbrev pub controller_marks_after : Body → MarksValue → MarksValue
 controller_marks_after (Hello switch boot) marks = at_switch switch (update_hello_recorded boot) marks
 controller_marks_after (Installed switch boot version) marks =
-    at_switch switch (mark_after_installed boot version) marks
+    at_switch switch (mark_record_after_installed boot version) marks
 controller_marks_after (Stamped switch boot version) marks =
     at_switch switch (update_after_stamped boot version) marks
 controller_marks_after _ marks = marks
 
--- to a new boot, which has no tables, the versions from the current one to the last
+-- to a switch in a new boot, which has no tables: those of the versions from the current one to the
+-- last
 abbrev pub controller_installs_after : Body → MarksValue → ControllerValue → List Act
 controller_installs_after (Hello switch boot) old new = if update_takes_hello boot (record_of old switch)
     then map (controller_install_act switch boot) (kept_plans_from new.marks.current new.plans) else []
@@ -130,18 +131,18 @@ controller_missing_installs controller s first =
 -- to a member the current stamp with what its change touches, if it acknowledged a lower one
 abbrev pub controller_stamp_again : List WordValue → MarksValue → ℕ → List Act
 controller_stamp_again touched marks s = if nat_lt (record_of marks s).acked_stamp marks.current
-    then post_act s (Stamp (controller_recorded_boot marks s) marks.current touched) ∷ [] else []
+    then controller_post_act s (Stamp (controller_recorded_boot marks s) marks.current touched) ∷ [] else []
 
 -- to a member the message to drop the tables of the retired versions, if there are any
 abbrev pub controller_resend_collects : MarksValue → ℕ → List Act
 controller_resend_collects marks s = if nat_lt 0 marks.retired
-    then post_act s (Collect (controller_recorded_boot marks s) marks.retired) ∷ [] else []
+    then controller_post_act s (Collect (controller_recorded_boot marks s) marks.retired) ∷ [] else []
 
 -- what a switch in this phase may lack
 abbrev pub resend_acts_to : Phase → ControllerValue → ℕ → List Act
 resend_acts_to Joining controller s = controller_missing_installs controller s controller.marks.current
 resend_acts_to Member controller s =
-    post_act s (OpenAt (controller_recorded_boot controller.marks s)
+    controller_post_act s (OpenAt (controller_recorded_boot controller.marks s)
     (record_of controller.marks s).open_version)
     ∷ controller_missing_installs controller s (controller.marks.current + 1)
     ++ controller_stamp_again (current_plan_touched controller) controller.marks s

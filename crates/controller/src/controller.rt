@@ -3,19 +3,21 @@ ghost use Rattle.net_file.specs.Net.{IsNet};
 ghost use Rattle.ctrl_msg.specs.Kinds.{is_for_controller};
 ghost use Rattle.ctrl_msg.specs.declared.message.Body.TheVariants.{Hello};
 ghost use Rattle.switch_table.specs.Tables.{AreSoundSwitchTables};
-ghost use Rattle.version_update.specs.Marks.{UpdateMarksStaySettled, at_switch, record_of, with_version, MarksValue};
-ghost use Rattle.version_update.specs.Record.{is_member, is_over, after_over};
+ghost use Rattle.version_update.specs.Marks.{VersionMarksStaySettled, at_switch, record_of, with_version, MarksValue};
+ghost use Rattle.version_update.specs.Record.{is_member, is_over, mark_record_after_over};
 ghost use Rattle.version_update.specs.Settling.{Settles};
 ghost use Rattle.version_update.specs.declared.marks.SubmitError.TheVariants.{TooManyLive, TooManyVersions};
 ghost use Rattle.version_update.specs.declared.record.Phase.TheVariants.{Joining, Member};
-ghost use Rattle.controller.specs.Exports.{IsSoundController, IsControllerLeftByRefusal, NamesWithinControllerMarks, ControllerReplyNamesExist, ControllerSettlesWith, ControllerStaysSound, ControllerSubmitsPlan, controller_record_after_reply, controller_recorded_boot, current_plan, current_plan_touched, controller_at_start, controller_hear_acts, controller_install_act, kept_plan_tables, kept_plan_touched, controller_marks_after, controller_newest_policy, next_kept_plan, kept_plans_from, resend_acts, resend_acts_to, controller_settling_acts, submit_acts, controller_switches_by_record};
+ghost use Rattle.controller.specs.Exports.{IsSoundController, IsControllerLeftByRefusal, NamesWithinControllerMarks, ControllerReplyNamesExist, ControllerSettlesWith, ControllerStaysSound, ControllerSubmitsPlan, controller_record_after_reply, controller_recorded_boot, current_plan, current_plan_touched, controller_at_start, controller_hear_acts, controller_install_act, kept_plan_tables, controller_kept_plan_touched, controller_marks_after, controller_newest_policy, next_kept_plan, kept_plans_from, resend_acts, resend_acts_to, controller_settling_acts, controller_submit_acts, controller_switches_by_record};
 ghost use Rattle.base.specs.declared.error.Failure.TheVariants.{Refused, NoMemory};
 
 use crate::plan::Plan;
-use crate::replying::Reply;
-use crate::resending::{controller_resend_collects, controller_stamp_again, install_missing};
+use crate::replying::ControllerReply;
+use crate::resending::{
+    add_missing_controller_installs, controller_resend_collects, controller_stamp_again,
+};
 use crate::sends::{Act, Sends};
-use crate::settling::{settle, settled_sends};
+use crate::settling::{controller_settled_sends, settle_controller_versions};
 use crate::version::Version;
 use base::Failure;
 use ctrl_msg::{Body, SharedTables};
@@ -23,7 +25,7 @@ use net_file::Net;
 use std::alloc::{AllocError, Global};
 use std::marker::Model;
 use switch_table::{Touched, tables_laws};
-use version_update::{Marks, Phase, Settled, SubmitError, settling_laws};
+use version_update::{Marks, Phase, Settled, SubmitError, version_mark_settling_laws};
 
 /// The controller of a network: what it knows of the switches, and the plan of each version that a
 /// later call can name. Version v is the v-th plan that was submitted, the first by `begin`.
@@ -122,7 +124,7 @@ impl Controller {
             (ControllerSubmitsPlan self.old (next_kept_plan self.old plan touched) self.new) }
         ensures newest { OnOk result (controller_newest_policy self.new ≡ Some plan.policy) }
         ensures sends { IfOk result (λ sends.
-            sends ≡ submit_acts self.old.marks (next_kept_plan self.old plan touched) self.new) }
+            sends ≡ controller_submit_acts self.old.marks (next_kept_plan self.old plan touched) self.new) }
         ensures live { (result ≡ Err (Refused TooManyLive))
             ↔ (self.old.marks.count - self.old.marks.retired ≡ 8) }
         ensures versions { (result ≡ Err (Refused TooManyVersions))
@@ -163,12 +165,12 @@ impl Controller {
                 switch,
                 boot,
                 version,
-            } => self.replied(alloc, Reply::Installed, *switch, *boot, *version),
+            } => self.replied(alloc, ControllerReply::Installed, *switch, *boot, *version),
             Body::Stamped {
                 switch,
                 boot,
                 version,
-            } => self.replied(alloc, Reply::Stamped, *switch, *boot, *version),
+            } => self.replied(alloc, ControllerReply::Stamped, *switch, *boot, *version),
             _ => Ok(self.unheard(alloc)),
         }
     }
@@ -180,16 +182,16 @@ impl Controller {
     pub fn over(&mut self, s: u32) -> Result<Sends, AllocError>
         requires { s < length self.old.marks.switches }
         ensures after { ControllerSettlesWith
-            (at_switch s after_over self.old.marks) self.old.plans self.new }
+            (at_switch s mark_record_after_over self.old.marks) self.old.plans self.new }
         ensures newest { controller_newest_policy self.new ≡ controller_newest_policy self.old }
         ensures sends { IfOk result (λ sends.
             sends ≡ controller_settling_acts (current_plan_touched self.new)
-            (at_switch s after_over self.old.marks) self.new.marks) }
+            (at_switch s mark_record_after_over self.old.marks) self.new.marks) }
         ensures rule { ControllerStaysSound self.old self.new }
     {
         let alloc = *self.versions.allocator();
         let settled = self.marks.over(s);
-        settled_sends(alloc, &mut self.versions, &self.marks, &settled)
+        controller_settled_sends(alloc, &mut self.versions, &self.marks, &settled)
     }
 
     /// What the switch may lack, to be sent again: nothing that it acknowledged.
@@ -214,7 +216,7 @@ impl Controller {
     {
         let mut acts = Vec::new(alloc);
         let current = self.marks.current();
-        install_missing(&mut acts, alloc, &self.marks, &self.versions, s, current)?;
+        add_missing_controller_installs(&mut acts, alloc, &self.marks, &self.versions, s, current)?;
         Ok(Sends::from_items(acts))
     }
 
@@ -228,7 +230,7 @@ impl Controller {
         let boot = self.marks.boot(s);
         let version = self.marks.open_version(s);
         acts.push(Act::post(s, Body::OpenAt { boot, version }))?;
-        install_missing(&mut acts, alloc, &self.marks, &self.versions, s, next)?;
+        add_missing_controller_installs(&mut acts, alloc, &self.marks, &self.versions, s, next)?;
         controller_stamp_again(&mut acts, &self.marks, &self.versions, s)?;
         controller_resend_collects(&mut acts, &self.marks, s)?;
         Ok(Sends::from_items(acts))
@@ -242,7 +244,7 @@ impl Controller {
             (ControllerSubmitsPlan self.old (next_kept_plan self.old plan touched) self.new) }
         ensures newest { OnOk result (controller_newest_policy self.new ≡ Some plan.policy) }
         ensures sends { IfOk result (λ sends.
-            sends ≡ submit_acts self.old.marks (next_kept_plan self.old plan touched) self.new) }
+            sends ≡ controller_submit_acts self.old.marks (next_kept_plan self.old plan touched) self.new) }
         ensures left { OnErr result
             (IsControllerLeftByRefusal self.old (next_kept_plan self.old plan touched) self.new NoMemory) }
         ensures rule { ControllerStaysSound self.old self.new }
@@ -254,7 +256,7 @@ impl Controller {
         let mut acts = install_at_each(alloc, &self.marks, &version)?;
         self.versions.push(version)?;
         let settled = add_version(&mut self.marks);
-        settle(&mut acts, &mut self.versions, &self.marks, &settled)?;
+        settle_controller_versions(&mut acts, &mut self.versions, &self.marks, &settled)?;
         Ok(Sends::from_items(acts))
     }
 
@@ -267,7 +269,7 @@ impl Controller {
     {
         // For the proof: reading the marks yields their invariant.
         let _ = &self.marks;
-        settling_laws();
+        version_mark_settling_laws();
         Sends::from_items(Vec::new(alloc))
     }
 
@@ -280,14 +282,14 @@ impl Controller {
         ensures rule { ControllerStaysSound self.old self.new }
     {
         let settled = self.marks.hello(s, boot);
-        hello_sends(alloc, &mut self.versions, &self.marks, &settled, s, boot)
+        controller_hello_sends(alloc, &mut self.versions, &self.marks, &settled, s, boot)
     }
 
     // A switch replied that it has the tables of a version, or stamps packets with it.
     fn replied(
         &mut self,
         alloc: Global,
-        reply: Reply,
+        reply: ControllerReply,
         s: u32,
         boot: u32,
         version: u32,
@@ -301,7 +303,7 @@ impl Controller {
         ensures rule { ControllerStaysSound self.old self.new }
     {
         let settled = reply.take_in(&mut self.marks, s, boot, version);
-        settled_sends(alloc, &mut self.versions, &self.marks, &settled)
+        controller_settled_sends(alloc, &mut self.versions, &self.marks, &settled)
     }
 }
 
@@ -310,7 +312,7 @@ fn add_version(marks: &mut Marks) -> Settled
     requires live { marks.old.count - marks.old.retired ≢ 8 }
     requires versions { marks.old.count ≢ 64 }
     ensures settled { Settles (with_version marks.old) marks.new result }
-    ensures rule { UpdateMarksStaySettled marks.old marks.new }
+    ensures rule { VersionMarksStaySettled marks.old marks.new }
 {
     match marks.submit() {
         Ok(settled) => settled,
@@ -327,7 +329,7 @@ fn install_at_each(alloc: Global, marks: &Marks, version: &Version) -> Result<Ve
 {
     let mut acts = Vec::new(alloc);
     for s in 0..marks.switches() {
-        if is_there(marks.phase(s)) {
+        if is_controller_switch_there(marks.phase(s)) {
             acts.push(version.install(alloc, s, marks.boot(s))?)?;
         }
     }
@@ -335,14 +337,14 @@ fn install_at_each(alloc: Global, marks: &Marks, version: &Version) -> Result<Ve
 }
 
 // Whether a switch in this phase isn't over.
-fn is_there(phase: Phase) -> bool
+fn is_controller_switch_there(phase: Phase) -> bool
     ensures { result ≡ not (is_over phase) }
 {
     phase != Phase::Over
 }
 
 // What is sent when a hello settled the marks; to a switch in a new boot all versions, too.
-fn hello_sends(
+fn controller_hello_sends(
     alloc: Global,
     versions: &mut Vec<Version>,
     marks: &Marks,
@@ -352,20 +354,20 @@ fn hello_sends(
 ) -> Result<Sends, AllocError>
     ensures sends { (before : MarksValue) → Settles before marks.now settled.now
         → IfOk result (λ sends. sends
-        ≡ controller_settling_acts (kept_plan_touched versions.new.items marks.now.current) before marks.now
+        ≡ controller_settling_acts (controller_kept_plan_touched versions.new.items marks.now.current) before marks.now
         ++ (if settled.now.taken then map (controller_install_act s boot) versions.new.items else [])) }
     ensures versions { versions.new.items ≡ kept_plans_from marks.now.current versions.old.items }
 {
     let mut acts = Vec::new(alloc);
-    settle(&mut acts, versions, marks, settled)?;
+    settle_controller_versions(&mut acts, versions, marks, settled)?;
     if settled.taken {
-        install_all(&mut acts, alloc, versions, s, boot)?;
+        add_controller_installs(&mut acts, alloc, versions, s, boot)?;
     }
     Ok(Sends::from_items(acts))
 }
 
 // Adds the installations of all versions at one switch.
-fn install_all(
+fn add_controller_installs(
     acts: &mut Vec<Act>,
     alloc: Global,
     versions: &[Version],

@@ -64,7 +64,7 @@ impl Plan {
         ensures hosted { IfOk result (λ plan. plan.hosted ≡ zip parts.items targets.now) }
     {
         let hosted = hosted_partitions(alloc, parts, targets)?;
-        let rows = rows_of(alloc, &hosted)?;
+        let rows = controller_plan_rows_of(alloc, &hosted)?;
         let shared = Rc::new(
             alloc,
             PlanParts {
@@ -157,7 +157,10 @@ pub fn parts_of(
 }
 
 // The regions with their targets.
-fn rows_of(alloc: Global, hosted: &[(Partition, Targets)]) -> Result<PartRows, AllocError>
+fn controller_plan_rows_of(
+    alloc: Global,
+    hosted: &[(Partition, Targets)],
+) -> Result<PartRows, AllocError>
     ensures { IfOk result (λ rows. rows ≡ map row_of hosted.now) }
 {
     let mut rows = Vec::with_capacity(alloc, hosted.len())?;

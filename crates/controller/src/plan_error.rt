@@ -1,6 +1,6 @@
 ghost use Rattle.std.specs.Prelude.{◌≡◌};
 ghost use Rattle.controller.specs.declared.plan_error.PlanError.TheVariants.{NoMemory};
-ghost use Rattle.controller.specs.Causes.{rules_plan_cause, controller_tree_plan_cause, placement_plan_cause};
+ghost use Rattle.controller.specs.Causes.{controller_rules_plan_cause, controller_tree_plan_cause, controller_placement_plan_cause};
 
 use base::Failure;
 use cut_tree::TooManyLeaves;
@@ -26,7 +26,7 @@ pub enum PlanError {
 }
 
 impl From<Failure<TooManyWords>> for PlanError {
-    ghost from_gives = { λ error e. e ≡ rules_plan_cause error };
+    ghost from_gives = { λ error e. e ≡ controller_rules_plan_cause error };
 
     fn from(error: Failure<TooManyWords>) -> Self {
         match error {
@@ -48,7 +48,7 @@ impl From<Failure<TooManyLeaves>> for PlanError {
 }
 
 impl From<Failure<NoRoom>> for PlanError {
-    ghost from_gives = { λ error e. e ≡ placement_plan_cause error };
+    ghost from_gives = { λ error e. e ≡ controller_placement_plan_cause error };
 
     fn from(error: Failure<NoRoom>) -> Self {
         match error {

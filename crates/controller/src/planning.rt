@@ -2,13 +2,13 @@ ghost use Rattle.std.specs.Prelude.{◌≡◌, ◌^◌, ◌<◌, length, All, Ok
 ghost use Rattle.net_file.specs.Net.{IsNet};
 ghost use Rattle.partition.specs.Plan.{IsPartitionPlan, partition_plan_of, rooms_of, sizes_of};
 ghost use Rattle.controller.specs.Leads.{PlanLeadsEveryHeader};
-ghost use Rattle.controller.specs.Plan.{RefusesPlan};
+ghost use Rattle.controller.specs.Plan.{ControllerRefusesPlan};
 
 use crate::plan::Plan;
 use crate::plan_error::PlanError;
 use cut_tree::build;
 use net_file::Net;
-use partition::{list, plan_laws};
+use partition::{list, partition_plan_laws};
 use placement::place;
 use policy_rules::{Partition, Policy, to_rules};
 use std::alloc::{AllocError, Global};
@@ -27,9 +27,9 @@ pub fn compile(alloc: Global, policy: &Policy, net: &Net) -> Result<Plan, PlanEr
     ensures parts { IfOk result (λ plan. IsPartitionPlan policy.now net.now plan.hosted) }
     ensures leads { IfOk result (λ plan. PlanLeadsEveryHeader policy.now plan.hosted) }
     ensures policy { IfOk result (λ plan. plan.policy ≡ policy.now) }
-    ensures refused { IfErr result (RefusesPlan policy.now net.now) }
+    ensures refused { IfErr result (ControllerRefusesPlan policy.now net.now) }
 {
-    plan_laws();
+    partition_plan_laws();
     let rules = to_rules(alloc, policy)?;
     let tree = build(alloc, &rules, net.leaf_rules)?;
     let parts = list(alloc, &tree)?;

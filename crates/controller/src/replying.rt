@@ -1,5 +1,5 @@
 //! What a switch replies about a version.
-ghost use Rattle.version_update.specs.Marks.{UpdateMarksStaySettled, at_switch};
+ghost use Rattle.version_update.specs.Marks.{VersionMarksStaySettled, at_switch};
 ghost use Rattle.version_update.specs.Settling.{Settles};
 ghost use Rattle.controller.specs.Exports.{NamesWithinControllerMarks, controller_record_after_reply};
 
@@ -7,22 +7,22 @@ use version_update::{Marks, Settled};
 
 /// What a switch replies about a version.
 #[derive(Clone, Copy)]
-pub enum Reply {
+pub enum ControllerReply {
     Installed,
     Stamped,
 }
 
-impl Reply {
+impl ControllerReply {
     /// Records the reply of a switch in the marks.
     pub fn take_in(self, marks: &mut Marks, s: u32, boot: u32, version: u32) -> Settled
         requires { NamesWithinControllerMarks s version marks.old }
         ensures settled { Settles
             (at_switch s (controller_record_after_reply self boot version) marks.old) marks.new result }
-        ensures rule { UpdateMarksStaySettled marks.old marks.new }
+        ensures rule { VersionMarksStaySettled marks.old marks.new }
     {
         match self {
-            Reply::Installed => marks.installed(s, boot, version),
-            Reply::Stamped => marks.stamped(s, boot, version),
+            ControllerReply::Installed => marks.installed(s, boot, version),
+            ControllerReply::Stamped => marks.stamped(s, boot, version),
         }
     }
 }

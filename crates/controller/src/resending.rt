@@ -2,11 +2,11 @@
 ghost use Rattle.std.specs.Prelude.{◌≡◌, ◌++◌, ◌+◌, ◌<◌, ◌≤◌, ◌&&◌, length, All, IsTrue, OnOk};
 ghost use Rattle.version_update.specs.Record.{is_member};
 ghost use Rattle.version_update.specs.Marks.{record_of};
-ghost use Rattle.controller.specs.Controller.{kept_plan_touched};
+ghost use Rattle.controller.specs.Controller.{controller_kept_plan_touched};
 ghost use Rattle.controller.specs.Sends.{is_missing, controller_missing_installs, controller_stamp_again, controller_resend_collects};
 
 use crate::sends::Act;
-use crate::settling::touched_by;
+use crate::settling::controller_touched_by_version;
 use crate::version::Version;
 use ctrl_msg::Body;
 use std::alloc::{AllocError, Global};
@@ -16,7 +16,7 @@ use version_update::Marks;
 ///
 /// # Errors
 /// Only out of memory.
-pub fn install_missing(
+pub fn add_missing_controller_installs(
     acts: &mut Vec<Act>,
     alloc: Global,
     marks: &Marks,
@@ -32,7 +32,7 @@ pub fn install_missing(
 {
     let boot = marks.boot(s);
     for kept in versions {
-        if is_missing(marks, kept.version(), s, first) {
+        if is_controller_install_missing(marks, kept.version(), s, first) {
             acts.push(kept.install(alloc, s, boot)?)?;
         }
     }
@@ -40,7 +40,7 @@ pub fn install_missing(
 }
 
 // Whether the version is at least `first`, and the switch did not acknowledge it.
-fn is_missing(marks: &Marks, version: u32, s: u32, first: u32) -> bool
+fn is_controller_install_missing(marks: &Marks, version: u32, s: u32, first: u32) -> bool
     requires switch { s < length marks.now.switches }
     requires one { 1 ≤ version }
     requires last { version ≤ marks.now.count }
@@ -62,12 +62,12 @@ pub fn controller_stamp_again(
     requires switch { s < length marks.now.switches }
     requires member { IsTrue (is_member (record_of marks.now s).phase) }
     ensures { OnOk result (acts.new.items ≡ acts.old.items
-        ++ controller_stamp_again (kept_plan_touched versions.now marks.now.current) marks.now s) }
+        ++ controller_stamp_again (controller_kept_plan_touched versions.now marks.now.current) marks.now s) }
 {
     let boot = marks.boot(s);
     let version = marks.current();
     if marks.acked_stamp(s) < version {
-        let touched = touched_by(*acts.allocator(), versions, version)?;
+        let touched = controller_touched_by_version(*acts.allocator(), versions, version)?;
         acts.push(Act::post(
             s,
             Body::Stamp {

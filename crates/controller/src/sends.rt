@@ -1,5 +1,5 @@
 ghost use Rattle.std.specs.Prelude.{◌≡◌};
-ghost use Rattle.controller.specs.Sends.{post_act};
+ghost use Rattle.controller.specs.Sends.{controller_post_act};
 
 use base::Items;
 use ctrl_msg::{Body, Message, Place};
@@ -17,7 +17,7 @@ pub enum Act {
 
 impl Act {
     pub(crate) fn post(s: u32, body: Body) -> Act
-        ensures { result ≡ post_act s body }
+        ensures { result ≡ controller_post_act s body }
     {
         Act::Post(Message {
             to: Place::Switch(s),

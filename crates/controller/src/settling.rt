@@ -3,7 +3,7 @@ ghost use Rattle.std.specs.Prelude.{◌≡◌, ◌==◌, ◌∷◌, ◌++◌, �
 ghost use Rattle.std.specs.Option.{option_copied};
 ghost use Rattle.version_update.specs.Marks.{MarksValue};
 ghost use Rattle.version_update.specs.Settling.{Settles};
-ghost use Rattle.controller.specs.Exports.{controller_news_body, kept_plan_touched, kept_plans_from, controller_settling_acts, controller_switches_in_mask, controller_posts_to};
+ghost use Rattle.controller.specs.Exports.{controller_news_body, controller_kept_plan_touched, kept_plans_from, controller_settling_acts, controller_switches_in_mask, controller_posts_to};
 
 use crate::sends::{Act, Sends};
 use crate::version::Version;
@@ -44,7 +44,7 @@ impl News {
 ///
 /// # Errors
 /// Only out of memory; the versions are dropped even then.
-pub fn settle(
+pub fn settle_controller_versions(
     acts: &mut Vec<Act>,
     versions: &mut Vec<Version>,
     marks: &Marks,
@@ -52,7 +52,7 @@ pub fn settle(
 ) -> Result<(), AllocError>
     ensures acts { OnOk result ((before : MarksValue) → Settles before marks.now settled.now
         → acts.new.items ≡ acts.old.items
-        ++ controller_settling_acts (kept_plan_touched versions.new.items marks.now.current) before marks.now) }
+        ++ controller_settling_acts (controller_kept_plan_touched versions.new.items marks.now.current) before marks.now) }
     ensures versions { versions.new.items ≡ kept_plans_from marks.now.current versions.old.items }
 {
     drop_old_plans(versions, marks.current());
@@ -78,11 +78,11 @@ fn tell_current_version(
     current: u32,
 ) -> Result<(), AllocError>
     ensures { OnOk result (acts.new.items ≡ acts.old.items ++ Act.Current current ∷ []
-        ++ controller_posts_to marks.now (λ boot. Body.Stamp boot current (kept_plan_touched versions.now current))
+        ++ controller_posts_to marks.now (λ boot. Body.Stamp boot current (controller_kept_plan_touched versions.now current))
         (controller_switches_in_mask mask (length marks.now.switches))) }
 {
     acts.push(Act::Current(current))?;
-    let news = News::Stamp(touched_by(*acts.allocator(), versions, current)?);
+    let news = News::Stamp(controller_touched_by_version(*acts.allocator(), versions, current)?);
     send_to_switches(acts, marks, mask, &news, current)
 }
 
@@ -90,7 +90,7 @@ fn tell_current_version(
 ///
 /// # Errors
 /// Only out of memory; the versions are dropped even then.
-pub fn settled_sends(
+pub fn controller_settled_sends(
     alloc: Global,
     versions: &mut Vec<Version>,
     marks: &Marks,
@@ -98,11 +98,11 @@ pub fn settled_sends(
 ) -> Result<Sends, AllocError>
     ensures sends { (before : MarksValue) → Settles before marks.now settled.now
         → IfOk result (λ sends. sends
-        ≡ controller_settling_acts (kept_plan_touched versions.new.items marks.now.current) before marks.now) }
+        ≡ controller_settling_acts (controller_kept_plan_touched versions.new.items marks.now.current) before marks.now) }
     ensures versions { versions.new.items ≡ kept_plans_from marks.now.current versions.old.items }
 {
     let mut acts = Vec::new(alloc);
-    settle(&mut acts, versions, marks, settled)?;
+    settle_controller_versions(&mut acts, versions, marks, settled)?;
     Ok(Sends::from_items(acts))
 }
 
@@ -117,20 +117,20 @@ fn drop_old_plans(versions: &mut Vec<Version>, current: u32)
 ///
 /// # Errors
 /// Only out of memory.
-pub fn touched_by(
+pub fn controller_touched_by_version(
     alloc: Global,
     versions: &[Version],
     version: u32,
 ) -> Result<Shared<Touched>, AllocError>
-    ensures { IfOk result (λ touched. touched ≡ kept_plan_touched versions.now version) }
+    ensures { IfOk result (λ touched. touched ≡ controller_kept_plan_touched versions.now version) }
 {
-    match find_kept_version(versions, version) {
+    match find_controller_kept_version(versions, version) {
         Some(kept) => kept.touched(),
         None => Shared::new(alloc, Touched::all()),
     }
 }
 
-fn find_kept_version(versions: &[Version], version: u32) -> Option<&Version>
+fn find_controller_kept_version(versions: &[Version], version: u32) -> Option<&Version>
     ensures { option_copied result ≡ find (λ kept. kept.version == version) versions.now }
 {
     versions.iter().find(|kept| kept.version() == version)

@@ -37,14 +37,14 @@ fn parts_of(
 {
     let mut parts = Vec::new(alloc);
     for (part, targets) in hosted {
-        if is_planned_target(targets.items(), s) {
+        if is_controller_plan_target(targets.items(), s) {
             parts.push(part.clone()?)?;
         }
     }
     Ok(parts)
 }
 
-fn is_planned_target(targets: &[u32], s: u32) -> bool
+fn is_controller_plan_target(targets: &[u32], s: u32) -> bool
     ensures { result ≡ list_any (nat_eq s) targets.now }
 {
     targets.iter().any(|target| s == *target)

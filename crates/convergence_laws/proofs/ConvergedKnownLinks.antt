@@ -1,14 +1,14 @@
 -- So of the links that end where it reaches, a switch knows exactly the usable ones.
 use Rattle.std.proofs.Common.{[], ◌&&◌, ◌++◌, ◌<◌, ◌==◌, ◌∙◌, ◌∷◌, ◌≡◌, ◌≢◌, ◌⊎◌, All, Bool, IsTrue, List, None, Some, ap, arith, false, get_or, get_or-set_other, get_or-set_same, inl, inr, length, map, not, refl, set, slice_index, subst, sym, true, ℕ, rules}
 use Rattle.base.proofs.Exports.{All-from_recursion, cases_eq, length-map, nat_tests}
-use Rattle.failover.specs.Exports.{AreJoinedByLinks, LinksLeadTo, has_link, is_link, neighbours_by_adverts, neighbours_named}
+use Rattle.failover.specs.Exports.{AreJoinedByLinks, LinksLeadTo, has_route_link, is_route_link, neighbours_by_adverts, neighbours_named_by_advert}
 use Rattle.update_machine.specs.Exports.{Advert, Item, Setting, journal_advert_known, journal_adverts_known, journal_adverts_of_others, is_up, journal_links_known, near, own_advert, journal_route_from, serves}
 use Rattle.base.specs.Exports.{has}
-use Rattle.net_file.specs.Exports.{IsNet, are_linked}
+use Rattle.net_file.specs.Exports.{IsNet, are_linked_in_net}
 use Rattle.steps.specs.Exports.{HasSwitch}
 use Rattle.control_laws.specs.Exports.{OwnAdvertsAreNewest}
 use Rattle.control_laws.proofs.Exports.{claimed_mask, ends_serve, near_linked, own_origin, second}
-use Rattle.convergence_laws.specs.Exports.{AreUnusableLinks, HasConverged, IsAsNew, LeadsOverUsableNeighbours, NeighboursAgree, Reaches}
+use Rattle.convergence_laws.specs.Exports.{AreConvergenceUnusableLinks, HasConverged, IsConvergenceAdvertAsNew, ConvergenceLeadsOverUsableNeighbours, NeighboursAgree, Reaches}
 use Rattle.convergence_laws.proofs.ConvergenceAgreement.{TellsOwn}
 use Rattle.convergence_laws.proofs.ConvergenceLinkChanges.{AreEnds, ends_there, near_back, near_both, own_held}
 use Rattle.policy_rules.proofs.PolicyRulesCallerLemmas.{each_weaker}
@@ -38,7 +38,7 @@ serving_up setting journal are s serving = (are.tells.known.serving s).up servin
 -- of the own advert no other one is as new
 own_alone : (setting : Setting) (journal : List Item) → AreAgreed setting journal
     → (s origin : ℕ) (c : Advert) → origin < 64 → IsTrue (is_up journal origin)
-    → journal_advert_known setting journal s origin ≡ Some c → IsAsNew c (own_advert setting journal origin)
+    → journal_advert_known setting journal s origin ≡ Some c → IsConvergenceAdvertAsNew c (own_advert setting journal origin)
     → c ≡ own_advert setting journal origin
 unfolding own_advert
 own_alone setting journal are s origin c small up known as_new = search rules
@@ -75,7 +75,7 @@ edge_holds setting journal are at next origin small up linked holds = by_place (
 -- so does each switch from which links lead there
 pub leads_hold : (setting : Setting) (journal : List Item) → AreAgreed setting journal
     → (origin at : ℕ) (rest : List ℕ) → origin < 64 → IsTrue (is_up journal origin)
-    → LeadsOverUsableNeighbours setting journal origin at rest → HoldsOwn setting journal at origin
+    → ConvergenceLeadsOverUsableNeighbours setting journal origin at rest → HoldsOwn setting journal at origin
 leads_hold setting journal are origin at [] small up leads = inl leads
 leads_hold setting journal are origin at (next ∷ rest) small up leads =
     search (rules, edge_holds, leads_hold setting journal are origin next rest small up leads.1)
@@ -87,7 +87,7 @@ pub record IsThere (setting : Setting) (journal : List Item) (s : ℕ) : Type 0 
 
 leads_there : (setting : Setting) (journal : List Item) → AreAgreed setting journal
     → (target at : ℕ) (rest : List ℕ) → IsThere setting journal at
-    → LeadsOverUsableNeighbours setting journal target at rest → IsThere setting journal target
+    → ConvergenceLeadsOverUsableNeighbours setting journal target at rest → IsThere setting journal target
 leads_there setting journal are target at [] is leads = subst (IsThere setting journal) leads is
 leads_there setting journal are target at (next ∷ rest) is leads =
     leads_there setting journal are target next rest (record {
@@ -110,7 +110,7 @@ pub adverts_reach : (setting : Setting) (journal : List Item) → AreAgreed sett
 adverts_reach setting journal are s origin apart reaches = by_holds (reached_holds setting journal
     are s origin (begins reaches.rest reaches.leads) reaches)
   where
-    begins : (rest : List ℕ) → LeadsOverUsableNeighbours setting journal origin s rest → IsThere setting journal s
+    begins : (rest : List ℕ) → ConvergenceLeadsOverUsableNeighbours setting journal origin s rest → IsThere setting journal s
     begins [] leads = absurd (apart leads)
     begins (next ∷ rest) leads = record {
       there = (ends_there setting journal s next are.net leads.0).one;
@@ -133,14 +133,14 @@ mask_known : (setting : Setting) (journal : List Item) (s z : ℕ) → s < 64
 unfolding neighbours_by_adverts own_advert
 mask_known setting journal s z small holds = by_place (cases_eq z s) holds where
   rows : List ℕ
-  rows = map neighbours_named (journal_adverts_known setting journal s)
+  rows = map neighbours_named_by_advert (journal_adverts_known setting journal s)
 
   within : s < length rows
   within = omega (
     arith,
     small,
     known_places setting journal s,
-    length-map (journal_adverts_known setting journal s) neighbours_named,
+    length-map (journal_adverts_known setting journal s) neighbours_named_by_advert,
   )
 
   by_place : (z ≡ s) ⊎ (z ≢ s) → HoldsOwn setting journal s z
@@ -148,7 +148,7 @@ mask_known setting journal s z small holds = by_place (cases_eq z s) holds where
   by_place (inl same) holds = cc (same, get_or-set_same rows s (near setting journal s) 0 within)
   by_place (inr apart) (inl same) = absurd (apart (sym same))
   by_place (inr apart) (inr known) = get_or-set_other rows s z (near setting journal s) 0 apart
-      ∙ claimed_mask (journal_adverts_known setting journal s) z ∙ ap neighbours_named known
+      ∙ claimed_mask (journal_adverts_known setting journal s) z ∙ ap neighbours_named_by_advert known
 
 -- ---- known links
 
@@ -159,8 +159,8 @@ reach_more setting journal from at next reaches linked = record {
   rest = reaches.rest ++ next ∷ [];
   leads = longer from reaches.rest reaches.leads;
 } where
-  longer : (start : ℕ) (rest : List ℕ) → LeadsOverUsableNeighbours setting journal at start rest
-      → LeadsOverUsableNeighbours setting journal next start (rest ++ next ∷ [])
+  longer : (start : ℕ) (rest : List ℕ) → ConvergenceLeadsOverUsableNeighbours setting journal at start rest
+      → ConvergenceLeadsOverUsableNeighbours setting journal next start (rest ++ next ∷ [])
   longer start [] leads = (rw leads linked, refl)
   longer start (step ∷ rest) leads = (leads.0, longer step rest leads.1)
 
@@ -172,7 +172,7 @@ known_usable : (setting : Setting) (journal : List Item) → AreAgreed setting j
     → (s one other : ℕ) (down : List ℕ) → IsThere setting journal s → Reaches setting journal s one
     → one < 64 → other < 64 → AreJoinedByLinks (journal_links_known setting journal s down) one other
     → IsTrue (has (near setting journal one) other)
-unfolding is_link
+unfolding is_route_link
 known_usable setting journal are s one other down is reaches small fits joined =
     let rows = neighbours_by_adverts (journal_adverts_known setting journal s) s (near setting journal s) in
     subst (λ mask. IsTrue (has mask other))
@@ -182,9 +182,9 @@ known_usable setting journal are s one other down is reaches small fits joined =
 
 usable_known : (setting : Setting) (journal : List Item) → AreAgreed setting journal
     → (s one other : ℕ) (down : List ℕ) → IsThere setting journal s → Reaches setting journal s one
-    → AreUnusableLinks setting journal down → IsTrue (has (near setting journal one) other)
+    → AreConvergenceUnusableLinks setting journal down → IsTrue (has (near setting journal one) other)
     → AreJoinedByLinks (journal_links_known setting journal s down) one other
-unfolding is_link
+unfolding is_route_link
 usable_known setting journal are s one other down is reaches unusable linked =
     let rows : List ℕ = neighbours_by_adverts (journal_adverts_known setting journal s) s (near setting journal s) in
     let s_small : s < 64 = small_of setting are.net s is.there in
@@ -201,20 +201,20 @@ usable_known setting journal are s one other down is reaches unusable linked =
     ∙ near_both setting journal one other small linked in
     has_known_link setting journal s down one other small fits
     ∙ four (one == other) (has (slice_index rows one) other) (has (slice_index rows other) one)
-    (has_link down one other) apart named back (unusable one other linked)
+    (has_route_link down one other) apart named back (unusable one other linked)
   where
     apart : (one == other) ≡ false
     apart = by_test (one == other) refl where
       by_test : (b : Bool) → (one == other) ≡ b → (one == other) ≡ false
       by_test false e = e
       by_test true e = absurd (cc (sym (near_linked setting journal one other linked)
-          ∙ ap (are_linked setting.net.links one) (sym (grind (arith, nat_tests)))
+          ∙ ap (are_linked_in_net setting.net.links one) (sym (grind (arith, nat_tests)))
           ∙ links.not_itself setting.net one are.net))
 
 -- where links lead is a switch with a number below 64
 reached_small : (setting : Setting) (journal : List Item) → AreAgreed setting journal
     → (s target : ℕ) → HasSwitch setting.net s → (rest : List ℕ)
-    → LeadsOverUsableNeighbours setting journal target s rest → target < 64
+    → ConvergenceLeadsOverUsableNeighbours setting journal target s rest → target < 64
 reached_small setting journal are s target there [] leads = omega (arith, small_of)
 reached_small setting journal are s target there (next ∷ rest) leads = reached_small setting journal
     are next target (ends_there setting journal s next are.net leads.0).other rest leads.1
@@ -223,8 +223,8 @@ reached_small setting journal are s target there (next ∷ rest) leads = reached
 
 leads_known : (setting : Setting) (journal : List Item) → AreAgreed setting journal
     → (s target : ℕ) (down : List ℕ) → IsThere setting journal s
-    → AreUnusableLinks setting journal down → (at : ℕ) (rest : List ℕ) → Reaches setting journal s at
-    → LeadsOverUsableNeighbours setting journal target at rest
+    → AreConvergenceUnusableLinks setting journal down → (at : ℕ) (rest : List ℕ) → Reaches setting journal s at
+    → ConvergenceLeadsOverUsableNeighbours setting journal target at rest
     → LinksLeadTo (journal_links_known setting journal s down) target at rest
 leads_known setting journal are s target down is unusable at [] reaches leads = leads
 leads_known setting journal are s target down is unusable at (next ∷ rest) reaches leads = (
@@ -235,8 +235,8 @@ leads_known setting journal are s target down is unusable at (next ∷ rest) rea
 
 -- a walk over usable links is one over known links
 way_known : (setting : Setting) (journal : List Item) → AreAgreed setting journal
-    → (s target : ℕ) (down : List ℕ) → AreUnusableLinks setting journal down → (rest : List ℕ)
-    → LeadsOverUsableNeighbours setting journal target s rest
+    → (s target : ℕ) (down : List ℕ) → AreConvergenceUnusableLinks setting journal down → (rest : List ℕ)
+    → ConvergenceLeadsOverUsableNeighbours setting journal target s rest
     → LinksLeadTo (journal_links_known setting journal s down) target s rest
 way_known setting journal are s target down unusable [] leads = leads
 way_known setting journal are s target down unusable (next ∷ rest) leads =
@@ -247,7 +247,7 @@ way_known setting journal are s target down unusable (next ∷ rest) leads =
 
 stuck_apart : (setting : Setting) (journal : List Item) → AreAgreed setting journal
     → (s : ℕ) (targets down : List ℕ) → HasSwitch setting.net s
-    → AreUnusableLinks setting journal down → journal_route_from setting journal s targets down ≡ None
+    → AreConvergenceUnusableLinks setting journal down → journal_route_from setting journal s targets down ≡ None
     → All (λ target. Reaches setting journal s target → ⊥) targets
 stuck_apart setting journal are s targets down there unusable none =
     All-from_recursion (λ target. Reaches setting journal s target → ⊥) targets

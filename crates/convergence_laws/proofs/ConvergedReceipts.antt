@@ -2,7 +2,7 @@
 use Rattle.std.proofs.Common.{[], ◌&&◌, ◌++◌, ◌<◌, ◌==◌, ◌||◌, ◌∙◌, ◌∷◌, ◌≡◌, ◌≤◌, ◌⊎◌, Bool, IsFalse, IsTrue, List, Some, ap, append-nil, append_assoc, arith, eq-eqb, eqb-true, false, inl, inr, refl, subst, sym, true, ℕ, rules}
 use Rattle.base.proofs.Exports.{list_any, nat_tests, ⊤}
 use Rattle.ctrl_msg.specs.Exports.{body_boot, to_controller}
-use Rattle.update_machine.specs.Exports.{AreJournalMessagesReceived, Body, JournalItemsHaveCauses, IsMachineQuiet, IsJournalMessageReceived, IsJournalMessageReplaced, Item, Message, Place, MachineMessageReplaces, Sending, Setting, are_old_tables, item_begins_boot, journal_receiver_boot_at, journal_boot_of, item_changes_sendings, controller_heard, journal_current_mark, folded_journal_from, heard, journal_body_for_boot, is_machine_later_body, is_old_ack_in_journal, is_up, matters, sendings, machine_speaking_in_body, machine_message_to_switch, was_delivered}
+use Rattle.update_machine.specs.Exports.{AreMachineMessagesReceived, Body, JournalItemsHaveCauses, IsQuietMachineJournal, IsJournalMessageReceived, IsJournalMessageReplaced, Item, Message, Place, MachineMessageReplaces, Sending, Setting, are_machine_tables_old, item_begins_boot, journal_receiver_boot_at, journal_boot_of, changes_journal_sendings, journal_controller_heard, journal_current_mark, folded_journal_from, heard, is_journal_body_for_boot, is_machine_later_body, is_machine_ack_below_version, is_up, matters, sendings, machine_speaking_in_body, machine_message_to_switch, was_delivered}
 use Rattle.steps.specs.Exports.{HasSwitch}
 use Rattle.update_machine.proofs.Exports.{count_of_append}
 use Rattle.control_laws.specs.Exports.{HasControlItemCause}
@@ -66,8 +66,8 @@ behind_one : (setting : Setting) (journal before : List Item) (next : Item) (ite
 behind_one setting journal before next items x sent = search (rules, append_assoc)
 
 sent_behind : (setting : Setting) (journal before : List Item) (value : List Sending)
-    (items : List Item) (x : Sending) → AreJournalMessagesReceived setting journal items
-    → IsIn x (folded_journal_from item_changes_sendings before value items)
+    (items : List Item) (x : Sending) → AreMachineMessagesReceived setting journal items
+    → IsIn x (folded_journal_from changes_journal_sendings before value items)
     → IsIn x value ⊎ IsSentBehind setting journal before items x
 sent_behind setting journal before value [] x received is = inl is
 sent_behind setting journal before value (Item.Sent number message ∷ items) x received is = elim
@@ -99,7 +99,7 @@ sent_behind setting journal before value (Item.Sent number message ∷ items) x 
 sent_behind setting journal before value (next ∷ items) x received is = search
     (rules, behind_one, sent_behind setting journal (before ++ next ∷ []) value items x received is)
 
-sent_at : (setting : Setting) (journal : List Item) (x : Sending) → AreJournalMessagesReceived setting journal
+sent_at : (setting : Setting) (journal : List Item) (x : Sending) → AreMachineMessagesReceived setting journal
     journal → IsIn x (sendings journal) → IsSentBehind setting journal [] journal x
 unfolding sendings
 sent_at setting journal x received is = elim (sent_behind _ journal [] [] journal x received is) [
@@ -234,7 +234,7 @@ pub record IsGot (journal : List Item) (to : Place) (of : Body) : Type 0 where
   pub own : IsOwn journal to boot
 
 pub got : (setting : Setting) (journal : List Item) (s number boot : ℕ) (to : Place) (body : Body)
-    → IsMachineQuiet setting journal → JournalItemsHaveCauses (IsInOrder setting) [] journal → HasSwitch setting.net s
+    → IsQuietMachineJournal setting journal → JournalItemsHaveCauses (IsInOrder setting) [] journal → HasSwitch setting.net s
     → IsIn (record {
       number = number;
       message = record { to = to; body = body };
@@ -352,7 +352,7 @@ own_boot journal s boot x course of own = omega (arith, rw of at course.past, ow
 
 pub heard_in_boot : (journal : List Item) (s number boot : ℕ) (body : Body) → AreTraced journal
     → IsIn (record { number = number; message = machine_message_to_switch s body; boot = boot }) (sendings journal)
-    → IsTrue (is_up journal s) → boot ≡ journal_boot_of journal s → IsTrue (journal_body_for_boot boot body)
+    → IsTrue (is_up journal s) → boot ≡ journal_boot_of journal s → IsTrue (is_journal_body_for_boot boot body)
     → IsTrue (was_delivered journal number) → IsIn body (heard journal s)
 heard_in_boot journal s number boot body traced is up own for delivered =
     let x : Sending = record { number = number; message = machine_message_to_switch s body; boot = boot } in
@@ -360,10 +360,10 @@ heard_in_boot journal s number boot body traced is up own for delivered =
     delivered
 
 pub heard_of : (setting : Setting) (journal : List Item) (s : ℕ) (body : Body)
-    → IsMachineQuiet setting journal → JournalItemsHaveCauses (IsInOrder setting) [] journal
+    → IsQuietMachineJournal setting journal → JournalItemsHaveCauses (IsInOrder setting) [] journal
     → HasSwitch setting.net s → IsSent journal (machine_message_to_switch s body)
     → IsTrue (is_up journal s) → body_boot body ≡ Some (journal_boot_of journal s)
-    → IsFalse (are_old_tables (journal_current_mark journal) body) → WasHeard (heard journal s) body
+    → IsFalse (are_machine_tables_old (journal_current_mark journal) body) → WasHeard (heard journal s) body
 heard_of setting journal s body quiet causes there sent up of new =
     record { body = later.body; is = heard_later; says = later.says }
   where
@@ -387,7 +387,7 @@ heard_of setting journal s body quiet causes there sent up of new =
     matter after since =
         let none : list_any (item_begins_boot s) after ≡ false = since in
         let mine : (own == own) ≡ true = eq-eqb own own refl in
-        let fresh : are_old_tables (journal_current_mark journal) body ≡ false = new in
+        let fresh : are_machine_tables_old (journal_current_mark journal) body ≡ false = new in
         rw (up, eq-eqb s s refl, none, of, mine, fresh) (by_advert _)
       where
         by_advert : (b : Bool) → ((b || true) && true) ≡ true
@@ -405,10 +405,10 @@ heard_of setting journal s body quiet causes there sent up of new =
 -- ---- at the controller
 
 pub told_of : (setting : Setting) (journal : List Item) (s : ℕ) (body : Body)
-    → IsMachineQuiet setting journal → JournalItemsHaveCauses (IsInOrder setting) [] journal → HasSwitch setting.net s
+    → IsQuietMachineJournal setting journal → JournalItemsHaveCauses (IsInOrder setting) [] journal → HasSwitch setting.net s
     → IsSent journal (to_controller body) → IsTrue (is_up journal s)
     → machine_speaking_in_body body ≡ Some (s, journal_boot_of journal s)
-    → IsFalse (is_old_ack_in_journal (journal_current_mark journal) body) → WasHeard (controller_heard journal) body
+    → IsFalse (is_machine_ack_below_version (journal_current_mark journal) body) → WasHeard (journal_controller_heard journal) body
 told_of setting journal s body quiet causes there sent up speaks new = record {
   body = later.body;
   is = (each_in _ y _ (caused_traced setting journal causes).each later.is).course later.delivered;
@@ -423,7 +423,7 @@ told_of setting journal s body quiet causes there sent up speaks new = record {
   matter : (after : List Item) → IsTrue (matters journal s (to_controller body) after)
   matter after =
       let mine : (own == own) ≡ true = eq-eqb own own refl in
-      let fresh : is_old_ack_in_journal (journal_current_mark journal) body ≡ false = new in
+      let fresh : is_machine_ack_below_version (journal_current_mark journal) body ≡ false = new in
       rw (up, speaks, eq-eqb s s refl, mine, fresh) refl
 
   later : IsGot journal Place.Controller body

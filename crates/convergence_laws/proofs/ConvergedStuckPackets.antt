@@ -2,14 +2,14 @@
 use Rattle.std.proofs.Common.{[], ◌++◌, ◌<◌, ◌^◌, ◌||◌, ◌∙◌, ◌∷◌, ◌≡◌, ◌≢◌, ◌≤◌, ◌⊎◌, All, Bool, IsFalse, IsTrue, List, ap, arith, bit_or, false, get_or, get_or-set_other, get_or-set_same, inl, inr, length, length-set, max, min, refl, set, subst, sym, true, ℕ, rules}
 use Rattle.base.proofs.Exports.{⊤, cases_eq, cases_lt, get_or_past, has-or, has-pow_other, has-zero}
 use Rattle.base.specs.Exports.{has}
-use Rattle.update_machine.specs.Exports.{Cause, Exit, JournalItemsHaveCauses, Header, Hop, Item, Leg, MachineLinksKeep, Packet, Seek, Setting, Step, journal_adverts_known, journal_boot_of, item_changes_found, concerns_links, item_concerns_policies, journal_found_down, heard, machine_hop_items, is_up, near, packet_items, piece, journal_plan_at, journal_route_from, step_items, setting_targets_in, targets_of}
+use Rattle.update_machine.specs.Exports.{Cause, Exit, JournalItemsHaveCauses, Header, Hop, Item, Leg, MachineLinksKeep, Packet, Seek, Setting, Step, journal_adverts_known, journal_boot_of, item_changes_found, concerns_links, item_concerns_policies, journal_found_down, heard, machine_hop_items, is_up, near, machine_packet_items, piece, journal_plan_at, journal_route_from, machine_step_items, setting_targets_in, journal_leg_targets}
 use Rattle.control_laws.proofs.Exports.{AreKept, IsWork, KnowsNoRoute, boot_more, fact_on, have_front, have_rest, have_weaker, heard_more, hop_work, packet_works, up_more}
-use Rattle.failover.specs.Exports.{has_link, no_links, with_link}
-use Rattle.failover.proofs.FailoverLinkSets.{has_link-none}
+use Rattle.failover.specs.Exports.{has_route_link, no_links, with_link}
+use Rattle.failover.proofs.FailoverLinkSets.{has_route_link-none}
 use Rattle.net_file.specs.Exports.{IsNet}
 use Rattle.steps.specs.Exports.{HasSwitch}
 use Rattle.update_machine.proofs.Exports.{folded_append, have_first, links_keep, policies_keep}
-use Rattle.convergence_laws.specs.Exports.{AreUnusableLinks, GetStuckApart, Reaches}
+use Rattle.convergence_laws.specs.Exports.{AreConvergenceUnusableLinks, ConvergedGetStuckApart, Reaches}
 use Rattle.convergence_laws.proofs.ConvergenceLinkChanges.{near_back}
 use Rattle.convergence_laws.proofs.ConvergedKnownLinks.{AreAgreed, agreed_converged}
 use Rattle.convergence_laws.proofs.ConvergencePlainItems.{HasOthers, others_have}
@@ -36,7 +36,7 @@ work_walks : (setting : Setting) (before : List Item) (next : Item) → IsWork s
 work_walks setting before next is = search rules
 
 pub packet_walk : (setting : Setting) (i s : ℕ) (header : Header) (journal : List Item)
-    → Walk setting journal (packet_items setting i s header journal)
+    → Walk setting journal (machine_packet_items setting i s header journal)
 packet_walk setting i s header journal = packet_works _ _ (work_walks setting) i s header journal tt
 
 pub hop_walk : (setting : Setting) (i : ℕ) (journal : List Item)
@@ -60,9 +60,9 @@ ends_none = search rules
 -- ---- a set of links that were found down
 
 -- a link of a set with one more is of the set, or that one
-more_links : (down : List ℕ) (x y a b : ℕ) → IsTrue (has_link (with_link down x y) a b)
-    → IsTrue (has_link down a b) ⊎ ((min a b ≡ min x y) × (max a b ≡ max x y))
-unfolding has_link with_link
+more_links : (down : List ℕ) (x y a b : ℕ) → IsTrue (has_route_link (with_link down x y) a b)
+    → IsTrue (has_route_link down a b) ⊎ ((min a b ≡ min x y) × (max a b ≡ max x y))
+unfolding has_route_link with_link
 more_links down x y a b is = by_row (cases_eq (min a b) low) where
   low : ℕ
   low = min x y
@@ -100,8 +100,8 @@ more_links down x y a b is = by_row (cases_eq (min a b) low) where
   by_row (inr apart) = inl (rw (get_or-set_other down low (min a b) row 0 apart) at is)
 
 unusable_more : (setting : Setting) (journal : List Item) → IsNet setting.net
-    → (down : List ℕ) (x y : ℕ) → AreUnusableLinks setting journal down
-    → IsFalse (has (near setting journal x) y) → AreUnusableLinks setting journal (with_link down x y)
+    → (down : List ℕ) (x y : ℕ) → AreConvergenceUnusableLinks setting journal down
+    → IsFalse (has (near setting journal x) y) → AreConvergenceUnusableLinks setting journal (with_link down x y)
 unusable_more setting journal net down x y unusable none a b linked =
     search (rules, cases_eq, near_back, more_links)
 
@@ -111,8 +111,8 @@ pub record StaysSo (setting : Setting) (journal now : List Item) (i : ℕ) : Typ
   pub links : (s : ℕ) → near setting now s ≡ near setting journal s
   pub routes : (s : ℕ) (targets down : List ℕ)
       → journal_route_from setting now s targets down ≡ journal_route_from setting journal s targets down
-  pub targets : (leg : Leg) → targets_of setting now leg ≡ targets_of setting journal leg
-  pub found : AreUnusableLinks setting journal (journal_found_down now i)
+  pub targets : (leg : Leg) → journal_leg_targets setting now leg ≡ journal_leg_targets setting journal leg
+  pub found : AreConvergenceUnusableLinks setting journal (journal_found_down now i)
 
 -- the switch is up in its boot as before, and heard what it had heard
 record IsSame (before after : List Item) (s : ℕ) : Type 0 where
@@ -147,7 +147,7 @@ found_more before next i = folded_append (item_changes_found i) no_links before 
 found_on : (setting : Setting) (journal : List Item) → IsNet setting.net
     → (before : List Item) (next : Item) (i : ℕ) → Walks setting before next
     → StaysSo setting journal before i
-    → AreUnusableLinks setting journal (journal_found_down (before ++ next ∷ []) i)
+    → AreConvergenceUnusableLinks setting journal (journal_found_down (before ++ next ∷ []) i)
 found_on setting journal net before next i walks stays = search (rules, found_more, unusable_more)
 
 pub stays_on : (setting : Setting) (journal : List Item) → IsNet setting.net → (i : ℕ)
@@ -165,7 +165,7 @@ stays_on setting journal net i before next walks stays =
   where
     by_leg : (leg : Leg)
         → ((v : ℕ) → journal_plan_at setting (before ++ next ∷ []) v ≡ journal_plan_at setting before v)
-        → targets_of setting (before ++ next ∷ []) leg ≡ targets_of setting before leg
+        → journal_leg_targets setting (before ++ next ∷ []) leg ≡ journal_leg_targets setting before leg
     by_leg (Seek version partition) same = ap (λ plan. setting_targets_in plan partition) (same version)
     by_leg (Exit port) same = refl
 
@@ -175,7 +175,7 @@ stays_itself setting journal i none = record {
   links = λ t. refl;
   routes = λ t targets found. refl;
   targets = λ leg. refl;
-  found = λ one other linked. ap (λ links. has_link links one other) none ∙ has_link-none one other;
+  found = λ one other linked. ap (λ links. has_route_link links one other) none ∙ has_route_link-none one other;
 }
 
 -- ---- steps
@@ -184,16 +184,16 @@ walk_apart : (setting : Setting) (journal : List Item) → AreAgreed setting jou
     → (items front rest : List Item) (i s : ℕ) (cause : Cause) (leg : Leg) (down : List ℕ)
     → Walk setting journal items → items ≡ front ++ Item.Stuck i s cause leg down ∷ rest
     → journal_found_down journal i ≡ no_links → HasSwitch setting.net s
-    → All (λ target. Reaches setting journal s target → ⊥) (targets_of setting journal leg)
+    → All (λ target. Reaches setting journal s target → ⊥) (journal_leg_targets setting journal leg)
 walk_apart setting journal are items front rest i s cause leg down walk is none there =
     let whole = subst (Walk setting journal) is walk in
     let stays = fact_on (Walks setting) _ (stays_on setting journal are.net i) journal front
     (have_front (Walks setting) journal front _ whole) (stays_itself setting journal i none) in
     let knows : KnowsNoRoute setting (journal ++ front) i s leg down =
     (have_rest (Walks setting) journal front _ whole).0 in
-    (agreed_converged setting journal are).stuck s (targets_of setting journal leg) down there
-    (subst (AreUnusableLinks setting journal) (sym knows.found) stays.found)
-    (sym (stays.routes s (targets_of setting journal leg) down)
+    (agreed_converged setting journal are).stuck s (journal_leg_targets setting journal leg) down there
+    (subst (AreConvergenceUnusableLinks setting journal) (sym knows.found) stays.found)
+    (sym (stays.routes s (journal_leg_targets setting journal leg) down)
     ∙ ap (λ targets. journal_route_from setting (journal ++ front) s targets down) (sym (stays.targets leg))
     ∙ knows.none)
 
@@ -205,22 +205,22 @@ end_apart setting journal items front rest i s cause leg down ends is = search (
 -- the step writes what a packet's step writes, or makes no packet stuck
 step_kinds : (setting : Setting) (before : List Item) (row : ℕ) (step : Step)
     → let here = before ++ Item.Row row step ∷ [] in
-    Walk setting here (step_items setting before step here)
-    ⊎ NoEnd here (step_items setting before step here)
+    Walk setting here (machine_step_items setting before step here)
+    ⊎ NoEnd here (machine_step_items setting before step here)
 step_kinds setting before row (Packet s header) = inl (packet_walk setting _ s header _)
 step_kinds setting before row (Hop i) = inl (hop_walk setting i _)
 step_kinds setting before row step = inr (others_have _ ends_none setting before row step refl)
 
 pub stuck_reaches_none : (setting : Setting) (journal : List Item) → AreAgreed setting journal
-    → GetStuckApart setting journal
+    → ConvergedGetStuckApart setting journal
 unfolding piece
 stuck_reaches_none setting journal are row step front rest i s cause leg down is none there =
     elim (step_kinds setting journal row step) [
       | inl walk ↦ walk_apart setting journal are _ front rest i s cause leg down
-          (have_first (Walks setting) next (step_items setting journal step) journal tt walk) is
+          (have_first (Walks setting) next (machine_step_items setting journal step) journal tt walk) is
           none there
       | inr ends ↦ absurd (end_apart setting journal _ front rest i s cause leg down
-          (have_first IsNoEnd next (step_items setting journal step) journal tt ends) is)
+          (have_first IsNoEnd next (machine_step_items setting journal step) journal tt ends) is)
     ]
   where
     next : Item

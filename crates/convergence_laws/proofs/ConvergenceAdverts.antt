@@ -2,25 +2,25 @@
 -- that were sent to them in their present boot, with no number below a bound.
 use Rattle.std.proofs.Common.{[], if◌then◌else◌, ◌++◌, ◌+◌, ◌<◌, ◌==◌, ◌∙◌, ◌∷◌, ◌≡◌, ◌≢◌, ◌≤◌, ◌⊎◌, Bool, IsTrue, List, None, Option, Some, ap, append-nil, append_assoc, arith, false, inl, inr, refl, subst, sym, true, ℕ, rules}
 use Rattle.base.proofs.Exports.{nat_tests, option_map_or, ⊤}
-use Rattle.update_machine.specs.Exports.{Advert, Advertise, Body, JournalItemsHaveCauses, Item, MachineLinksKeep, Message, Setting, advert_to, journal_adverts_begun, journal_adverts_heard, journal_body_to_switch, journal_receiver_boot_at, journal_boot_of, heard, is_up, near, journal_next_message, journal_other_advert, own_advert, send_items, sendings, machine_sent_items_from}
+use Rattle.update_machine.specs.Exports.{Advert, Advertise, Body, JournalItemsHaveCauses, Item, MachineLinksKeep, Message, Setting, machine_advert_to, journal_adverts_begun, journal_adverts_heard, journal_body_to_switch, journal_receiver_boot_at, journal_boot_of, heard, is_up, near, journal_next_message, machine_advert_of_other, own_advert, send_items, sendings, machine_sent_items_from}
 use Rattle.failover.specs.Exports.{held_advert, is_newer}
 use Rattle.failover.proofs.FailoverNewestAdvert.{not_newer}
 use Rattle.base.specs.Exports.{has}
 use Rattle.update_machine.proofs.Exports.{links_keep}
 use Rattle.control_laws.proofs.Exports.{AreKept, boot_more, fact_on, heard_more, up_more}
-use Rattle.convergence_laws.specs.Exports.{IsAsNew}
+use Rattle.convergence_laws.specs.Exports.{IsConvergenceAdvertAsNew}
 use Rattle.convergence_laws.proofs.ConvergencePlainItems.{IsIn, in_either, in_filter_map, in_left, in_right, of_filter_map}
 use Rattle.convergence_laws.proofs.ConvergenceMessages.{delivered_grows, sendings_more, sent_by}
 
 -- ---- as new
 
-pub as_new_itself : (advert : Advert) → IsAsNew advert advert
+pub as_new_itself : (advert : Advert) → IsConvergenceAdvertAsNew advert advert
 as_new_itself advert = record { origin = refl; new = not_newer advert.boot advert.seq }
 
 new_through : (a b c : Advert) → is_newer b c ≡ false → is_newer a b ≡ false → is_newer a c ≡ false
 new_through a b c later first = grind (arith, nat_tests)
 
-pub as_new_through : (c b a : Advert) → IsAsNew c b → IsAsNew b a → IsAsNew c a
+pub as_new_through : (c b a : Advert) → IsConvergenceAdvertAsNew c b → IsConvergenceAdvertAsNew b a → IsConvergenceAdvertAsNew c a
 as_new_through c b a later first = search (rules, new_through)
 
 -- ---- what a switch has
@@ -35,14 +35,14 @@ pub record IsToldTo (since : ℕ) (journal : List Item) (s : ℕ) (advert : Adve
   pub late : since ≤ number
   pub is : IsIn (record {
     number = number;
-    message = advert_to s advert;
+    message = machine_advert_to s advert;
     boot = journal_boot_of journal s;
   }) (sendings journal)
 
 pub record HasNews (setting : Setting) (since : ℕ) (journal : List Item) (s : ℕ) (than : Advert)
     : Type 0 where
   pub advert : Advert
-  pub as_new : IsAsNew advert than
+  pub as_new : IsConvergenceAdvertAsNew advert than
   pub had : IsGiven setting journal s advert ⊎ IsToldTo since journal s advert
 
 -- an advert of another switch, that it was given
@@ -77,7 +77,7 @@ pub given_grows : (setting : Setting) (before after : List Item) (s : ℕ) (adve
     → IsGiven setting before s advert → IsGiven setting after s advert
 given_grows setting before after s advert up boot grows (inl begun) = search (rules, begun_same)
 given_grows setting before after s advert up boot grows (inr told) =
-    let found = of_filter_map (journal_other_advert s) advert (heard before s) told in
+    let found = of_filter_map (machine_advert_of_other s) advert (heard before s) told in
     inr (in_filter_map _ found.0 advert (heard after s) (grows found.0 found.1) found.2)
 
 pub told_on : {since : ℕ} (before : List Item) (next : Item) (s : ℕ) (advert : Advert)
@@ -88,7 +88,7 @@ told_on before next s advert boot told = record {
   late = told.late;
   is = subst (λ b. IsIn (record {
     number = told.number;
-    message = advert_to s advert;
+    message = machine_advert_to s advert;
     boot = b;
   }) (sendings (before ++ next ∷ []))) (sym boot)
       (rw (sendings_more before next) (in_left _ (sendings before) (sent_by before next) told.is));
@@ -226,7 +226,7 @@ delivered_news {since = since} setting here number have = record {
         (boot_more here next neighbour) (delivered_grows here number neighbour) has)
   ]
 
-  of_advert : (s : ℕ) (body : Body) (advert : Advert) → journal_other_advert s body ≡ Some advert
+  of_advert : (s : ℕ) (body : Body) (advert : Advert) → machine_advert_of_other s body ≡ Some advert
       → body ≡ Advertise advert
   of_advert s (Advertise told) advert is = by_test (told.origin == s) is where
     by_test : (b : Bool) → (if b then None else Some told) ≡ Some advert
@@ -237,21 +237,21 @@ delivered_news {since = since} setting here number have = record {
 
   by_said : (s neighbour : ℕ) (advert : Advert) → IsTrue (has (near setting here s) neighbour)
       → advert.origin ≢ neighbour → advert.origin ≢ s → advert.origin < 64 → (body : Body)
-      → journal_other_advert s body ≡ Some advert → (o : Option Body) → journal_body_to_switch here s number ≡ o
+      → machine_advert_of_other s body ≡ Some advert → (o : Option Body) → journal_body_to_switch here s number ≡ o
       → IsIn body (option_map_or (λ b. heard here s ++ b ∷ []) o (heard here s))
       → IsDelivered here number s advert ⊎ HasNews setting since now neighbour advert
   by_said s neighbour advert linked other apart small body is None e was =
       old s neighbour advert linked other (inr (record {
         other = apart;
         small = small;
-        given = inr (in_filter_map (journal_other_advert s) body advert (heard here s) was is);
+        given = inr (in_filter_map (machine_advert_of_other s) body advert (heard here s) was is);
       }))
   by_said s neighbour advert linked other apart small body is (Some b) e was =
       elim (in_either body (heard here s) (b ∷ []) was) [
         | inl earlier ↦ old s neighbour advert linked other (inr (record {
           other = apart;
           small = small;
-          given = inr (in_filter_map (journal_other_advert s) body advert (heard here s) earlier is);
+          given = inr (in_filter_map (machine_advert_of_other s) body advert (heard here s) earlier is);
         }))
         | inr last ↦ elim last [
           | inl same ↦ inl (record {
@@ -277,7 +277,7 @@ delivered_news {since = since} setting here number have = record {
       given = inl (ap (λ adverts. held_advert adverts advert.origin)
           (sym (begun_same setting _ now s (up_more here next s) (boot_more here next s))) ∙ begun);
     }))
-    by_given (inr told) = let found = of_filter_map (journal_other_advert s) advert (heard now s) told in
+    by_given (inr told) = let found = of_filter_map (machine_advert_of_other s) advert (heard now s) told in
         by_said s neighbour advert linked other of.other of.small found.0 found.2
         (journal_body_to_switch here s number) refl
         (subst (λ bodies. IsIn found.0 bodies) (heard_more here next s) found.1)
@@ -301,7 +301,7 @@ told_items {since = since} journal n (message ∷ messages) s advert told =
 
 told_now : {since : ℕ} (journal : List Item) (n : ℕ) (messages : List Message) (s : ℕ)
     (advert : Advert) → since ≤ n
-    → IsIn (advert_to s advert) messages → IsToldTo since (journal ++ machine_sent_items_from n messages) s advert
+    → IsIn (machine_advert_to s advert) messages → IsToldTo since (journal ++ machine_sent_items_from n messages) s advert
 unfolding machine_sent_items_from
 told_now journal n [] s advert late is = absurd is
 told_now {since = since} journal n (message ∷ messages) s advert late is =
@@ -319,13 +319,13 @@ told_now {since = since} journal n (message ∷ messages) s advert late is =
               message = m;
               boot = journal_receiver_boot_at journal m.to;
             }) here
-            ∙ ap (λ b. record { number = n; message = advert_to s advert; boot = b })
+            ∙ ap (λ b. record { number = n; message = machine_advert_to s advert; boot = b })
             (sym (boot_sent journal n message s)))));
       })
       | inr later ↦ told_now now (n + 1) messages s advert (omega (arith, late)) later
     ])
 
 pub sends_tell : {since : ℕ} (journal : List Item) (messages : List Message) (s : ℕ)
-    (advert : Advert) → since ≤ journal_next_message journal → IsIn (advert_to s advert) messages
+    (advert : Advert) → since ≤ journal_next_message journal → IsIn (machine_advert_to s advert) messages
     → IsToldTo since (journal ++ send_items journal messages) s advert
 sends_tell journal messages s advert late is = search (rules, told_now)

@@ -1,15 +1,15 @@
 -- Where adverts have spread, and each switch was given what it was told, neighbours agree.
 use Rattle.std.proofs.Common.{[], ◌++◌, ◌<◌, ◌∙◌, ◌∷◌, ◌≡◌, ◌≢◌, ◌≤◌, ◌⊎◌, IsFalse, IsTrue, List, None, Some, ap, arith, false, inl, inr, not, refl, subst, sym, true, ℕ, rules}
 use Rattle.base.proofs.Exports.{All-from_recursion, cases_eq, nat_tests}
-use Rattle.failover.specs.Exports.{first_advert, has_link, is_newer, no_links, with_link}
-use Rattle.update_machine.specs.Exports.{Advert, JournalItemsHaveCauses, Hello, Item, Setting, journal_advert_known, journal_boot_of, journal_current_mark, is_deliverable, is_forgotten_in_journal, is_link_up_in_journal, is_up, message_of, near, next_waiting, own_advert, journal_own_seq, serves, journal_version_count, was_delivered}
+use Rattle.failover.specs.Exports.{first_advert, has_route_link, is_newer, no_links, with_link}
+use Rattle.update_machine.specs.Exports.{Advert, JournalItemsHaveCauses, Hello, Item, Setting, journal_advert_known, journal_boot_of, journal_current_mark, is_deliverable, is_forgotten_in_journal, is_link_up_in_journal, is_up, journal_message_of, near, next_waiting, own_advert, journal_own_seq, serves, journal_version_count, was_delivered}
 use Rattle.base.specs.Exports.{has, small_number_mask, number_set_where, switches}
 use Rattle.net_file.specs.Exports.{IsNet}
 use Rattle.steps.specs.Exports.{HasSwitch}
 use Rattle.update_machine.proofs.Exports.{known_link_laws, open_net, ring, start_laws}
 use Rattle.control_laws.proofs.Exports.{AreKept, HasBothCauses, IsKnown, boot_more, ends_serve, fact_on, known_at_first, known_kept, own_on, own_origin, own_told, same_near, same_seq, turns}
 use Rattle.control_laws.specs.Exports.{OwnAdvertsAreNewest}
-use Rattle.convergence_laws.specs.Exports.{AreUnusableLinks, HoldsAsNew, IsAsNew, IsNetworkFinished, HasConvergedOnVersion, LeadsOverUsableNeighbours, NeighboursAgree, Reaches}
+use Rattle.convergence_laws.specs.Exports.{AreConvergenceUnusableLinks, HoldsConvergingNews, IsConvergenceAdvertAsNew, IsNetworkFinished, IsNetworkUpdateConverged, ConvergenceLeadsOverUsableNeighbours, NeighboursAgree, Reaches}
 use Rattle.convergence_laws.proofs.ConvergenceLinkChanges.{AreEnds, ends_there, near_both, newest_held, own_held, serving_turns}
 use Rattle.convergence_laws.proofs.ConvergenceFloods.{known_given}
 use Rattle.convergence_laws.proofs.ConvergenceAdverts.{HasNews, IsGiven, IsHad, IsToldTo, as_new_itself, as_new_through}
@@ -63,7 +63,7 @@ older_own own a h2 = search (rules, nat_tests, as_new_itself)
 
 -- of what it was given it holds what is as new
 given_held : (setting : Setting) (journal : List Item) (s : ℕ) (b a : Advert) → a.origin ≢ s
-    → a.origin < 64 → IsAsNew b a → IsGiven setting journal s b → HoldsAsNew setting journal s a
+    → a.origin < 64 → IsConvergenceAdvertAsNew b a → IsGiven setting journal s b → HoldsConvergingNews setting journal s a
 given_held setting journal s b a apart small as_new given =
     let of = as_new.origin in
     let best = newest_held setting journal s b (record {
@@ -86,7 +86,7 @@ pub record AreSpread (setting : Setting) (since : ℕ) (journal : List Item) : T
 -- an advert of another switch that is as new was told to the switch
 pub record IsToldAsNew (since : ℕ) (journal : List Item) (s : ℕ) (than : Advert) : Type 0 where
   pub advert : Advert
-  pub as_new : IsAsNew advert than
+  pub as_new : IsConvergenceAdvertAsNew advert than
   pub told : IsToldTo since journal s advert
   pub other : advert.origin ≢ s
   pub small : than.origin < 64
@@ -94,7 +94,7 @@ pub record IsToldAsNew (since : ℕ) (journal : List Item) (s : ℕ) (than : Adv
 pub spread_cases : {since : ℕ} (setting : Setting) (journal : List Item)
     → AreSpread setting since journal → (s neighbour origin : ℕ) (a : Advert) → IsTrue (has (near setting journal s) neighbour)
     → origin < 64 → journal_advert_known setting journal s origin ≡ Some a
-    → HoldsAsNew setting journal neighbour a ⊎ IsToldAsNew since journal neighbour a
+    → HoldsConvergingNews setting journal neighbour a ⊎ IsToldAsNew since journal neighbour a
 spread_cases {since = since} setting journal are s neighbour origin a linked small known =
     by_place (cases_eq a.origin neighbour)
   where
@@ -119,7 +119,7 @@ spread_cases {since = since} setting journal are s neighbour origin a linked sma
           })
 
     -- of itself a neighbour holds the newest
-    of_itself : a.origin ≡ neighbour → HoldsAsNew setting journal neighbour a
+    of_itself : a.origin ≡ neighbour → HoldsConvergingNews setting journal neighbour a
     of_itself same =
         let fits : neighbour < 64 = omega (arith, ends.other, are.net.few_switches) in
         let back = near_both setting journal s neighbour s_small linked in
@@ -144,7 +144,7 @@ spread_cases {since = since} setting journal are s neighbour origin a linked sma
     by_had : a.origin ≢ neighbour → (news : HasNews setting since journal neighbour a)
         → IsGiven setting journal neighbour news.advert
         ⊎ IsToldTo since journal neighbour news.advert
-        → HoldsAsNew setting journal neighbour a ⊎ IsToldAsNew since journal neighbour a
+        → HoldsConvergingNews setting journal neighbour a ⊎ IsToldAsNew since journal neighbour a
     by_had apart news (inl given) = inl (given_held _ _ _ _ a apart (a_small had) news.as_new given)
     by_had apart news (inr told) = inr (record {
       advert = news.advert;
@@ -155,7 +155,7 @@ spread_cases {since = since} setting journal are s neighbour origin a linked sma
     })
 
     by_place : (a.origin ≡ neighbour) ⊎ (a.origin ≢ neighbour)
-        → HoldsAsNew setting journal neighbour a ⊎ IsToldAsNew since journal neighbour a
+        → HoldsConvergingNews setting journal neighbour a ⊎ IsToldAsNew since journal neighbour a
     by_place (inl same) = inl (of_itself same)
     by_place (inr apart) = elim (are.spread.each s neighbour a linked had apart) [
       | inl none ↦ absurd none
@@ -168,7 +168,7 @@ spread_cases {since = since} setting journal are s neighbour origin a linked sma
 pub record IsGivenNew (setting : Setting) (journal : List Item) (s : ℕ) (than : Advert)
     : Type 0 where
   pub advert : Advert
-  pub as_new : IsAsNew advert than
+  pub as_new : IsConvergenceAdvertAsNew advert than
   pub given : IsGiven setting journal s advert
 
 -- where each switch was given what it was told, or what is as new, neighbours agree
@@ -203,28 +203,28 @@ around_b : Reaches ring (Item.Down 1 ∷ []) 0 3
 unfolding near is_link_up_in_journal serves small_number_mask number_set_where switches has
 around_b = record { rest = 2 ∷ 3 ∷ []; leads = (refl, (refl, refl)) }
 
-not_by_b : LeadsOverUsableNeighbours ring (Item.Down 1 ∷ []) 3 0 (1 ∷ 3 ∷ []) → ⊥
+not_by_b : ConvergenceLeadsOverUsableNeighbours ring (Item.Down 1 ∷ []) 3 0 (1 ∷ 3 ∷ []) → ⊥
 unfolding near is_link_up_in_journal serves small_number_mask number_set_where switches has
 not_by_b leads = let no : false ≡ true = leads.0 in absurd cc
 
 -- a usable link isn't among those that aren't
-not_unusable : AreUnusableLinks ring [] (with_link no_links 0 1) → ⊥
-unfolding near is_link_up_in_journal serves small_number_mask number_set_where switches has has_link with_link
+not_unusable : AreConvergenceUnusableLinks ring [] (with_link no_links 0 1) → ⊥
+unfolding near is_link_up_in_journal serves small_number_mask number_set_where switches has has_route_link with_link
 not_unusable all = let no : true ≡ false = all 0 1 refl in absurd cc
 
 -- ---- adverts
 
 -- an advert is as new as itself, and as an older one, but not as a newer one or another's
-itself : IsAsNew (first_advert 1 2) (first_advert 1 2)
+itself : IsConvergenceAdvertAsNew (first_advert 1 2) (first_advert 1 2)
 itself = record { origin = refl; new = refl }
 
-as_older : IsAsNew (record { origin = 1; boot = 2; seq = 1; up = 0 }) (first_advert 1 2)
+as_older : IsConvergenceAdvertAsNew (record { origin = 1; boot = 2; seq = 1; up = 0 }) (first_advert 1 2)
 as_older = record { origin = refl; new = refl }
 
-not_as_newer : IsAsNew (first_advert 1 2) (record { origin = 1; boot = 1; seq = 2; up = 0 }) → ⊥
+not_as_newer : IsConvergenceAdvertAsNew (first_advert 1 2) (record { origin = 1; boot = 1; seq = 2; up = 0 }) → ⊥
 not_as_newer as_new = let no : true ≡ false = as_new.new in absurd cc
 
-not_as_another : IsAsNew (first_advert 1 2) (first_advert 0 2) → ⊥
+not_as_another : IsConvergenceAdvertAsNew (first_advert 1 2) (first_advert 0 2) → ⊥
 not_as_another as_new = absurd (omega (arith, as_new.origin))
 
 -- ---- nothing is left to do
@@ -236,7 +236,7 @@ some_none : (n : ℕ) → Some n ≡ None → ⊥
 some_none n clash = cc
 
 not_while_one_waits : IsNetworkFinished open_net (Item.Sent 1 (to_controller (Hello 0 1)) ∷ []) → ⊥
-unfolding next_waiting is_deliverable message_of is_forgotten_in_journal was_delivered
+unfolding next_waiting is_deliverable journal_message_of is_forgotten_in_journal was_delivered
 not_while_one_waits finished = absurd (some_none 1 finished.waiting)
 
 not_where_one_is_lost : IsNetworkFinished open_net
@@ -246,9 +246,9 @@ not_where_one_is_lost finished = let no : true ≡ false = finished.forgotten 1 
 
 -- ---- updates
 
-updated_at_first : HasConvergedOnVersion open_net []
+updated_at_first : IsNetworkUpdateConverged open_net []
 updated_at_first = search (rules, All-from_recursion, start_laws)
 
-not_while_one_waits_for_it : HasConvergedOnVersion open_net (Item.Submitted 2 2 ∷ []) → ⊥
+not_while_one_waits_for_it : IsNetworkUpdateConverged open_net (Item.Submitted 2 2 ∷ []) → ⊥
 unfolding journal_current_mark journal_version_count
 not_while_one_waits_for_it is = absurd (omega (arith, is.current))

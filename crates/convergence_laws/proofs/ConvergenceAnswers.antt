@@ -2,7 +2,7 @@
 -- controller of that boot.
 use Rattle.std.proofs.Common.{[], if◌then◌else◌, ◌++◌, ◌+◌, ◌==◌, ◌∙◌, ◌∷◌, ◌≡◌, ◌⊎◌, Bool, IfSome, IsFalse, IsTrue, List, None, Option, Some, ap, append-nil, append_assoc, arith, eq-eqb, eqb-true, false, inl, inr, refl, subst, sym, true, unwrap_or, ℕ, rules}
 use Rattle.base.proofs.Exports.{IfSome_then, nat_tests, option_map_or}
-use Rattle.update_machine.specs.Exports.{Body, Deliver, Hello, Install, Installed, Item, OpenAt, Restart, Setting, Stamp, Stamped, Step, journal_body_to_switch, journal_boot_of, deliver_items, machine_delivery_items, heard, machine_hello_of, is_up, journal_items_then, journal_link_changes, message_of, nothing, piece, restart_items, send_items, serves, journal_stamp_of, step_items, journal_switch_items, machine_message_to_switch}
+use Rattle.update_machine.specs.Exports.{Body, Deliver, Hello, Install, Installed, Item, OpenAt, Restart, Setting, Stamp, Stamped, Step, journal_body_to_switch, journal_boot_of, deliver_items, machine_delivery_items, heard, machine_hello_of, is_up, journal_items_then, journal_link_changes, journal_message_of, nothing, piece, restart_items, send_items, serves, journal_stamp_of, machine_step_items, journal_switch_items, machine_message_to_switch}
 use Rattle.ctrl_msg.specs.Exports.{to_controller}
 use Rattle.update_machine.proofs.Exports.{start_laws}
 use Rattle.control_laws.proofs.Exports.{AreKept, IsTraffic, behind_piece, boot_more, deliver_cases, fact_on, heard_more, is_delivered, links_traffic, restart_cases, said_parts, said_row, serving_more, up_more}
@@ -207,7 +207,7 @@ switch_answers setting before s _ now same = tt
 
 -- what is sent to a switch is answered in the step, if it is said
 pub sent_items : (setting : Setting) (before : List Item) (number s : ℕ) (body : Body)
-    (now : List Item) → message_of before number ≡ Some (machine_message_to_switch s body) → (said : Option Body)
+    (now : List Item) → journal_message_of before number ≡ Some (machine_message_to_switch s body) → (said : Option Body)
     → journal_body_to_switch before s number ≡ said → machine_delivery_items setting before number now ≡ elim said [
       | None ↦ []
       | Some told ↦ journal_switch_items setting before s told now
@@ -289,7 +289,7 @@ restart_spoken s here spoken =
 
 step_spoken : (setting : Setting) (before : List Item) (row : ℕ) (step : Step) (b : Bool)
     → is_plain step ≡ b → let here = before ++ Item.Row row step ∷ [] in HaveSpoken here
-    → HaveSpoken (here ++ step_items setting before step here)
+    → HaveSpoken (here ++ machine_step_items setting before step here)
 step_spoken setting before row step true is = λ spoken. spoken_stay _ _
     (step_plain setting before step (before ++ Item.Row row step ∷ []) is) spoken
 step_spoken setting before row (Deliver number) false is = deliver_spoken setting before row number

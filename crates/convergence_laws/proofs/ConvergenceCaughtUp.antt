@@ -1,10 +1,10 @@
 -- Where the controller knows of each switch that is up what it needs, every update has ended.
 use Rattle.std.proofs.Common.{[], ◌&&◌, ◌-◌, ◌<◌, ◌||◌, ◌∙◌, ◌∷◌, ◌≡◌, ◌≤◌, All, Bool, IsFalse, IsTrue, List, ap, arith, false, fold, inl, inr, is_some, length, min, not, refl, sym, true, unwrap_or, ℕ, rules}
 use Rattle.base.proofs.Exports.{All-from_recursion, AllByRecursion, each_map, list_all}
-use Rattle.update_machine.specs.Exports.{AreMachineMarksSettled, JournalItemsHaveCauses, Item, Setting, acked_stamp, journal_boot_of, journal_current_mark, has_acked, is_joining, is_member, is_over, is_up, is_waited_for, journal_known_boot, machine_least_number, members, journal_next_retired, journal_retired_mark, serves, journal_stamp_of, switches_of, journal_version_count}
-use Rattle.control_laws.specs.Exports.{HasControlItemCause, MarksAreBounded, MembersAcknowledged}
+use Rattle.update_machine.specs.Exports.{AreMachineMarksSettled, JournalItemsHaveCauses, Item, Setting, acked_stamp, journal_boot_of, journal_current_mark, has_acked, is_joining, is_member, is_over, is_up, is_waited_for, journal_known_boot, machine_least_number, members, journal_next_retired, journal_retired_mark, serves, journal_stamp_of, setting_switches_of, journal_version_count}
+use Rattle.control_laws.specs.Exports.{HasControlItemCause, ControlMarksAreBounded, ControlMembersAcknowledged}
 use Rattle.control_laws.proofs.Exports.{acknowledged, each_range, have_weaker, member_parts}
-use Rattle.convergence_laws.specs.Exports.{HasConvergedOnVersion}
+use Rattle.convergence_laws.specs.Exports.{IsNetworkUpdateConverged}
 use Rattle.convergence_laws.proofs.ConvergenceAnswers.{HaveSpoken}
 use Rattle.convergence_laws.proofs.ConvergenceDownSwitches.{AreRecorded}
 use Rattle.convergence_laws.proofs.ConvergenceTables.{AllInstalled}
@@ -33,7 +33,7 @@ all_true test (x ∷ xs) all = rw (all x (inl refl)) (all_true test xs (λ y is.
 pub record AreReady (setting : Setting) (journal : List Item) : Type 0 where
   pub causes : JournalItemsHaveCauses (IsInOrder setting) [] journal
   pub recorded : AreRecorded journal
-  pub bounds : MarksAreBounded setting journal
+  pub bounds : ControlMarksAreBounded setting journal
   pub settled : AreMachineMarksSettled setting journal
   pub spoken : HaveSpoken journal
   pub installs : AllInstalled setting journal
@@ -50,7 +50,7 @@ items_caused setting journal have = search (rules, have_weaker)
 -- stamp with the current version
 pub record IsCaughtUp (setting : Setting) (journal : List Item) : Type 0 where
   pub switches : All (λ s. IsTrue (is_up journal s || not (is_waited_for journal s)))
-      (switches_of setting)
+      (setting_switches_of setting)
   pub known : (s : ℕ) → s < length setting.net.switches → IsTrue (is_up journal s)
       → journal_known_boot journal s ≡ journal_boot_of journal s
   pub acked : (s version : ℕ) → s < length setting.net.switches → IsTrue (is_up journal s)
@@ -68,7 +68,7 @@ member_up : (setting : Setting) (journal : List Item) → AreReady setting journ
     → IsCaughtUp setting journal → (s : ℕ) → s < length setting.net.switches
     → IsTrue (is_member journal s) → IsTrue (is_up journal s)
 member_up setting journal are caught s there member = by_up (is_up journal s) refl
-    (all_in (λ t. IsTrue (is_up journal t || not (is_waited_for journal t))) s (switches_of setting)
+    (all_in (λ t. IsTrue (is_up journal t || not (is_waited_for journal t))) s (setting_switches_of setting)
     caught.switches (in_range s 0 (length setting.net.switches) (omega arith) (omega arith)))
   where
     not_true : (b : Bool) → IsTrue (not b) → IsFalse b
@@ -106,7 +106,7 @@ up_member setting journal are caught s there up = by_member (is_member journal s
       let not_over : is_over journal s ≡ false =
       (are.recorded.known.serving s).not_over up (caught.known s there up) in
       let none = all_in (λ t. IsTrue (is_joining journal t)
-      → IsFalse (has_acked journal t (journal_current_mark journal))) s (switches_of setting)
+      → IsFalse (has_acked journal t (journal_current_mark journal))) s (setting_switches_of setting)
       are.settled.joining (in_range s 0 (length setting.net.switches) (omega arith) (omega arith))
       (joins (is_over journal s) (is_member journal s) not_over e) in
       absurd (cc (sym none ∙ (caught.acked s (journal_current_mark journal) there up (omega arith)
@@ -120,9 +120,9 @@ unfolding journal_next_retired
 retired_is setting journal are caught = are.settled.retired ∙ ap (λ n. n - 1)
     (least_same (journal_current_mark journal) _ (each_map (λ x. x ≡ journal_current_mark journal)
     (acked_stamp journal) (members setting journal) (each_of_in _ (members setting journal)
-    (λ s is. of_member s (of_filter (is_member journal) s (switches_of setting) is)))))
+    (λ s is. of_member s (of_filter (is_member journal) s (setting_switches_of setting) is)))))
   where
-    of_member : (s : ℕ) → IsIn s (switches_of setting) × IsTrue (is_member journal s)
+    of_member : (s : ℕ) → IsIn s (setting_switches_of setting) × IsTrue (is_member journal s)
         → acked_stamp journal s ≡ journal_current_mark journal
     of_member s parts =
         let there : s < length setting.net.switches = omega (arith, (of_range s 0 _ parts.0).1) in
@@ -132,13 +132,13 @@ retired_is setting journal are caught = are.settled.retired ∙ ap (λ n. n - 1)
 -- ---- together
 
 pub caught_updated : (setting : Setting) (journal : List Item) → AreReady setting journal
-    → IsCaughtUp setting journal → HasConvergedOnVersion setting journal
+    → IsCaughtUp setting journal → IsNetworkUpdateConverged setting journal
 caught_updated setting journal are caught = record {
   serving = All-from_recursion (λ s. IsTrue (is_up journal s) → IsTrue (serves journal s))
-      (switches_of setting) (each_range (λ s. IsTrue (is_up journal s) → IsTrue (serves journal s))
+      (setting_switches_of setting) (each_range (λ s. IsTrue (is_up journal s) → IsTrue (serves journal s))
       0 (length setting.net.switches) (λ s above below. up_serves s (omega (arith, below))));
   stamps = All-from_recursion (λ s. IsTrue (is_up journal s)
-      → journal_stamp_of journal s ≡ journal_version_count journal) (switches_of setting)
+      → journal_stamp_of journal s ≡ journal_version_count journal) (setting_switches_of setting)
       (each_range _ 0 (length setting.net.switches)
       (λ s above below up. let there : s < length setting.net.switches = omega (arith, below) in
       let known = caught.stamps s there up (up_member setting journal are caught s there up) in
@@ -149,7 +149,7 @@ caught_updated setting journal are caught = record {
   current : journal_current_mark journal ≡ journal_version_count journal
   current = current_is setting journal are caught
 
-  members : MembersAcknowledged setting journal
+  members : ControlMembersAcknowledged setting journal
   members = acknowledged setting journal (items_caused setting journal are.causes)
 
   up_serves : (s : ℕ) → s < length setting.net.switches → IsTrue (is_up journal s)

@@ -2,7 +2,7 @@
 -- over, nothing is known in its known boot; and where openings and acknowledgements come from.
 use Rattle.std.proofs.Common.{[], if◌then◌else◌, ◌++◌, ◌==◌, ◌∙◌, ◌∷◌, ◌≡◌, ◌≤◌, ◌⊎◌, Bool, IsFalse, IsTrue, List, None, Option, Some, ap, arith, eqb-true, false, filter_map, inl, inr, nat_eq, option_to_list, refl, subst, sym, true, unwrap_or, ℕ, rules}
 use Rattle.base.proofs.Exports.{list_any, option_or}
-use Rattle.update_machine.specs.Exports.{Body, Installed, Item, Message, OpenAt, Sending, Setting, journal_all_given, journal_body_to_controller, journal_boot_of, controller_heard, machine_first_open, gives_waited_for, has_acked, heard, journal_installed_in_body, installs_version, is_over, is_up, is_waited_for, journal_known_boot, message_of, machine_open_sent, opened_at, journal_raises_known_boot, serves, machine_message_to_switch}
+use Rattle.update_machine.specs.Exports.{Body, Installed, Item, Message, OpenAt, Sending, Setting, journal_all_given, journal_body_to_controller, journal_boot_of, journal_controller_heard, machine_first_open, gives_journal_waited_for, has_acked, heard, machine_installed_version, installs_version, is_over, is_up, is_waited_for, journal_known_boot, journal_message_of, machine_open_sent, journal_opened_at, journal_raises_known_boot, serves, machine_message_to_switch}
 use Rattle.ctrl_msg.specs.Exports.{to_controller}
 use Rattle.update_machine.proofs.Exports.{start_laws}
 use Rattle.control_laws.specs.Exports.{HasControlItemCause}
@@ -40,9 +40,9 @@ pub record AreRecorded (journal : List Item) : Type 0 where
   pub known : IsKnown journal
   pub current : StampsAreCurrent journal
   -- messages were sent, and so was what the controller heard
-  pub messages : (n : ℕ) (message : Message) → message_of journal n ≡ Some message
+  pub messages : (n : ℕ) (message : Message) → journal_message_of journal n ≡ Some message
       → IsSent journal message
-  pub told : (body : Body) → IsIn body (controller_heard journal)
+  pub told : (body : Body) → IsIn body (journal_controller_heard journal)
       → IsSent journal (to_controller body)
   -- a switch was opened by a message, except in its first boot
   pub openings : (s boot version : ℕ) → opened_in journal s boot ≡ Some version
@@ -56,14 +56,14 @@ pub record AreRecorded (journal : List Item) : Type 0 where
   pub first : (s : ℕ) → IsTrue (is_up journal s) → journal_boot_of journal s ≡ 1 → IsTrue (serves journal s)
   pub boots : (s : ℕ) → 1 ≤ journal_boot_of journal s
   -- an idle switch was neither opened in its known boot, nor has it acknowledged any tables
-  pub closed : (s : ℕ) → IsIdle journal s → opened_at journal s ≡ None
+  pub closed : (s : ℕ) → IsIdle journal s → journal_opened_at journal s ≡ None
   pub silent : (s version : ℕ) → IsIdle journal s
       → IsSent journal (to_controller (Installed s (journal_known_boot journal s) version)) → ⊥
 
 -- ---- items keep them
 
 messages_on : (setting : Setting) (before : List Item) (next : Item) → AreRecorded before
-    → (n : ℕ) (message : Message) → message_of (before ++ next ∷ []) n ≡ Some message
+    → (n : ℕ) (message : Message) → journal_message_of (before ++ next ∷ []) n ≡ Some message
     → IsSent (before ++ next ∷ []) message
 messages_on setting before next are n message is = elim (by_number before next n message is) [
   | inl new ↦ subst (λ x. IsSent (before ++ x ∷ []) message) (sym new) (sent_now before n message)
@@ -71,7 +71,7 @@ messages_on setting before next are n message is = elim (by_number before next n
 ]
 
 told_on : (setting : Setting) (before : List Item) (next : Item) → AreRecorded before
-    → (body : Body) → IsIn body (controller_heard (before ++ next ∷ []))
+    → (body : Body) → IsIn body (journal_controller_heard (before ++ next ∷ []))
     → IsSent (before ++ next ∷ []) (to_controller body)
 told_on setting before (Item.Delivered number) are body is = by_said _ refl
     (rw (told_more before (Item.Delivered number)) at is)
@@ -79,13 +79,13 @@ told_on setting before (Item.Delivered number) are body is = by_said _ refl
     next : Item
     next = Item.Delivered number
 
-    old : IsIn body (controller_heard before) → IsSent (before ++ next ∷ []) (to_controller body)
+    old : IsIn body (journal_controller_heard before) → IsSent (before ++ next ∷ []) (to_controller body)
     old is = sent_stays before next (to_controller body) (are.told body is)
 
     by_said : (o : Option Body) → journal_body_to_controller before number ≡ o
-        → IsIn body (controller_heard before ++ option_to_list o)
+        → IsIn body (journal_controller_heard before ++ option_to_list o)
         → IsSent (before ++ next ∷ []) (to_controller body)
-    by_said o e is = elim (in_either body (controller_heard before) (option_to_list o) is) [
+    by_said o e is = elim (in_either body (journal_controller_heard before) (option_to_list o) is) [
       | inl earlier ↦ old earlier
       | inr now ↦ by_now o e now
     ] where
@@ -139,8 +139,8 @@ first_on setting before next cause are s up first = search (rules, boot_more, se
 -- ---- idle switches
 
 pub waited_more : (before : List Item) (next : Item) (s : ℕ) → is_waited_for (before ++ next ∷ []) s
-    ≡ unwrap_or (gives_waited_for s next) (is_waited_for before s)
-waited_more before next s = last_more (gives_waited_for s) before next false
+    ≡ unwrap_or (gives_journal_waited_for s next) (is_waited_for before s)
+waited_more before next s = last_more (gives_journal_waited_for s) before next false
 
 idle_was : (before : List Item) (next : Item) (s : ℕ) → IsFalse (is_delivered next)
     → IsIdle (before ++ next ∷ []) s → IsIdle before s
@@ -175,10 +175,10 @@ any_told reads v (body ∷ bodies) any = search (rules, eqb-true, any_told reads
 
 -- an acknowledgement that is known was sent, but of the first boot
 acked_sent : (journal : List Item) (s version : ℕ)
-    → ((body : Body) → IsIn body (controller_heard journal) → IsSent journal (to_controller body))
-    → opened_at journal s ≡ None → IsTrue (has_acked journal s version)
+    → ((body : Body) → IsIn body (journal_controller_heard journal) → IsSent journal (to_controller body))
+    → journal_opened_at journal s ≡ None → IsTrue (has_acked journal s version)
     → IsSent journal (to_controller (Installed s (journal_known_boot journal s) version))
-unfolding has_acked opened_at
+unfolding has_acked journal_opened_at
 acked_sent journal s version told closed any = by_first (journal_known_boot journal s == 1) closed any where
   boot : ℕ
   boot = journal_known_boot journal s
@@ -186,17 +186,17 @@ acked_sent journal s version told closed any = by_first (journal_known_boot jour
   by_first : (b : Bool)
       → (if b then Some 1 else machine_first_open (journal_all_given (machine_open_sent s boot) journal)) ≡ None
       → IsTrue (list_any (nat_eq version) ((if b then 1 ∷ [] else [])
-      ++ filter_map (journal_installed_in_body s boot) (controller_heard journal)))
+      ++ filter_map (machine_installed_version s boot) (journal_controller_heard journal)))
       → IsSent journal (to_controller (Installed s boot version))
   by_first true closed any = absurd cc
   by_first false closed any =
-      let found = any_told (journal_installed_in_body s boot) version (controller_heard journal) any in
+      let found = any_told (machine_installed_version s boot) version (journal_controller_heard journal) any in
       subst (λ body. IsSent journal (to_controller body))
       (installed_is s boot found.0 version found.2) (told found.0 found.1)
 
 closed_on : (setting : Setting) (before : List Item) (next : Item)
     → HasControlItemCause setting before next → AreRecorded before → (s : ℕ)
-    → IsIdle (before ++ next ∷ []) s → opened_at (before ++ next ∷ []) s ≡ None
+    → IsIdle (before ++ next ∷ []) s → journal_opened_at (before ++ next ∷ []) s ≡ None
 closed_on setting before (Item.Delivered number) cause are s idle =
     search (rules, raised_none, opened_same, unraised_same, idle_delivered)
 closed_on setting before (Item.Sent n message) cause are s idle =
@@ -212,7 +212,7 @@ closed_on setting before (Item.Sent n message) cause are s idle =
     was : IsIdle before s
     was = idle_was before next s refl idle
 
-    closed : opened_at before s ≡ None
+    closed : journal_opened_at before s ≡ None
     closed = are.closed s was
 
     by_new : (o : Option ℕ) → machine_first_open (machine_open_sent s boot next) ≡ o
@@ -286,7 +286,7 @@ not_idle : (s : ℕ) → IsIdle [] s → ⊥
 not_idle s idle = let clash : true ≡ false = sym (start_laws.up s) ∙ idle.down in absurd cc
 
 recorded_at_first : AreRecorded []
-unfolding controller_heard opened_in
+unfolding journal_controller_heard opened_in
 recorded_at_first = search (rules, known_at_first, start_laws, none_sent, not_idle, eqb-true)
 
 pub caused_recorded : FromCauses (λ setting. AreRecorded)

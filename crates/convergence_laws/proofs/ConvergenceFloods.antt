@@ -2,14 +2,14 @@
 -- or the neighbour has it or what is as new.
 use Rattle.std.proofs.Common.{[], ◌&&◌, ◌++◌, ◌<◌, ◌==◌, ◌∙◌, ◌∷◌, ◌≡◌, ◌≢◌, ◌≤◌, ◌⊎◌, Bool, IsFalse, IsTrue, List, None, Option, Some, ap, append-nil, append_assoc, arith, false, inl, inr, length, map, not, option_to_list, refl, subst, sym, true, ℕ, rules}
 use Rattle.base.proofs.Exports.{get_or-map-range_with_len, nat_tests, option_map_or}
-use Rattle.update_machine.specs.Exports.{Advert, Advertise, Body, Confirm, Crash, Deliver, JournalItemsHaveCauses, Item, LinkDown, LinkUp, Message, OpenAt, Packet, Place, Resend, Restart, Setting, Step, StepOfRow, Update, journal_advert_known, advert_to, journal_adverts_begun, journal_adverts_heard, journal_adverts_known, journal_after_steps, journal_body_to_switch, deliver_items, machine_delivery_items, is_journal_news_to, is_to_controller, journal_items_then, journal_link_changes, message_of, near, journal_next_message, journal_next_packet, nothing, own_advert, machine_advert_passed_on, piece, send_items, serves, journal_stamp_of, step_items, journal_switch_items, setting_switches_in, switches_of, machine_message_to_switch}
+use Rattle.update_machine.specs.Exports.{Advert, Advertise, Body, Confirm, Crash, Deliver, JournalItemsHaveCauses, Item, LinkDown, LinkUp, Message, OpenAt, Packet, Place, Resend, Restart, Setting, Step, StepOfRow, Update, journal_advert_known, machine_advert_to, journal_adverts_begun, journal_adverts_heard, journal_adverts_known, journal_after_steps, journal_body_to_switch, deliver_items, machine_delivery_items, is_journal_news_to, is_to_controller, journal_items_then, journal_link_changes, journal_message_of, near, journal_next_message, journal_next_packet, nothing, own_advert, machine_advert_passed_on, piece, send_items, serves, journal_stamp_of, machine_step_items, journal_switch_items, setting_switches_in, setting_switches_of, machine_message_to_switch}
 use Rattle.failover.specs.Exports.{IsNewestAdvert, first_adverts, held_advert, is_newer, is_news}
 use Rattle.failover.proofs.FailoverHeldAdverts.{held-first}
 use Rattle.base.specs.Exports.{has}
 use Rattle.net_file.specs.Exports.{IsNet, links_of}
 use Rattle.update_machine.proofs.Exports.{have_append, links_keep, near_stays, start_laws}
 use Rattle.control_laws.proofs.Exports.{Has, IsKnown, behind_piece, boot_more, confirm_control, controller_control, deliver_cases, delivered_first, heard_more, is_newest, known_kept, own_origin, packet_works, resends_any, row_first, said_have, said_parts, said_row, step_work, switch_cases, up_more, update_has}
-use Rattle.convergence_laws.specs.Exports.{IsAsNew}
+use Rattle.convergence_laws.specs.Exports.{IsConvergenceAdvertAsNew}
 use Rattle.convergence_laws.proofs.ConvergenceAnswers.{delivery_is, sent_items}
 use Rattle.convergence_laws.proofs.ConvergenceLinkChanges.{ends_there, link_news, pay_links, sends_near, sends_still}
 use Rattle.convergence_laws.proofs.ConvergenceTables.{delivery_told}
@@ -103,9 +103,9 @@ advert_spread {since = since} setting before row number step t advert net late s
           advert = a;
           as_new = as_new_itself a;
           had = inr (sends_tell now messages neighbour a late
-              (rw is.1 (in_map (λ k. advert_to k advert) neighbour
+              (rw is.1 (in_map (λ k. machine_advert_to k advert) neighbour
               (setting_switches_in setting (near setting now t)) (in_filter (has (near setting now t))
-              neighbour (switches_of setting) (in_range neighbour 0 (length setting.net.switches)
+              neighbour (setting_switches_of setting) (in_range neighbour 0 (length setting.net.switches)
               (omega arith) (omega (arith, there))) near_now))));
         }
 
@@ -134,7 +134,7 @@ advert_spread {since = since} setting before row number step t advert net late s
               (λ body is. rw (heard_more before (Item.Row row step) t) is) given.given;
         })) (λ same. elsewhere (sym given.of ∙ same)))
       where
-        by_has : (a c : Advert) → IsAsNew c a → ⊥ ⊎ HasNews setting since here neighbour c
+        by_has : (a c : Advert) → IsConvergenceAdvertAsNew c a → ⊥ ⊎ HasNews setting since here neighbour c
             → HasNews setting since now neighbour a
         by_has a c as_new (inl none) = absurd none
         by_has a c as_new (inr has) =
@@ -245,7 +245,7 @@ said_spread setting before row number step t body net late said alone causes kno
 -- ---- deliveries that say nothing to a switch
 
 unsent_items : (setting : Setting) (before : List Item) (number : ℕ) (now : List Item)
-    → message_of before number ≡ None → machine_delivery_items setting before number now ≡ []
+    → journal_message_of before number ≡ None → machine_delivery_items setting before number now ≡ []
 unfolding machine_delivery_items
 unsent_items setting before number now none = search rules
 
@@ -259,7 +259,7 @@ deliver_spread : {since : ℕ} (setting : Setting) (before : List Item) (row num
     → Spread setting since (here ++ deliver_items setting before number here)
 deliver_spread {since = since} setting before row number step net late known spread =
     deliver_cases (Spread setting since) setting before number here
-    (still_spread setting here nothing (tt, tt) spread) (by_message (message_of before number) refl)
+    (still_spread setting here nothing (tt, tt) spread) (by_message (journal_message_of before number) refl)
   where
     here : List Item
     here = before ++ Item.Row row step ∷ []
@@ -272,7 +272,7 @@ deliver_spread {since = since} setting before row number step net late known spr
 
     -- what is said was sent to the switch
     sent_of : (s : ℕ) (body : Body) → journal_body_to_switch here s number ≡ Some body
-        → message_of before number ≡ Some (machine_message_to_switch s body)
+        → journal_message_of before number ≡ Some (machine_message_to_switch s body)
     sent_of s body said = (said_parts _ s _ body (sym (said_row _ row s number step) ∙ said)).sent
 
     -- where nothing is said to a switch the rest is still
@@ -292,7 +292,7 @@ deliver_spread {since = since} setting before row number step net late known spr
         )
 
     by_receiver : (to : Place) (body : Body)
-        → message_of before number ≡ Some (record { to = to; body = body })
+        → journal_message_of before number ≡ Some (record { to = to; body = body })
         → Spread setting since (now ++ machine_delivery_items setting before number now)
     by_receiver Place.Controller body e = silent (rw (delivery_told _ before number body now e)
         (control_still now _ (controller_control setting before body now)))
@@ -317,7 +317,7 @@ deliver_spread {since = since} setting before row number step net late known spr
           (to_switch_alone t told f) (said_have setting before here t number told f)
           (known_kept setting here (Item.Delivered number) tt known) spread have)
 
-    by_message : (o : Option Message) → message_of before number ≡ o
+    by_message : (o : Option Message) → journal_message_of before number ≡ o
         → Spread setting since (now ++ machine_delivery_items setting before number now)
     by_message None e = silent (rw (unsent_items setting before number now e) tt) (λ s other said.
         let clash : None ≡ Some (machine_message_to_switch s other) = sym e ∙ sent_of s other said in absurd cc)
@@ -328,7 +328,7 @@ deliver_spread {since = since} setting before row number step net late known spr
 step_spread : {since : ℕ} (setting : Setting) (before : List Item) (row : ℕ) (step : Step) → IsNet setting.net
     → let here = before ++ Item.Row row step ∷ [] in
     since ≤ journal_next_message here → IsKnown here → Spread setting since here
-    → Spread setting since (here ++ step_items setting before step here)
+    → Spread setting since (here ++ machine_step_items setting before step here)
 step_spread setting before row (Packet s header) net = λ late known have. still_spread setting _ _
     (packet_works setting IsStill (work_is_still setting) (journal_next_packet before) s header _ tt) have
 step_spread setting before row (Deliver number) net = deliver_spread setting before row number _ net
@@ -367,7 +367,7 @@ steps_spread setting before (next ∷ steps) net late causes have = steps_spread
 -- ---- the beginning
 
 begun_first : (setting : Setting) (s : ℕ) → journal_adverts_begun setting [] s ≡ first_adverts
-    (map (links_of setting.net.links) (switches_of setting)) (length setting.net.switches)
+    (map (links_of setting.net.links) (setting_switches_of setting)) (length setting.net.switches)
 begun_first setting s = rw (start_laws.up s, start_laws.boot s) refl
 
 -- each switch begins with the first advert of each one

@@ -1,7 +1,7 @@
 -- What proofs above cite, also of the crate below.
 pub use Rattle.control_laws.proofs.ControlFactsGrown.{AreKept, Behind, Both, fact_on, have_both, have_rest, have_weaker, piece_has}
 pub use Rattle.control_laws.proofs.ControlMarksAtEnds.{NamesOwn}
-pub use Rattle.control_laws.specs.Always.{HoldsAtEnds}
+pub use Rattle.control_laws.specs.Always.{ControlLawHoldsAtEnds}
 pub use Rattle.control_laws.proofs.ControlTrafficItems.{IsWork, hop_work, packet_works, rule_cases}
 pub use Rattle.convergence_laws.proofs.ConvergenceLinkChanges.{near_back}
 pub use Rattle.convergence_laws.proofs.ConvergedKnownLinks.{reach_more}

@@ -4,13 +4,13 @@ use Rattle.base.specs.Exports.{has, switches}
 use Rattle.net_file.specs.Exports.{IsNet}
 use Rattle.net_file.proofs.NetFilePortMasks.{in_mask_of}
 use Rattle.net_file.proofs.NetFileRowPlaces.{linked_turn, links}
-use Rattle.update_machine.specs.Exports.{Advert, JournalItemsHaveCauses, Item, Message, Setting, journal_advert_known, advert_to, journal_adverts_begun, journal_adverts_heard, journal_adverts_known, journal_boot_of, journal_usable_links_changed, heard, journal_held_adverts, is_up, journal_link_changes, machine_messages_of, machine_messages_over_link, near, journal_next_message, own_advert, journal_own_seq, send_items, serves, setting_switches_in, switches_of}
+use Rattle.update_machine.specs.Exports.{Advert, JournalItemsHaveCauses, Item, Message, Setting, journal_advert_known, machine_advert_to, journal_adverts_begun, journal_adverts_heard, journal_adverts_known, journal_boot_of, journal_usable_links_changed, heard, journal_held_adverts, is_up, journal_link_changes, machine_messages_of, machine_messages_over_link, near, journal_next_message, own_advert, journal_own_seq, send_items, serves, setting_switches_in, setting_switches_of}
 use Rattle.control_laws.proofs.Exports.{AdvertGoesOn, HasBothCauses, IsKnown, boot_more, ends_serve, heard_more, is_delivered, known_kept, linked_by_mask, near_linked, own_on, same_near, sends_any, serving_more, turns, up_more}
 use Rattle.base.proofs.Exports.{nat_tests}
 use Rattle.failover.specs.Exports.{IsNewestAdvert, held_advert, is_newer}
 use Rattle.steps.specs.Exports.{HasSwitch}
 use Rattle.update_machine.proofs.Exports.{known_link_laws, near_stays}
-use Rattle.convergence_laws.specs.Exports.{IsAsNew}
+use Rattle.convergence_laws.specs.Exports.{IsConvergenceAdvertAsNew}
 use Rattle.convergence_laws.proofs.ConvergenceAdverts.{HasNews, HaveNews, IsHad, IsOther, IsStill, as_new_itself, given_grows, news_on, sends_tell, stills_news}
 use Rattle.convergence_laws.proofs.ConvergencePlainItems.{IsIn, all_in, in_either, in_filter, in_filter_map, in_flat_map, in_left, in_map, in_range, in_right}
 
@@ -34,7 +34,7 @@ pub record IsHeldAsNew (setting : Setting) (journal : List Item) (s : ℕ) (than
     : Type 0 where
   pub advert : Advert
   pub held : journal_advert_known setting journal s than.origin ≡ Some advert
-  pub as_new : IsAsNew advert than
+  pub as_new : IsConvergenceAdvertAsNew advert than
 
 pub newest_held : (setting : Setting) (journal : List Item) (s : ℕ) (a : Advert)
     → IsOther setting journal s a → IsHeldAsNew setting journal s a
@@ -264,8 +264,8 @@ near_back setting journal s neighbour net is = search (rules, ends_there, near_b
 -- what a switch sends about an advert that it has: that one, or one that is as new
 record TellsAsNew (messages : List Message) (to : ℕ) (than : Advert) : Type 0 where
   advert : Advert
-  as_new : IsAsNew advert than
-  is : IsIn (advert_to to advert) messages
+  as_new : IsConvergenceAdvertAsNew advert than
+  is : IsIn (machine_advert_to to advert) messages
 
 over_tells : (setting : Setting) (before now : List Item) (s neighbour : ℕ) (a : Advert)
     → s < 64 → IsOwed setting before now s neighbour a
@@ -276,14 +276,14 @@ over_tells setting before now s neighbour a small owed =
     own : Advert
     own = own_advert setting now s
 
-    is_own : a ≡ own → IsAsNew own a
-    is_own same = subst (IsAsNew own) (sym same) (as_new_itself own)
+    is_own : a ≡ own → IsConvergenceAdvertAsNew own a
+    is_own same = subst (IsConvergenceAdvertAsNew own) (sym same) (as_new_itself own)
 
     by_old : (b : Bool) → has (near setting before s) neighbour ≡ b
         → (a ≡ own) ⊎ IsFalse (has (near setting before s) neighbour) → IsHad setting now s a
         → TellsAsNew (elim b [
-          | true ↦ advert_to neighbour own ∷ []
-          | false ↦ map (advert_to neighbour) (journal_held_adverts setting now s)
+          | true ↦ machine_advert_to neighbour own ∷ []
+          | false ↦ map (machine_advert_to neighbour) (journal_held_adverts setting now s)
         ]) neighbour a
     by_old true e (inl same) had = record { advert = own; as_new = is_own same; is = inl refl }
     by_old true e (inr new) had = let clash : true ≡ false = sym e ∙ new in absurd cc
@@ -310,7 +310,7 @@ pay_links {since = since} setting before now net late have = record {
 } where
   messages : List Message
   messages = flat_map (machine_messages_of setting before now)
-      (filter (journal_usable_links_changed setting before now) (switches_of setting))
+      (filter (journal_usable_links_changed setting before now) (setting_switches_of setting))
 
   after : List Item
   after = now ++ send_items now messages
@@ -328,12 +328,12 @@ pay_links {since = since} setting before now net late have = record {
         advert = tells.advert;
         as_new = tells.as_new;
         had = inr (sends_tell now messages neighbour tells.advert late
-            (in_flat_map (machine_messages_of setting before now) s (advert_to neighbour tells.advert)
-            (filter (journal_usable_links_changed setting before now) (switches_of setting))
-            (in_filter (journal_usable_links_changed setting before now) s (switches_of setting) (in_range s 0
+            (in_flat_map (machine_messages_of setting before now) s (machine_advert_to neighbour tells.advert)
+            (filter (journal_usable_links_changed setting before now) (setting_switches_of setting))
+            (in_filter (journal_usable_links_changed setting before now) s (setting_switches_of setting) (in_range s 0
             (length setting.net.switches) (omega arith) (omega (arith, ends.one))) owed.changed)
             (in_flat_map (machine_messages_over_link setting before now s) neighbour
-            (advert_to neighbour tells.advert) (setting_switches_in setting (near setting now s)) (in_filter
-            (has (near setting now s)) neighbour (switches_of setting) (in_range neighbour 0 (length
+            (machine_advert_to neighbour tells.advert) (setting_switches_in setting (near setting now s)) (in_filter
+            (has (near setting now s)) neighbour (setting_switches_of setting) (in_range neighbour 0 (length
             setting.net.switches) (omega arith) (omega (arith, ends.other))) linked) tells.is)));
       }

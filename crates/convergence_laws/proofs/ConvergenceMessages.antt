@@ -3,7 +3,7 @@
 use Rattle.std.proofs.Common.{[], if◌then◌else◌, ◌++◌, ◌+◌, ◌<◌, ◌==◌, ◌||◌, ◌∙◌, ◌∷◌, ◌≡◌, ◌≤◌, ◌⊎◌, Bool, IfSome, IsFalse, IsTrue, List, None, Option, Some, ap, append-nil, append_assoc, arith, eq-eqb, eqb-true, false, inl, inr, refl, subst, sym, true, ℕ, rules}
 use Rattle.base.proofs.Exports.{AllByRecursion, IfSome_then, each_append, nat_tests, option_map_or, ⊤}
 use Rattle.ctrl_msg.specs.Exports.{body_boot, to_controller}
-use Rattle.update_machine.specs.Exports.{Body, JournalItemsHaveCauses, Item, Message, Place, Sending, Setting, MachineTakesNextNumber, journal_body_to_controller, journal_body_to_switch, journal_receiver_boot_at, journal_boot_of, controller_heard, heard, is_deliverable, is_delivery_item, journal_body_for_boot, is_forgetting, is_forgotten_in_journal, is_sending, is_up, message_of, journal_next_message, send_items, sendings, machine_sent_items_from, machine_message_to_switch, was_delivered}
+use Rattle.update_machine.specs.Exports.{Body, JournalItemsHaveCauses, Item, Message, Place, Sending, Setting, MachineTakesNextNumber, journal_body_to_controller, journal_body_to_switch, journal_receiver_boot_at, journal_boot_of, journal_controller_heard, heard, is_deliverable, is_delivery_item, is_journal_body_for_boot, is_journal_forgetting, is_forgotten_in_journal, is_sending, is_up, journal_message_of, journal_next_message, send_items, sendings, machine_sent_items_from, machine_message_to_switch, was_delivered}
 use Rattle.update_machine.proofs.Exports.{PiecesHave, count_of_append, folded_append, next_rises, piece_next, start_laws}
 use Rattle.control_laws.specs.Exports.{HasControlItemCause}
 use Rattle.control_laws.proofs.Exports.{AreKept, Both, GoesOn, IsKnown, boot_more, boot_rises, counted_more, each_weaker, fact_on, goes_on, have_both, heard_more, known_at_first, known_kept, message_more, some_more, told_more, turns}
@@ -88,9 +88,9 @@ unfolding was_delivered
 delivered_more before next n = some_more (is_delivery_item n) before next
 
 pub forgotten_more : (before : List Item) (next : Item) (n : ℕ)
-    → is_forgotten_in_journal (before ++ next ∷ []) n ≡ (is_forgetting n next || is_forgotten_in_journal before n)
+    → is_forgotten_in_journal (before ++ next ∷ []) n ≡ (is_journal_forgetting n next || is_forgotten_in_journal before n)
 unfolding is_forgotten_in_journal
-forgotten_more before next n = some_more (is_forgetting n) before next
+forgotten_more before next n = some_more (is_journal_forgetting n) before next
 
 -- numbers of messages never fall
 pub next_grows : (journal items : List Item) → journal_next_message journal ≤ journal_next_message (journal ++ items)
@@ -105,24 +105,24 @@ pub record SwitchCourse (journal : List Item) (s : ℕ) (x : Sending) : Type 0 w
   pub own : x.boot ≤ journal_boot_of journal s
   pub past : IfSome (body_boot x.message.body) (λ boot. boot ≤ x.boot)
   pub heard : IsTrue (is_up journal s) → x.boot ≡ journal_boot_of journal s
-      → IsTrue (journal_body_for_boot x.boot x.message.body) → IsTrue (was_delivered journal x.number)
+      → IsTrue (is_journal_body_for_boot x.boot x.message.body) → IsTrue (was_delivered journal x.number)
       → IsIn x.message.body (heard journal s)
 
 abbrev pub Course : List Item → Place → Sending → Type 0
 Course journal (Place.Switch s) x = SwitchCourse journal s x
 Course journal Place.Controller x =
-    IsTrue (was_delivered journal x.number) → IsIn x.message.body (controller_heard journal)
+    IsTrue (was_delivered journal x.number) → IsIn x.message.body (journal_controller_heard journal)
 
 pub record IsTraced (journal : List Item) (x : Sending) : Type 0 where
   pub first : 1 ≤ x.number
   pub number : x.number < journal_next_message journal
-  pub message : message_of journal x.number ≡ Some x.message
+  pub message : journal_message_of journal x.number ≡ Some x.message
   pub course : Course journal x.message.to x
 
 -- all messages are so, and none was delivered or forgotten that wasn't sent
 pub record AreTraced (journal : List Item) : Type 0 where
   pub known : IsKnown journal
-  pub sent : (n : ℕ) (message : Message) → message_of journal n ≡ Some message
+  pub sent : (n : ℕ) (message : Message) → journal_message_of journal n ≡ Some message
       → n < journal_next_message journal
   pub delivered : (n : ℕ) → IsTrue (was_delivered journal n) → n < journal_next_message journal
   pub forgotten : (n : ℕ) → IsTrue (is_forgotten_in_journal journal n) → n < journal_next_message journal
@@ -133,13 +133,13 @@ pub record AreTraced (journal : List Item) : Type 0 where
 -- what is delivered or forgotten was sent
 abbrev pub IsSentFirst : List Item → Item → Type 0
 IsSentFirst before (Item.Delivered number) =
-    (message : Message) × (message_of before number ≡ Some message)
+    (message : Message) × (journal_message_of before number ≡ Some message)
 IsSentFirst before (Item.Forgotten number) =
-    (message : Message) × (message_of before number ≡ Some message)
+    (message : Message) × (journal_message_of before number ≡ Some message)
 IsSentFirst before _ = ⊤
 
 pub deliverable_sent : (journal : List Item) (number : ℕ) → is_deliverable journal number ≡ true
-    → (message : Message) × (message_of journal number ≡ Some message)
+    → (message : Message) × (journal_message_of journal number ≡ Some message)
 unfolding is_deliverable
 deliverable_sent journal number is = search rules
 
@@ -170,8 +170,8 @@ number_on : (before : List Item) (next : Item) (x : Sending) → x.number < jour
 number_on before next x below = omega (arith, below, next_rises before next)
 
 message_on : (before : List Item) (next : Item) (x : Sending) → MachineTakesNextNumber before next
-    → x.number < journal_next_message before → message_of before x.number ≡ Some x.message
-    → message_of (before ++ next ∷ []) x.number ≡ Some x.message
+    → x.number < journal_next_message before → journal_message_of before x.number ≡ Some x.message
+    → journal_message_of (before ++ next ∷ []) x.number ≡ Some x.message
 message_on before (Item.Sent number message) x takes below is =
     let apart : (number == x.number) ≡ false = grind (arith, nat_tests) in
     rw (message_more before (Item.Sent number message) x.number, apart) is
@@ -194,23 +194,23 @@ heard_grows before next s body same is = rw (heard_more before next s) is
 
 -- what is delivered to the switch in its boot it hears
 delivery_heard : (before : List Item) (s number : ℕ) (body : Body)
-    → message_of before number ≡ Some (machine_message_to_switch s body) → IsTrue (is_up before s)
-    → IsTrue (journal_body_for_boot (journal_boot_of before s) body)
+    → journal_message_of before number ≡ Some (machine_message_to_switch s body) → IsTrue (is_up before s)
+    → IsTrue (is_journal_body_for_boot (journal_boot_of before s) body)
     → IsIn body (heard (before ++ Item.Delivered number ∷ []) s)
 delivery_heard before s number body sent up own =
-    let for_it : journal_body_for_boot (journal_boot_of before s) body ≡ true = own in
+    let for_it : is_journal_body_for_boot (journal_boot_of before s) body ≡ true = own in
     let said : journal_body_to_switch before s number ≡ Some body =
     rw (sent, eq-eqb s s refl, up, for_it, journal_body_to_switch) refl in
     rw (heard_more before (Item.Delivered number) s, said)
     (in_right body (heard before s) (body ∷ []) (inl refl))
 
 delivery_told : (before : List Item) (number : ℕ) (body : Body)
-    → message_of before number ≡ Some (to_controller body)
-    → IsIn body (controller_heard (before ++ Item.Delivered number ∷ []))
+    → journal_message_of before number ≡ Some (to_controller body)
+    → IsIn body (journal_controller_heard (before ++ Item.Delivered number ∷ []))
 delivery_told before number body sent =
     let said : journal_body_to_controller before number ≡ Some body = rw (sent, journal_body_to_controller) refl in
     rw (told_more before (Item.Delivered number), said)
-    (in_right body (controller_heard before) (body ∷ []) (inl refl))
+    (in_right body (journal_controller_heard before) (body ∷ []) (inl refl))
 
 -- what was delivered behind a delivery is that, or was so before
 delivered_either : (before : List Item) (number n : ℕ)
@@ -219,15 +219,15 @@ delivered_either : (before : List Item) (number n : ℕ)
 delivered_either before number n delivered = search (rules, delivered_more, eqb-true)
 
 switch_heard : (before : List Item) (next : Item) (s : ℕ) (x : Sending) (to : Message)
-    → to ≡ machine_message_to_switch s x.message.body → message_of before x.number ≡ Some to
+    → to ≡ machine_message_to_switch s x.message.body → journal_message_of before x.number ≡ Some to
     → GoesOn before next s x.boot → SwitchCourse before s x
-    → IsTrue (journal_body_for_boot x.boot x.message.body)
+    → IsTrue (is_journal_body_for_boot x.boot x.message.body)
     → IsTrue (was_delivered (before ++ next ∷ []) x.number)
     → IsIn x.message.body (heard (before ++ next ∷ []) s)
 switch_heard before (Item.Delivered number) s x to is sent on course own delivered =
     elim (delivered_either before number x.number delivered) [
       | inl same ↦ delivery_heard before s number x.message.body
-          (ap (message_of before) same ∙ sent ∙ ap Some is) on.up (rw on.own at own)
+          (ap (journal_message_of before) same ∙ sent ∙ ap Some is) on.up (rw on.own at own)
       | inr was ↦ heard_grows before _ s x.message.body refl (course.heard on.up on.own own was)
     ]
 switch_heard before next s x to is sent on course own delivered = heard_grows before next s _
@@ -235,7 +235,7 @@ switch_heard before next s x to is sent on course own delivered = heard_grows be
 
 switch_on : (setting : Setting) (before : List Item) (next : Item) (s : ℕ) (x : Sending)
     → HasControlItemCause setting before next
-    → message_of before x.number ≡ Some (machine_message_to_switch s x.message.body)
+    → journal_message_of before x.number ≡ Some (machine_message_to_switch s x.message.body)
     → SwitchCourse before s x → SwitchCourse (before ++ next ∷ []) s x
 switch_on setting before next s x cause sent course = record {
   own = omega (arith, course.own, boot_rises setting before next s cause);
@@ -245,11 +245,11 @@ switch_on setting before next s x cause sent course = record {
 }
 
 told_on : (before : List Item) (next : Item) (x : Sending)
-    → message_of before x.number ≡ Some (to_controller x.message.body)
+    → journal_message_of before x.number ≡ Some (to_controller x.message.body)
     → Course before Place.Controller x → Course (before ++ next ∷ []) Place.Controller x
 told_on before (Item.Delivered number) x sent course delivered =
     elim (delivered_either before number x.number delivered) [
-      | inl same ↦ delivery_told before number x.message.body (ap (message_of before) same ∙ sent)
+      | inl same ↦ delivery_told before number x.message.body (ap (journal_message_of before) same ∙ sent)
       | inr was ↦ rw (told_more before _) (in_left x.message.body _ _ (course was))
     ]
 told_on before next x sent course delivered =
@@ -257,7 +257,7 @@ told_on before next x sent course delivered =
 
 course_on : (setting : Setting) (before : List Item) (next : Item) (to : Place) (x : Sending)
     → HasControlItemCause setting before next
-    → message_of before x.number ≡ Some (record { to = to; body = x.message.body })
+    → journal_message_of before x.number ≡ Some (record { to = to; body = x.message.body })
     → Course before to x → Course (before ++ next ∷ []) to x
 course_on setting before next (Place.Switch s) x cause sent course =
     switch_on setting before next s x cause sent course
@@ -323,7 +323,7 @@ sent_traced setting before next cause are = search (rules, new_traced)
 
 sent_below : (setting : Setting) (before : List Item) (next : Item) (n : ℕ) (message : Message)
     → IsInOrder setting before next → AreTraced before
-    → message_of (before ++ next ∷ []) n ≡ Some message → n < journal_next_message (before ++ next ∷ [])
+    → journal_message_of (before ++ next ∷ []) n ≡ Some message → n < journal_next_message (before ++ next ∷ [])
 sent_below setting before (Item.Sent number sent) n message cause are is =
     by_test (number == n) refl
   where
@@ -335,7 +335,7 @@ sent_below setting before (Item.Sent number sent) n message cause are is =
     by_test false e = let was = rw (message_more before next n, e) at is in
         omega (arith, are.sent n message was, next_rises before next)
 sent_below setting before next n message cause are is =
-    let was : message_of before n ≡ Some message = rw (message_more before next n) at is in
+    let was : journal_message_of before n ≡ Some message = rw (message_more before next n) at is in
     omega (arith, are.sent n message was, next_rises before next)
 
 delivered_below : (setting : Setting) (before : List Item) (next : Item) (n : ℕ)

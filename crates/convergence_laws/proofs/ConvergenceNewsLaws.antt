@@ -1,10 +1,10 @@
 -- The laws on news and on known links, behind any steps.
 use Rattle.std.proofs.Common.{[], ◌&&◌, ◌++◌, ◌+◌, ◌<◌, ◌==◌, ◌||◌, ◌∙◌, ◌∷◌, ◌≡◌, ◌≢◌, ◌≤◌, ◌⊎◌, Bool, Contains, IsFalse, IsTrue, List, None, Option, Some, ap, append-nil, append_assoc, arith, eq-eqb, eqb-true, false, find, if◌then◌else◌, inl, inr, not, refl, subst, suc, sym, true, zero, ℕ, rules}
 use Rattle.base.proofs.Exports.{nat_tests}
-use Rattle.update_machine.specs.Exports.{Advert, Advertise, AreAllMachineEventSteps, AreJournalMessagesReceived, AreMachineSteps, AreMachineStepsOf, Body, Event, Flush, JournalItemsHaveCauses, IsMachineQuiet, Item, Message, Place, Sending, Setting, Step, StepOfRow, journal_after_steps, journal_receiver_boot_at, journal_boot_of, count_of, heard, is_deliverable, journal_body_for_boot, is_forgotten_in_journal, is_machine_later_body, is_sending, is_up, is_waiting, message_of, journal_next_delivery, journal_next_message, next_waiting, journal_other_advert, piece, sendings, was_delivered}
-use Rattle.control_laws.specs.Exports.{HoldsAtEnds, HoldsBehindItems, OwnAdvertsAreNewest}
+use Rattle.update_machine.specs.Exports.{Advert, Advertise, AreAllMachineEventSteps, AreMachineMessagesReceived, AreMachineSteps, AreMachineStepsOf, Body, Event, Flush, JournalItemsHaveCauses, IsQuietMachineJournal, Item, Message, Place, Sending, Setting, Step, StepOfRow, journal_after_steps, journal_receiver_boot_at, journal_boot_of, count_of, heard, is_deliverable, is_journal_body_for_boot, is_forgotten_in_journal, is_machine_later_body, is_sending, is_up, is_waiting, journal_message_of, journal_next_delivery, journal_next_message, next_waiting, machine_advert_of_other, piece, sendings, was_delivered}
+use Rattle.control_laws.specs.Exports.{ControlLawHoldsAtEnds, ControlLawHoldsBehindItems, OwnAdvertsAreNewest}
 use Rattle.control_laws.proofs.Exports.{at_ends, behind_both, behind_items, own_newest, steps_have}
-use Rattle.convergence_laws.specs.Exports.{EndsInFinishedConvergence, GetStuckApart, HasConverged, IsAsNew, IsNetworkFinished, HasConvergedOnVersion, NeighboursAgree, NewsSpreadsToNeighbours}
+use Rattle.convergence_laws.specs.Exports.{EndsInFinishedNetwork, ConvergedGetStuckApart, HasConverged, IsConvergenceAdvertAsNew, IsNetworkFinished, IsNetworkUpdateConverged, NeighboursAgree, NewsConvergesToNeighbours}
 use Rattle.convergence_laws.proofs.ConvergencePlainItems.{IsIn, each_in, in_filter_map, in_range}
 use Rattle.convergence_laws.proofs.ConvergedReceipts.{IsGot, delivered_append, got, heard_in_boot, in_sendings}
 use Rattle.convergence_laws.proofs.ConvergenceMessages.{AreTraced, IsInOrder, IsTraced, caused_traced, pieces_in_order, traced_at_first, traced_kept}
@@ -35,7 +35,7 @@ not_waiting journal number none first below = none_found (is_waiting journal) nu
     (in_range number 1 (count_of is_sending journal) first (omega (arith, below)))
 
 pub sent_delivered : (journal : List Item) (number : ℕ) (message : Message) → next_waiting journal
-    ≡ None → IsFalse (is_forgotten_in_journal journal number) → message_of journal number ≡ Some message
+    ≡ None → IsFalse (is_forgotten_in_journal journal number) → journal_message_of journal number ≡ Some message
     → 1 ≤ number → number < journal_next_message journal → IsTrue (was_delivered journal number)
 unfolding is_deliverable
 sent_delivered journal number message waiting forgotten sent first below = by_delivered _ refl
@@ -64,7 +64,7 @@ sent_alone number n message = refl
 each_received : (setting : Setting) (journal front items : List Item) → journal ≡ front ++ items
     → ((x : Sending) → IsIn x (sendings journal) → IsTrue (was_delivered journal x.number))
     → AreTraced front → JournalItemsHaveCauses (IsInOrder setting) front items
-    → AreJournalMessagesReceived setting journal items
+    → AreMachineMessagesReceived setting journal items
 each_received setting journal front [] is all traced have = tt
 each_received setting journal front (Item.Sent number message ∷ items) is all traced have = (
   λ s there matter. inl (by_test (was_delivered front number) refl),
@@ -91,7 +91,7 @@ each_received setting journal front (next ∷ items) is all traced have = each_r
 
 finished_quiet : (setting : Setting) (journal : List Item)
     → JournalItemsHaveCauses (IsInOrder setting) [] journal → IsNetworkFinished setting journal
-    → IsMachineQuiet setting journal
+    → IsQuietMachineJournal setting journal
 finished_quiet setting journal have finished = record {
   switches = finished.switches;
   messages = each_received setting journal [] journal refl (λ x is. one_delivered journal x
@@ -100,9 +100,9 @@ finished_quiet setting journal have finished = record {
 }
 
 pub finished_behind :
-    HoldsBehindItems (λ setting journal. IsNetworkFinished setting journal → IsMachineQuiet setting journal)
+    ControlLawHoldsBehindItems (λ setting journal. IsNetworkFinished setting journal → IsQuietMachineJournal setting journal)
 finished_behind =
-    behind_items (λ setting journal. IsNetworkFinished setting journal → IsMachineQuiet setting journal)
+    behind_items (λ setting journal. IsNetworkFinished setting journal → IsQuietMachineJournal setting journal)
     IsInOrder pieces_in_order finished_quiet
 
 -- ---- news laws
@@ -116,7 +116,7 @@ contains_in x (y ∷ xs) (inr later) =
     let found = contains_in x xs later in (suc found.0, omega (arith, found.1), found.2)
 
 news_spread : (setting : Setting) (journal : List Item) → AreSpread setting 0 journal
-    → NewsSpreadsToNeighbours setting journal
+    → NewsConvergesToNeighbours setting journal
 news_spread setting journal are s neighbour origin a linked small known =
     elim (spread_cases setting journal are s neighbour origin a linked small known) [
       | inl held ↦ inl held
@@ -131,17 +131,17 @@ news_spread setting journal are s neighbour origin a linked small known =
 -- ---- in a quiet journal what was told was heard
 
 later_advert : (body : Body) (b : Advert) → (body ≡ Advertise b)
-    ⊎ IsTrue (is_machine_later_body body (Advertise b)) → (c : Advert) × (body ≡ Advertise c) × IsAsNew c b
+    ⊎ IsTrue (is_machine_later_body body (Advertise b)) → (c : Advert) × (body ≡ Advertise c) × IsConvergenceAdvertAsNew c b
 later_advert body b h2 = search (rules, nat_tests, as_new_itself, eqb-true)
 
 told_given : (setting : Setting) (journal : List Item) (s : ℕ) (b : Advert)
-    → IsMachineQuiet setting journal → JournalItemsHaveCauses (IsInOrder setting) [] journal
+    → IsQuietMachineJournal setting journal → JournalItemsHaveCauses (IsInOrder setting) [] journal
     → HasSwitch setting.net s → IsTrue (is_up journal s) → b.origin ≢ s
     → IsToldTo 0 journal s b → IsGivenNew setting journal s b
 told_given setting journal s b quiet causes there up other told = record {
   advert = says.0;
   as_new = says.2;
-  given = inr (in_filter_map (journal_other_advert s) (Advertise says.0) says.0 (heard journal s)
+  given = inr (in_filter_map (machine_advert_of_other s) (Advertise says.0) says.0 (heard journal s)
       (subst (λ body. IsIn body (heard journal s)) says.1 heard_it) told_of);
 } where
   later : IsGot journal (Place.Switch s) (Advertise b)
@@ -149,11 +149,11 @@ told_given setting journal s b quiet causes there up other told = record {
       quiet causes there told.is refl (λ after since. let to : (s == s) ≡ true = eq-eqb s s refl in
       rw (up, to, since) refl)
 
-  says : (c : Advert) × (later.body ≡ Advertise c) × IsAsNew c b
+  says : (c : Advert) × (later.body ≡ Advertise c) × IsConvergenceAdvertAsNew c b
   says = later_advert later.body b later.says
 
-  for_it : IsTrue (journal_body_for_boot later.boot later.body)
-  for_it = subst (λ body. IsTrue (journal_body_for_boot later.boot body)) (sym says.1) refl
+  for_it : IsTrue (is_journal_body_for_boot later.boot later.body)
+  for_it = subst (λ body. IsTrue (is_journal_body_for_boot later.boot body)) (sym says.1) refl
 
   heard_it : IsIn later.body (heard journal s)
   heard_it = heard_in_boot journal s later.number later.boot later.body
@@ -163,7 +163,7 @@ told_given setting journal s b quiet causes there up other told = record {
   apart = let elsewhere : says.0.origin ≢ s = λ same. other (sym says.2.origin ∙ same) in
       grind (arith, nat_tests)
 
-  told_of : journal_other_advert s (Advertise says.0) ≡ Some says.0
+  told_of : machine_advert_of_other s (Advertise says.0) ≡ Some says.0
   told_of = ap (λ c. if c then None else Some says.0) apart
 
 -- ---- behind any steps
@@ -191,13 +191,13 @@ all_spread : (setting : Setting) (steps : List StepOfRow) → IsNet setting.net
     → AreSpread setting 0 (journal_after_steps setting [] steps)
 all_spread setting steps net = ends_spread setting steps net (spread_at_ends setting steps net)
 
-pub news_at_ends : HoldsAtEnds (λ setting journal. IsNet setting.net → NewsSpreadsToNeighbours setting journal)
+pub news_at_ends : ControlLawHoldsAtEnds (λ setting journal. IsNet setting.net → NewsConvergesToNeighbours setting journal)
 news_at_ends = search (rules, at_ends, news_spread, all_spread)
 
 -- ---- neighbours that agree
 
-pub quiet_at_ends : HoldsAtEnds (λ setting journal.
-    IsNet setting.net → IsMachineQuiet setting journal → NeighboursAgree setting journal)
+pub quiet_at_ends : ControlLawHoldsAtEnds (λ setting journal.
+    IsNet setting.net → IsQuietMachineJournal setting journal → NeighboursAgree setting journal)
 quiet_at_ends = at_ends _ (λ setting steps net quiet. spread_agree setting
     (journal_after_steps setting [] steps) (all_spread setting steps net) (λ s b there up other told.
     told_given setting (journal_after_steps setting [] steps) s b quiet (steps_have (IsInOrder setting)
@@ -205,7 +205,7 @@ quiet_at_ends = at_ends _ (λ setting steps net quiet. spread_agree setting
 
 agreed_at_ends : (Holds : Setting → List Item → Type 0)
     → ((setting : Setting) (journal : List Item) → AreAgreed setting journal → Holds setting journal)
-    → HoldsAtEnds (λ setting journal.
+    → ControlLawHoldsAtEnds (λ setting journal.
     IsNet setting.net → NeighboursAgree setting journal → Holds setting journal)
 agreed_at_ends Holds holds = at_ends _
     (λ setting steps net agree. holds setting (journal_after_steps setting [] steps) (record {
@@ -215,28 +215,28 @@ agreed_at_ends Holds holds = at_ends _
       tells = ends_tell setting steps;
     }))
 
-pub converged_at_ends : HoldsAtEnds (λ setting journal.
+pub converged_at_ends : ControlLawHoldsAtEnds (λ setting journal.
     IsNet setting.net → NeighboursAgree setting journal → HasConverged setting journal)
 converged_at_ends = agreed_at_ends HasConverged agreed_converged
 
-pub apart_at_ends : HoldsAtEnds (λ setting journal.
-    IsNet setting.net → NeighboursAgree setting journal → GetStuckApart setting journal)
-apart_at_ends = agreed_at_ends GetStuckApart stuck_reaches_none
+pub apart_at_ends : ControlLawHoldsAtEnds (λ setting journal.
+    IsNet setting.net → NeighboursAgree setting journal → ConvergedGetStuckApart setting journal)
+apart_at_ends = agreed_at_ends ConvergedGetStuckApart stuck_reaches_none
 
 -- so the same is true of quiet networks
-quiet_ends : (Holds : Setting → List Item → Type 0) → HoldsAtEnds (λ setting journal.
+quiet_ends : (Holds : Setting → List Item → Type 0) → ControlLawHoldsAtEnds (λ setting journal.
     IsNet setting.net → NeighboursAgree setting journal → Holds setting journal)
-    → HoldsAtEnds (λ setting journal.
-    IsNet setting.net → IsMachineQuiet setting journal → Holds setting journal)
+    → ControlLawHoldsAtEnds (λ setting journal.
+    IsNet setting.net → IsQuietMachineJournal setting journal → Holds setting journal)
 quiet_ends Holds law = search (rules, at_ends, quiet_at_ends)
 
-pub quiet_converged : HoldsAtEnds (λ setting journal.
-    IsNet setting.net → IsMachineQuiet setting journal → HasConverged setting journal)
+pub quiet_converged : ControlLawHoldsAtEnds (λ setting journal.
+    IsNet setting.net → IsQuietMachineJournal setting journal → HasConverged setting journal)
 quiet_converged = quiet_ends HasConverged converged_at_ends
 
-pub quiet_apart : HoldsAtEnds (λ setting journal.
-    IsNet setting.net → IsMachineQuiet setting journal → GetStuckApart setting journal)
-quiet_apart = quiet_ends GetStuckApart apart_at_ends
+pub quiet_apart : ControlLawHoldsAtEnds (λ setting journal.
+    IsNet setting.net → IsQuietMachineJournal setting journal → ConvergedGetStuckApart setting journal)
+quiet_apart = quiet_ends ConvergedGetStuckApart apart_at_ends
 
 -- ---- a schedule that ends with a flush leaves no message waiting
 
@@ -272,7 +272,7 @@ pub none_waits : (journal : List Item) → journal_next_delivery journal ≡ Non
 none_waits journal none = search rules
 
 pub flushed_quiet : (setting : Setting) (events : List Event) (journal : List Item)
-    → EndsInFinishedConvergence setting events journal → IsMachineQuiet setting journal
+    → EndsInFinishedNetwork setting events journal → IsQuietMachineJournal setting journal
 flushed_quiet setting events journal ends =
     finished_behind.ends.answered setting (events ++ Flush ∷ []) journal ends.answered (record {
       waiting = none_waits journal (rw ends.answered.written
@@ -282,11 +282,11 @@ flushed_quiet setting events journal ends =
     })
 
 pub flushed_converged : (setting : Setting) (events : List Event) (journal : List Item)
-    → IsNet setting.net → EndsInFinishedConvergence setting events journal → HasConverged setting journal
+    → IsNet setting.net → EndsInFinishedNetwork setting events journal → HasConverged setting journal
 flushed_converged setting events journal net ends = quiet_converged.answered setting
     (events ++ Flush ∷ []) journal ends.answered net (flushed_quiet setting events journal ends)
 
 pub flushed_updated : (setting : Setting) (events : List Event) (journal : List Item)
-    → EndsInFinishedConvergence setting events journal → HasConvergedOnVersion setting journal
+    → EndsInFinishedNetwork setting events journal → IsNetworkUpdateConverged setting journal
 flushed_updated setting events journal ends = updated_at_ends.answered setting
     (events ++ Flush ∷ []) journal ends.answered (flushed_quiet setting events journal ends)

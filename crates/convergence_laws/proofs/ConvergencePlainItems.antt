@@ -3,7 +3,7 @@
 -- make none stuck either.
 use Rattle.std.proofs.Common.{[], ◌++◌, ◌+◌, ◌<◌, ◌∙◌, ◌∷◌, ◌≡◌, ◌≤◌, ◌⊎◌, All, Bool, IsFalse, IsTrue, List, None, Option, Some, ap, arith, false, filter, filter_map, flat_map, inl, inr, length, map, refl, slice_index_or, subst, suc, sym, true, zero, ℕ, rules}
 use Rattle.base.proofs.Exports.{⊤, AllByRecursion, cases_eq, cons_option, range_with_len, recursion_from_All}
-use Rattle.update_machine.specs.Exports.{Body, Confirm, Crash, Deliver, JournalItemsHaveCauses, Hop, Item, LinkDown, LinkUp, Message, Packet, Resend, Restart, Setting, Step, Update, journal_boot_of, deliver_items, machine_delivery_items, machine_expire_items, forget_items, machine_hello_of, is_deliverable, is_up, journal_items_then, journal_link_changes, lose_items, nothing, restart_items, send_items, settling, step_items, journal_switch_items}
+use Rattle.update_machine.specs.Exports.{Body, Confirm, Crash, Deliver, JournalItemsHaveCauses, Hop, Item, LinkDown, LinkUp, Message, Packet, Resend, Restart, Setting, Step, Update, journal_boot_of, deliver_items, machine_delivery_items, machine_expire_items, machine_forget_items, machine_hello_of, is_deliverable, is_up, journal_items_then, journal_link_changes, lose_items, nothing, restart_items, send_items, settling, machine_step_items, journal_switch_items}
 use Rattle.update_machine.proofs.Exports.{PiecesHave, have_first, message_keeps}
 use Rattle.control_laws.proofs.Exports.{Change, Control, IsChange, IsControl, IsTraffic, confirm_control, controller_control, crash_changes, delivery_has, have_weaker, link_change, links_change, packet_has, piece_has, resends_any, sends_any, settling_control, step_traffic, switch_cases, update_has, work_cases}
 
@@ -202,8 +202,8 @@ lose_aside : (packet : ℕ) (journal : List Item) → Aside journal (lose_items 
 unfolding lose_items
 lose_aside packet journal = grind arith
 
-forget_aside : (number : ℕ) (journal : List Item) → Aside journal (forget_items number journal)
-unfolding forget_items
+forget_aside : (number : ℕ) (journal : List Item) → Aside journal (machine_forget_items number journal)
+unfolding machine_forget_items
 forget_aside number journal = by_test (is_deliverable journal number) refl where
   by_test : (b : Bool) → is_deliverable journal number ≡ b → Aside journal (elim b [
     | false ↦ nothing
@@ -226,7 +226,7 @@ is_aside (Restart s) = false
 is_aside _ = true
 
 step_aside : (setting : Setting) (before : List Item) (step : Step) (here : List Item)
-    → IsTrue (is_aside step) → Aside here (step_items setting before step here)
+    → IsTrue (is_aside step) → Aside here (machine_step_items setting before step here)
 step_aside setting before (Update file) here is = update_has _ control_is _ file _ (λ version. tt)
 step_aside setting before (LinkDown one two) here is =
     change_aside setting _ _ (link_change setting before one two false _)
@@ -241,7 +241,7 @@ step_aside setting before (Deliver message) here is = absurd cc
 step_aside setting before (Restart s) here is = absurd cc
 step_aside setting before step here is =
     work_cases (λ step. IsTrue (is_aside step)
-    → Aside here (step_items setting before step here)) (λ packet none. absurd cc)
+    → Aside here (machine_step_items setting before step here)) (λ packet none. absurd cc)
     (λ packet one. lose_aside packet _) (λ message one. forget_aside message _)
     (λ s place one. expire_aside setting s place _) step tt is
 
@@ -252,7 +252,7 @@ is_plain (Restart s) = false
 is_plain _ = true
 
 pub step_plain : (setting : Setting) (before : List Item) (step : Step) (here : List Item)
-    → is_plain step ≡ true → Plain here (step_items setting before step here)
+    → is_plain step ≡ true → Plain here (machine_step_items setting before step here)
 step_plain setting before (Packet s header) here is = packet_has _ _ (traffic_is _) _ s header _ tt
 step_plain setting before (Hop packet) here is = have_weaker (IsTraffic setting) IsPlain
     (traffic_is setting) _ _ (step_traffic setting before (Hop packet) _ tt)
@@ -325,7 +325,7 @@ moves _ = false
 pub others_have : (cause : List Item → Item → Type 0) → HasOthers cause → (setting : Setting)
     → (before : List Item) (row : ℕ) (step : Step) → IsFalse (moves step)
     → let here = before ++ Item.Row row step ∷ [] in
-    JournalItemsHaveCauses cause here (step_items setting before step here)
+    JournalItemsHaveCauses cause here (machine_step_items setting before step here)
 others_have cause others setting before row (Packet s header) none = absurd cc
 others_have cause others setting before row (Hop packet) none = absurd cc
 others_have cause others setting before row (Deliver message) none = deliver_have _ others _ _ _ _ _
@@ -337,7 +337,7 @@ step_have : (cause : List Item → Item → Type 0) → HasOthers cause
     → ((before : List Item) (next : Item) → IsPlain before next → cause before next)
     → (setting : Setting) (before : List Item) (row : ℕ) (step : Step)
     → let here = before ++ Item.Row row step ∷ [] in
-    JournalItemsHaveCauses cause here (step_items setting before step here)
+    JournalItemsHaveCauses cause here (machine_step_items setting before step here)
 step_have cause others plain setting before row (Packet s header) =
     have_weaker IsPlain cause plain _ _ (step_plain setting before (Packet s header) _ refl)
 step_have cause others plain setting before row (Hop packet) =

@@ -1,9 +1,9 @@
 -- After each step each member was opened at the current version, or was told to stamp with it.
 use Rattle.std.proofs.Common.{[], ◌++◌, ◌+◌, ◌<◌, ◌∙◌, ◌∷◌, ◌≡◌, ◌⊎◌, Bool, IsTrue, List, Some, ap, append-nil, append_assoc, arith, false, inl, inr, length, map, nat_lt, refl, subst, sym, true, ℕ, rules}
 use Rattle.base.proofs.Exports.{each_always, each_map, ⊤}
-use Rattle.update_machine.specs.Exports.{Body, JournalControllerKeeps, JournalItemsHaveCauses, Hello, Item, Message, Setting, Step, after_hello, confirm_items, controller_heard, controller_items, current_items, journal_current_mark, deliver_items, in_turn, is_member, is_journal_controller_message, is_over, journal_items_then, journal_known_boot, members, journal_next_current, nothing, machine_open_items, machine_open_sent, opened_at, piece, retired_items, send_items, settling, journal_stamp_for, step_items, switches_of, touched_by, update_items, journal_version_count}
+use Rattle.update_machine.specs.Exports.{Body, JournalControllerKeeps, JournalItemsHaveCauses, Hello, Item, Message, Setting, Step, machine_after_hello, confirm_items, journal_controller_heard, controller_items, current_items, journal_current_mark, deliver_items, in_turn, is_member, is_journal_controller_message, is_over, journal_items_then, journal_known_boot, members, journal_next_current, nothing, machine_open_items, machine_open_sent, journal_opened_at, piece, machine_retired_items, send_items, settling, journal_stamp_for, machine_step_items, setting_switches_of, machine_touched_by, machine_update_items, journal_version_count}
 use Rattle.update_machine.proofs.Exports.{have_first, have_in_turn}
-use Rattle.control_laws.specs.Exports.{HasControlItemCause, asks_controller, stamp_message_to}
+use Rattle.control_laws.specs.Exports.{HasControlItemCause, control_asks_controller, control_stamp_message_to}
 use Rattle.control_laws.proofs.Exports.{AreKept, Both, LeavesMember, ReopensAlone, StampsAreCurrent, behind_piece, confirm_cases, current_kept, current_more, deliver_cases, delivered_cases, fact_on, have_both, have_rest, in_two, known_more, leaves_keep, member_was, others_keep, over_cases, over_more, quiet_leaves, sends_any, sends_leave, sent_cases, settling_have, told_is, update_cases}
 use Rattle.convergence_laws.proofs.ConvergenceTables.{all_keep, delivery_told, installs_keep}
 use Rattle.convergence_laws.proofs.ConvergencePlainItems.{in_filter, in_map, in_range}
@@ -13,24 +13,24 @@ use Rattle.ternary.specs.Exports.{WordValue}
 -- the switch was told to stamp with the version in this boot, whatever was touched
 pub record IsStampSent (journal : List Item) (s boot version : ℕ) : Type 0 where
   pub touched : List WordValue
-  pub sent : IsSent journal (stamp_message_to s boot version touched)
+  pub sent : IsSent journal (control_stamp_message_to s boot version touched)
 
 pub record HaveStamps (setting : Setting) (journal : List Item) : Type 0 where
   pub each : (s : ℕ) → s < length setting.net.switches → IsTrue (is_member journal s)
-      → (opened_at journal s ≡ Some (journal_current_mark journal))
+      → (journal_opened_at journal s ≡ Some (journal_current_mark journal))
       ⊎ IsStampSent journal s (journal_known_boot journal s) (journal_current_mark journal)
 
 -- the same of one switch
 abbrev IsStamped : List Item → ℕ → Type 0
 IsStamped journal s = IsTrue (is_member journal s)
-    → (opened_at journal s ≡ Some (journal_current_mark journal))
+    → (journal_opened_at journal s ≡ Some (journal_current_mark journal))
     ⊎ IsStampSent journal s (journal_known_boot journal s) (journal_current_mark journal)
 
 -- ---- where nothing changes for the switch
 
 stamped_same : (before items : List Item) (s : ℕ) → journal_known_boot (before ++ items) s
     ≡ journal_known_boot before s → (IsTrue (is_member (before ++ items) s) → IsTrue (is_member before s))
-    → opened_at (before ++ items) s ≡ opened_at before s
+    → journal_opened_at (before ++ items) s ≡ journal_opened_at before s
     → journal_current_mark (before ++ items) ≡ journal_current_mark before → IsStamped before s
     → IsStamped (before ++ items) s
 stamped_same before items s known member opened current is now = elim (is (member now)) [
@@ -107,8 +107,8 @@ unfolding machine_open_items
 open_later setting journal = later_sends journal _
 
 retired_later : (setting : Setting) (journal : List Item)
-    → JournalItemsHaveCauses IsLater journal (retired_items setting journal)
-unfolding retired_items
+    → JournalItemsHaveCauses IsLater journal (machine_retired_items setting journal)
+unfolding machine_retired_items
 retired_later setting journal = grind (arith, have_first, later_sends)
 
 -- the members are told of the version to which current rises
@@ -148,9 +148,9 @@ raised_stamps setting now version = record {
   by_member s there member = subst (λ b. IsStampSent after s b (journal_current_mark after))
       (sym (keeps.known s ∙ known_more now next s))
       (subst (IsStampSent after s (journal_known_boot now s)) (sym mark) (record {
-        touched = touched_by setting now version;
+        touched = machine_touched_by setting now version;
         sent = sends_all raised stamps _ (in_map (journal_stamp_for setting now version) s
-            (members setting now) (in_filter (is_member now) s (switches_of setting) (in_range s 0
+            (members setting now) (in_filter (is_member now) s (setting_switches_of setting) (in_range s 0
             (length setting.net.switches) (omega arith) (omega (arith, there))) member));
       }))
 
@@ -180,19 +180,19 @@ unfolding settling
 settling_stamps setting now have =
     let first : List Item = current_items setting now in
     let rest : List Item =
-    in_turn (machine_open_items setting ∷ retired_items setting ∷ []) (now ++ first) in
+    in_turn (machine_open_items setting ∷ machine_retired_items setting ∷ []) (now ++ first) in
     subst (HaveStamps setting) (append_assoc now first rest)
     (fact_on (Both (HasControlItemCause setting) IsLater) (HaveStamps setting) (stamps_later setting)
     (now ++ first) rest (have_both (HasControlItemCause setting) IsLater (now ++ first) rest
     (have_rest (HasControlItemCause setting) now first rest (settling_have setting now))
-    (have_in_turn IsLater (machine_open_items setting ∷ retired_items setting ∷ [])
+    (have_in_turn IsLater (machine_open_items setting ∷ machine_retired_items setting ∷ [])
     (open_later setting, (retired_later setting, tt)) (now ++ first))) (current_stamps setting now
     have))
 
 -- ---- steps
 
 hello_stamps : (setting : Setting) (before : List Item) (body : Body) (now : List Item)
-    → HaveStamps setting now → HaveStamps setting (now ++ after_hello setting before body now)
+    → HaveStamps setting now → HaveStamps setting (now ++ machine_after_hello setting before body now)
 hello_stamps setting before (Hello s boot) now have = search (rules, stamps_keep, installs_keep)
 hello_stamps setting before _ now have = subst (HaveStamps setting) (sym (append-nil now)) have
 
@@ -200,7 +200,7 @@ heard_stamps : (setting : Setting) (before : List Item) (body : Body) (now : Lis
     → HaveStamps setting now → HaveStamps setting (now ++ controller_items setting before body now)
 unfolding controller_items
 heard_stamps setting before body now have = subst (HaveStamps setting)
-    (sym (in_two (settling setting) (after_hello setting before body) now)) (hello_stamps setting
+    (sym (in_two (settling setting) (machine_after_hello setting before body) now)) (hello_stamps setting
     before body (now ++ settling setting now) (settling_stamps setting now have))
 
 still_stamps : (setting : Setting) (before : List Item) (next : Item)
@@ -227,7 +227,7 @@ deliver_stamps setting before here number are is have =
     now (record { each = λ s there. stamped_delivered here number s are (have.each s there) })))
 
 update_stamps : (setting : Setting) (file : ℕ) (here : List Item) → HaveStamps setting here
-    → HaveStamps setting (here ++ update_items setting file here)
+    → HaveStamps setting (here ++ machine_update_items setting file here)
 update_stamps setting file here have =
     let next : Item = Item.Submitted file (journal_version_count here + 1) in
     let now : List Item = here ++ next ∷ [] in
@@ -245,15 +245,15 @@ confirm_stamps setting s here have = confirm_cases (HaveStamps setting) setting 
     (record { each = λ t there. stamped_over here s t (have.each t there) }))
 
 told_stamps : (setting : Setting) (before here : List Item) (step : Step)
-    → IsTrue (asks_controller before step) → StampsAreCurrent here → HaveStamps setting here
-    → HaveStamps setting (here ++ step_items setting before step here)
+    → IsTrue (control_asks_controller before step) → StampsAreCurrent here → HaveStamps setting here
+    → HaveStamps setting (here ++ machine_step_items setting before step here)
 told_stamps setting before here step is are have =
     search (rules, deliver_stamps, update_stamps, confirm_stamps)
 
 pub piece_stamps : (setting : Setting) (before : List Item) (row : ℕ) (step : Step)
     → StampsAreCurrent before → HaveStamps setting before
     → HaveStamps setting (before ++ piece setting before row step)
-piece_stamps setting before row step are have = by_kind (asks_controller before step) refl where
+piece_stamps setting before row step are have = by_kind (control_asks_controller before step) refl where
   next : Item
   next = Item.Row row step
 
@@ -261,7 +261,7 @@ piece_stamps setting before row step are have = by_kind (asks_controller before 
   begun = still_stamps setting before next (λ s. known_more before next s)
       (λ s. over_more before next s) (λ s. refl) (current_more before next) have
 
-  by_kind : (b : Bool) → asks_controller before step ≡ b
+  by_kind : (b : Bool) → control_asks_controller before step ≡ b
       → HaveStamps setting (before ++ piece setting before row step)
   by_kind false e = stamps_keep setting before _ (others_keep setting before row step e) have
   by_kind true e = behind_piece setting before row step (HaveStamps setting)
@@ -269,5 +269,5 @@ piece_stamps setting before row step are have = by_kind (asks_controller before 
 
 -- each switch begins at the first version
 pub stamps_at_first : (setting : Setting) → HaveStamps setting []
-unfolding opened_at journal_known_boot controller_heard journal_current_mark
+unfolding journal_opened_at journal_known_boot journal_controller_heard journal_current_mark
 stamps_at_first setting = record { each = λ s there member. inl refl }

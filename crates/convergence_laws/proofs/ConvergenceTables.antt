@@ -2,10 +2,10 @@
 -- each version from the current one to the last.
 use Rattle.std.proofs.Common.{[], if◌then◌else◌, ◌++◌, ◌+◌, ◌<◌, ◌∙◌, ◌∷◌, ◌≡◌, ◌≤◌, ◌⊎◌, Bool, IsFalse, IsTrue, List, Some, ap, append-nil, arith, false, inl, inr, length, nat_lt, not, refl, subst, sym, true, ℕ, rules}
 use Rattle.base.proofs.Exports.{cases_eq, each_always, each_map, ⊤}
-use Rattle.update_machine.specs.Exports.{Body, JournalControllerKeeps, Deliver, Hello, Install, Item, Message, Setting, Step, Tables, after_hello, confirm_items, controller_items, journal_current_mark, deliver_items, machine_delivery_items, journal_install_for, machine_installs_to, machine_installs_to_all, is_journal_controller_message, is_new_boot_in_journal, is_over, journal_known_boot, message_of, piece, journal_raises_known_boot, send_items, settling, step_items, switches_of, journal_tables_at, machine_message_to_switch, update_items, journal_version_count, journal_versions_from_current}
+use Rattle.update_machine.specs.Exports.{Body, JournalControllerKeeps, Deliver, Hello, Install, Item, Message, Setting, Step, Tables, machine_after_hello, confirm_items, controller_items, journal_current_mark, deliver_items, machine_delivery_items, journal_install_for, machine_installs_to, machine_installs_to_all, is_journal_controller_message, is_new_boot_in_journal, is_over, journal_known_boot, journal_message_of, piece, journal_raises_known_boot, send_items, settling, machine_step_items, setting_switches_of, journal_tables_at, machine_message_to_switch, machine_update_items, journal_version_count, journal_versions_from_current}
 use Rattle.ctrl_msg.specs.Exports.{to_controller}
 use Rattle.update_machine.proofs.Exports.{start_laws}
-use Rattle.control_laws.specs.Exports.{HasControlItemCause, asks_controller}
+use Rattle.control_laws.specs.Exports.{HasControlItemCause, control_asks_controller}
 use Rattle.control_laws.proofs.Exports.{AreKept, Both, ReopensAlone, behind_piece, confirm_cases, count_more, current_more, deliver_cases, fact_on, grows, have_both, hello_sent, in_two, installs_reopen, known_more, leaves_keep, message_more, others_keep, over_more, sends_any, sends_leave, settling_have, settling_settles, told_is, unraised_same, update_cases}
 use Rattle.convergence_laws.proofs.ConvergencePlainItems.{IsPlain, in_filter, in_map, in_range, settling_plain}
 use Rattle.convergence_laws.proofs.ConvergenceMessages.{IsSent, sends_all, sent_on}
@@ -129,7 +129,7 @@ delivered_owed setting last before number have = record {
 -- what raises the known boot of a switch is its hello
 record IsHello (before : List Item) (number s : ℕ) : Type 0 where
   boot : ℕ
-  sent : message_of before number ≡ Some (to_controller (Hello s boot))
+  sent : journal_message_of before number ≡ Some (to_controller (Hello s boot))
   new : IsTrue (is_new_boot_in_journal before s boot)
 
 raises_by : (before : List Item) (number s : ℕ) → journal_raises_known_boot before s number ≡ true
@@ -150,7 +150,7 @@ installs_sent setting now s version above below = record {
 
 hello_is : (setting : Setting) (before : List Item) (s boot : ℕ) (now : List Item)
     → IsTrue (is_new_boot_in_journal before s boot)
-    → after_hello setting before (Hello s boot) now ≡ machine_installs_to setting s now
+    → machine_after_hello setting before (Hello s boot) now ≡ machine_installs_to setting s now
 hello_is setting before s boot now new = cc new
 
 to_installs : (setting : Setting) (Owed : ℕ → Type 0) (last s : ℕ) (now : List Item)
@@ -161,7 +161,7 @@ to_installs setting Owed last s now have = sends_installs setting Owed last now 
 
 hello_installs : (setting : Setting) (Owed : ℕ → Type 0) (last : ℕ) (before : List Item)
     (body : Body) (now : List Item) → HaveInstalls setting Owed last now
-    → HaveInstalls setting Owed last (now ++ after_hello setting before body now)
+    → HaveInstalls setting Owed last (now ++ machine_after_hello setting before body now)
 hello_installs setting Owed last before body now have = search (rules, to_installs)
 
 pub installs_keep : (setting : Setting) (s : ℕ) (now : List Item)
@@ -173,12 +173,12 @@ installs_keep setting s now = leaves_keep now _ (sends_leave now _ (installs_reo
 hello_sends : (setting : Setting) (before : List Item) (s boot version : ℕ) (body : Body)
     (now : List Item) → body ≡ Hello s boot → IsTrue (is_new_boot_in_journal before s boot)
     → version ≤ journal_version_count now
-    → let after = now ++ after_hello setting before body now in
+    → let after = now ++ machine_after_hello setting before body now in
     journal_current_mark after ≤ version → TablesSent after s (journal_known_boot after s) version
 hello_sends setting before s boot version body now is new below =
     subst (λ items. journal_current_mark (now ++ items) ≤ version
     → TablesSent (now ++ items) s (journal_known_boot (now ++ items) s) version)
-    (sym (ap (λ b. after_hello setting before b now) is ∙ hello_is setting before s boot now new))
+    (sym (ap (λ b. machine_after_hello setting before b now) is ∙ hello_is setting before s boot now new))
     (λ above. let keeps = installs_keep setting s now in
     subst (λ b. TablesSent (now ++ machine_installs_to setting s now) s b version) (sym (keeps.known s))
     (installs_sent setting now s version (omega (arith, above, keeps.current)) below))
@@ -188,12 +188,12 @@ settling_count : (setting : Setting) (now : List Item)
     → journal_version_count (now ++ settling setting now) ≡ journal_version_count now
 settling_count setting now = (grows now (settling setting now) (settling_settles setting now)).count
 
-same_body : (before : List Item) (number : ℕ) (one other : Body) → message_of before number
-    ≡ Some (to_controller one) → message_of before number ≡ Some (to_controller other) → one ≡ other
+same_body : (before : List Item) (number : ℕ) (one other : Body) → journal_message_of before number
+    ≡ Some (to_controller one) → journal_message_of before number ≡ Some (to_controller other) → one ≡ other
 same_body before number one other first second = search rules
 
 heard_installs : (setting : Setting) (before : List Item) (row number : ℕ) (step : Step)
-    (body : Body) (now : List Item) → message_of before number ≡ Some (to_controller body)
+    (body : Body) (now : List Item) → journal_message_of before number ≡ Some (to_controller body)
     → let here = before ++ Item.Row row step ∷ [] in
     (last : ℕ) → last ≡ journal_version_count now
     → HaveInstalls setting (λ s. journal_raises_known_boot here s number ≡ true) last now
@@ -203,7 +203,7 @@ heard_installs setting before row number step body now sent last is have =
     let all : HaveInstalls setting (λ s. journal_raises_known_boot here s number ≡ true) last after =
     hello_installs setting _ last before body settled (settling_installs setting _ last now have) in
     subst (HaveInstalls setting (λ s. ⊥) last)
-    (sym (in_two (settling setting) (after_hello setting before body) now)) (record {
+    (sym (in_two (settling setting) (machine_after_hello setting before body) now)) (record {
       each = λ s version there none above below. by_owed s version above below
           (all.each s version there none above below);
     })
@@ -215,7 +215,7 @@ heard_installs setting before row number step body now sent last is have =
     settled = now ++ settling setting now
 
     after : List Item
-    after = settled ++ after_hello setting before body settled
+    after = settled ++ machine_after_hello setting before body settled
 
     by_owed : (s version : ℕ) → journal_current_mark after ≤ version → version ≤ last
         → (journal_raises_known_boot here s number ≡ true) ⊎ (((version ≡ 1) × (journal_known_boot after s ≡ 1))
@@ -232,7 +232,7 @@ heard_installs setting before row number step body now sent last is have =
         ∙ hello.sent)) new (omega (arith, below, is, settling_count setting now)) above))
 
 pub delivery_told : (setting : Setting) (before : List Item) (number : ℕ) (body : Body)
-    (now : List Item) → message_of before number ≡ Some (to_controller body)
+    (now : List Item) → journal_message_of before number ≡ Some (to_controller body)
     → machine_delivery_items setting before number now ≡ controller_items setting before body now
 unfolding machine_delivery_items
 delivery_told setting before number body now sent = search rules
@@ -249,7 +249,7 @@ deliver_installs setting before row number is have =
     let last : ℕ = journal_version_count before in
     let same : last ≡ journal_version_count now = sym (count_more here (Item.Delivered number)
     ∙ count_more before (Item.Row row (Deliver number))) in
-    let told : (body : Body) × (message_of before number ≡ Some (to_controller body)) =
+    let told : (body : Body) × (journal_message_of before number ≡ Some (to_controller body)) =
     told_is before number is in
     deliver_cases (HaveInstalls setting (λ s. ⊥) last) setting before number here
     (installs_on setting (λ s. ⊥) last here Item.Nothing (record { first = tt; second = tt }) have)
@@ -258,7 +258,7 @@ deliver_installs setting before row number is have =
     (delivered_owed setting last here number have)))
 
 hello_count : (setting : Setting) (before : List Item) (body : Body) (now : List Item)
-    → journal_version_count (now ++ after_hello setting before body now) ≡ journal_version_count now
+    → journal_version_count (now ++ machine_after_hello setting before body now) ≡ journal_version_count now
 hello_count setting before (Hello s boot) now = by_new (is_new_boot_in_journal before s boot) where
   by_new : (b : Bool) → journal_version_count (now ++ elim b [
     | true ↦ machine_installs_to setting s now
@@ -272,7 +272,7 @@ controller_count : (setting : Setting) (before : List Item) (body : Body) (now :
     → journal_version_count (now ++ controller_items setting before body now) ≡ journal_version_count now
 unfolding controller_items
 controller_count setting before body now =
-    ap journal_version_count (in_two (settling setting) (after_hello setting before body) now)
+    ap journal_version_count (in_two (settling setting) (machine_after_hello setting before body) now)
     ∙ hello_count setting before body (now ++ settling setting now) ∙ settling_count setting now
 
 deliver_count : (setting : Setting) (before : List Item) (row number : ℕ)
@@ -301,7 +301,7 @@ newest_sent setting now s there none = record {
   tables = journal_tables_at setting now (journal_version_count now) s;
   of = refl;
   sent = sends_all now _ _ (in_map (journal_install_for setting now (journal_version_count now)) s _
-      (in_filter (λ t. not (is_over now t)) s (switches_of setting) (in_range s 0
+      (in_filter (λ t. not (is_over now t)) s (setting_switches_of setting) (in_range s 0
       (length setting.net.switches) (omega arith) (omega (arith, there))) (ap not none)));
 }
 
@@ -348,7 +348,7 @@ settled_installs : (setting : Setting) (last : ℕ) (now : List Item) → last �
 settled_installs setting last now same have = search (rules, settling_count, settling_installs)
 
 update_installs : (setting : Setting) (file : ℕ) (here : List Item) → AllInstalled setting here
-    → AllInstalled setting (here ++ update_items setting file here)
+    → AllInstalled setting (here ++ machine_update_items setting file here)
 update_installs setting file here have =
     let next : Item = Item.Submitted file (journal_version_count here + 1) in
     let now : List Item = here ++ next ∷ [] in
@@ -373,13 +373,13 @@ confirm_installs setting s here have = let next : Item = Item.OverNow s in
 -- ---- steps
 
 told_installs : (setting : Setting) (before : List Item) (row : ℕ) (step : Step)
-    → IsTrue (asks_controller before step) → let here = before ++ Item.Row row step ∷ [] in
-    AllInstalled setting here → AllInstalled setting (here ++ step_items setting before step here)
+    → IsTrue (control_asks_controller before step) → let here = before ++ Item.Row row step ∷ [] in
+    AllInstalled setting here → AllInstalled setting (here ++ machine_step_items setting before step here)
 told_installs setting before row step is =
     search (rules, deliver_count, deliver_installs, count_more, update_installs, confirm_installs)
 
 other_installs : (setting : Setting) (before : List Item) (row : ℕ) (step : Step)
-    → IsFalse (asks_controller before step) → AllInstalled setting before
+    → IsFalse (control_asks_controller before step) → AllInstalled setting before
     → AllInstalled setting (before ++ piece setting before row step)
 other_installs setting before row step is have =
     let keeps = others_keep setting before row step is in
@@ -390,8 +390,8 @@ other_installs setting before row step is have =
 
 pub piece_installs : (setting : Setting) (before : List Item) (row : ℕ) (step : Step)
     → AllInstalled setting before → AllInstalled setting (before ++ piece setting before row step)
-piece_installs setting before row step have = by_kind (asks_controller before step) refl where
-  by_kind : (b : Bool) → asks_controller before step ≡ b
+piece_installs setting before row step have = by_kind (control_asks_controller before step) refl where
+  by_kind : (b : Bool) → control_asks_controller before step ≡ b
       → AllInstalled setting (before ++ piece setting before row step)
   by_kind false e = other_installs setting before row step e have
   by_kind true e = behind_piece setting before row step (AllInstalled setting)

@@ -1,12 +1,12 @@
 -- In a quiet journal every update has ended.
 use Rattle.std.proofs.Common.{[], if◌then◌else◌, ◌++◌, ◌+◌, ◌-◌, ◌<◌, ◌==◌, ◌||◌, ◌∙◌, ◌∷◌, ◌≡◌, ◌≤◌, ◌⊎◌, Bool, IsFalse, IsTrue, List, None, Option, Some, ap, arith, eq-eqb, false, fold, inl, inr, is_some, length, max, nat_eq, nat_lt, refl, sym, true, unwrap_or, ℕ, rules}
 use Rattle.base.proofs.Exports.{list_any, nat_tests}
-use Rattle.update_machine.specs.Exports.{Body, JournalItemsHaveCauses, Hello, Install, Installed, IsMachineQuiet, Item, OpenAt, Setting, Stamp, Stamped, StepOfRow, Tables, acked_stamp, journal_after_steps, journal_boot_of, controller_heard, journal_current_mark, has_acked, heard, journal_installed_in_body, is_machine_later_body, is_member, is_up, journal_known_boot, opened_at, piece, serves, journal_version_count}
+use Rattle.update_machine.specs.Exports.{Body, JournalItemsHaveCauses, Hello, Install, Installed, IsQuietMachineJournal, Item, OpenAt, Setting, Stamp, Stamped, StepOfRow, Tables, acked_stamp, journal_after_steps, journal_boot_of, journal_controller_heard, journal_current_mark, has_acked, heard, machine_installed_version, is_machine_later_body, is_member, is_up, journal_known_boot, journal_opened_at, piece, serves, journal_version_count}
 use Rattle.ctrl_msg.specs.Exports.{to_controller}
 use Rattle.update_machine.proofs.Exports.{have_append}
-use Rattle.control_laws.specs.Exports.{HoldsAtEnds}
+use Rattle.control_laws.specs.Exports.{ControlLawHoldsAtEnds}
 use Rattle.control_laws.proofs.Exports.{acked_stamp_opened, at_ends, bounded, fold_up, known_first, member_parts, opened_in, opened_is, settled_at_ends}
-use Rattle.convergence_laws.specs.Exports.{HasConvergedOnVersion}
+use Rattle.convergence_laws.specs.Exports.{IsNetworkUpdateConverged}
 use Rattle.convergence_laws.proofs.ConvergenceCaughtUp.{AreReady, IsCaughtUp, caught_updated, items_caused}
 use Rattle.convergence_laws.proofs.ConvergenceAnswers.{HaveSpoken, piece_spoken, spoken_at_first}
 use Rattle.convergence_laws.proofs.ConvergenceDownSwitches.{caused_recorded}
@@ -97,14 +97,14 @@ was_itself : (bodies : List Body) (of : Body) → IsTrue (is_alone of) → WasHe
     → IsIn of bodies
 was_itself bodies of alone was = rw (says_same was.body of alone was.says) at was.is
 
-pub hello_known : (journal : List Item) (s boot : ℕ) → IsIn (Hello s boot) (controller_heard journal)
+pub hello_known : (journal : List Item) (s boot : ℕ) → IsIn (Hello s boot) (journal_controller_heard journal)
     → boot ≤ journal_known_boot journal s
 unfolding journal_known_boot
 hello_known journal s boot is = search (rules, eq-eqb, in_fold, in_filter_map)
 
 -- the controller knows the boot of each switch that is up
 known_own : (setting : Setting) (journal : List Item) → AreReady setting journal
-    → IsMachineQuiet setting journal → (s : ℕ) → s < length setting.net.switches
+    → IsQuietMachineJournal setting journal → (s : ℕ) → s < length setting.net.switches
     → IsTrue (is_up journal s) → journal_known_boot journal s ≡ journal_boot_of journal s
 known_own setting journal are quiet s there up = let below = are.recorded.known.boots.known s in
     elim (are.spoken.hellos.each s up) [
@@ -112,7 +112,7 @@ known_own setting journal are quiet s there up = let below = are.recorded.known.
       | inr said ↦ elim said [
         | inl first ↦ omega (arith, below, first, known_first journal s)
         | inr sent ↦ let told : journal_boot_of journal s ≤ journal_known_boot journal s = hello_known journal s
-            (journal_boot_of journal s) (was_itself (controller_heard journal) _ refl (told_of setting
+            (journal_boot_of journal s) (was_itself (journal_controller_heard journal) _ refl (told_of setting
             journal s (Hello s (journal_boot_of journal s)) quiet are.causes there sent up refl refl)) in
             omega (arith, below, told)
       ]
@@ -121,13 +121,13 @@ known_own setting journal are quiet s there up = let below = are.recorded.known.
 -- ---- what is acknowledged
 
 pub installed_acked : (journal : List Item) (s version : ℕ)
-    → IsIn (Installed s (journal_known_boot journal s) version) (controller_heard journal)
+    → IsIn (Installed s (journal_known_boot journal s) version) (journal_controller_heard journal)
     → IsTrue (has_acked journal s version)
 unfolding has_acked
 installed_acked journal s version is = any_in version _
     (in_right version (if journal_known_boot journal s == 1 then 1 ∷ [] else []) _
-    (in_filter_map (journal_installed_in_body s (journal_known_boot journal s))
-    (Installed s (journal_known_boot journal s) version) version (controller_heard journal) is
+    (in_filter_map (machine_installed_version s (journal_known_boot journal s))
+    (Installed s (journal_known_boot journal s) version) version (journal_controller_heard journal) is
     (rw ((eq-eqb s s refl), eq-eqb (journal_known_boot journal s) (journal_known_boot journal s) refl) refl)))
 
 pub first_acked : (journal : List Item) (s : ℕ) → journal_known_boot journal s ≡ 1
@@ -140,7 +140,7 @@ not_below v w above = grind (arith, nat_tests)
 
 -- a switch that is up acknowledged each version from the current one to the last
 all_installed : (setting : Setting) (journal : List Item) → AreReady setting journal
-    → IsMachineQuiet setting journal → (s version : ℕ) → s < length setting.net.switches
+    → IsQuietMachineJournal setting journal → (s version : ℕ) → s < length setting.net.switches
     → IsTrue (is_up journal s) → journal_current_mark journal ≤ version → version ≤ journal_version_count journal
     → IsTrue (has_acked journal s version)
 all_installed setting journal are quiet s version there up above below = elim (are.installs.each s
@@ -155,7 +155,7 @@ all_installed setting journal are quiet s version there up above below = elim (a
             (not_below tables.version (journal_current_mark journal) (omega (arith, sent.of, above)))))) [
               | inl none ↦ absurd none
               | inr answer ↦ rw sent.of at (installed_acked journal s tables.version
-                  (was_itself (controller_heard journal) _ refl (told_of setting journal s
+                  (was_itself (journal_controller_heard journal) _ refl (told_of setting journal s
                   (Installed s (journal_known_boot journal s) tables.version) quiet are.causes there answer
                   up (ap (λ b. Some (s, b)) own) (not_below tables.version (journal_current_mark journal)
                   (omega (arith, sent.of, above))))))
@@ -168,16 +168,16 @@ all_installed setting journal are quiet s version there up above below = elim (a
 
 -- in the first boot a switch is opened at the first version
 opened_first : (journal : List Item) (s : ℕ) → journal_known_boot journal s ≡ 1
-    → opened_at journal s ≡ Some 1
-unfolding opened_at
+    → journal_opened_at journal s ≡ Some 1
+unfolding journal_opened_at
 opened_first journal s first = rw (eq-eqb (journal_known_boot journal s) 1 first) refl
 
 -- ---- opened switches
 
 -- it heard the version at which it was opened, except in its first boot
 opening_heard : (setting : Setting) (journal : List Item) → AreReady setting journal
-    → IsMachineQuiet setting journal → (s version : ℕ) → s < length setting.net.switches
-    → IsTrue (is_up journal s) → opened_at journal s ≡ Some version
+    → IsQuietMachineJournal setting journal → (s version : ℕ) → s < length setting.net.switches
+    → IsTrue (is_up journal s) → journal_opened_at journal s ≡ Some version
     → (journal_boot_of journal s ≡ 1) ⊎ IsIn (OpenAt (journal_boot_of journal s) version) (heard journal s)
 opening_heard setting journal are quiet s version there up opened =
     elim (are.recorded.openings s (journal_boot_of journal s) version (ap (opened_in journal s)
@@ -188,15 +188,15 @@ opening_heard setting journal are quiet s version there up opened =
     ]
 
 pub some_opening : (journal : List Item) (s : ℕ) → IsTrue (is_member journal s)
-    → (version : ℕ) × (opened_at journal s ≡ Some version)
+    → (version : ℕ) × (journal_opened_at journal s ≡ Some version)
 some_opening journal s member = by_opened _ refl (member_parts journal s member).1 where
-  by_opened : (o : Option ℕ) → opened_at journal s ≡ o → IsTrue (is_some o)
-      → (version : ℕ) × (opened_at journal s ≡ Some version)
+  by_opened : (o : Option ℕ) → journal_opened_at journal s ≡ o → IsTrue (is_some o)
+      → (version : ℕ) × (journal_opened_at journal s ≡ Some version)
   by_opened None e is = absurd cc
   by_opened (Some version) e is = (version, e)
 
 member_serves : (setting : Setting) (journal : List Item) → AreReady setting journal
-    → IsMachineQuiet setting journal → (s : ℕ) → s < length setting.net.switches
+    → IsQuietMachineJournal setting journal → (s : ℕ) → s < length setting.net.switches
     → IsTrue (is_up journal s) → IsTrue (is_member journal s) → IsTrue (serves journal s)
 member_serves setting journal are quiet s there up member =
     let opening = some_opening journal s member in
@@ -222,13 +222,13 @@ later_stamped : (body : Body) (s boot version : ℕ)
 later_stamped body s boot version h4 = search (rules, nat_tests)
 
 pub stamped_acked : (journal : List Item) (s version : ℕ)
-    → IsIn (Stamped s (journal_known_boot journal s) version) (controller_heard journal)
+    → IsIn (Stamped s (journal_known_boot journal s) version) (journal_controller_heard journal)
     → version ≤ acked_stamp journal s
 unfolding acked_stamp
 stamped_acked journal s version is = search (rules, in_fold, in_filter_map, eq-eqb)
 
 told_stamps : (setting : Setting) (journal : List Item) → AreReady setting journal
-    → IsMachineQuiet setting journal → (s : ℕ) → s < length setting.net.switches → IsTrue (is_up journal s)
+    → IsQuietMachineJournal setting journal → (s : ℕ) → s < length setting.net.switches → IsTrue (is_up journal s)
     → IsStampSent journal s (journal_known_boot journal s) (journal_current_mark journal)
     → journal_current_mark journal ≤ acked_stamp journal s
 told_stamps setting journal are quiet s there up stamp = omega (
@@ -256,27 +256,27 @@ told_stamps setting journal are quiet s there up stamp = omega (
     | inr sent ↦ sent
   ]
 
-  told : WasHeard (controller_heard journal) (Stamped s known later.0)
+  told : WasHeard (journal_controller_heard journal) (Stamped s known later.0)
   told = told_of _ journal s _ quiet are.causes there answer up (ap (λ b. Some (s, b)) own) refl
 
   more : (v : ℕ) × (told.body ≡ Stamped s known v) × (later.0 ≤ v)
   more = later_stamped told.body s known later.0 told.says
 
 -- one that was opened at the current version is known to stamp with it
-pub opened_stamps : (journal : List Item) (s : ℕ) → opened_at journal s ≡ Some (journal_current_mark journal)
+pub opened_stamps : (journal : List Item) (s : ℕ) → journal_opened_at journal s ≡ Some (journal_current_mark journal)
     → journal_current_mark journal ≤ acked_stamp journal s
 opened_stamps journal s opened = omega (arith, acked_stamp_opened, ap (λ o. unwrap_or o 0) opened)
 
 -- ---- together
 
 quiet_caught : (setting : Setting) (journal : List Item) → AreReady setting journal
-    → IsMachineQuiet setting journal → IsCaughtUp setting journal
+    → IsQuietMachineJournal setting journal → IsCaughtUp setting journal
 quiet_caught setting journal are quiet =
     search (rules, known_own, all_installed, member_serves, opened_stamps, told_stamps)
 
 pub updated_at_ends :
-    HoldsAtEnds (λ setting journal. IsMachineQuiet setting journal → HasConvergedOnVersion setting journal)
-updated_at_ends = at_ends (λ setting journal. IsMachineQuiet setting journal → HasConvergedOnVersion setting journal)
+    ControlLawHoldsAtEnds (λ setting journal. IsQuietMachineJournal setting journal → IsNetworkUpdateConverged setting journal)
+updated_at_ends = at_ends (λ setting journal. IsQuietMachineJournal setting journal → IsNetworkUpdateConverged setting journal)
     (λ setting steps quiet. let ready = steps_ready setting steps in
     caught_updated setting (journal_after_steps setting [] steps) ready
     (quiet_caught setting (journal_after_steps setting [] steps) ready quiet))

@@ -3,7 +3,7 @@ pub use Rattle.convergence_laws.proofs.ConvergenceFloods.{steps_spread}
 pub use Rattle.convergence_laws.proofs.ConvergenceNews.{Spread}
 pub use Rattle.convergence_laws.proofs.ConvergenceAgreement.{AreSpread, IsGivenNew, TellsOwn, spread_agree}
 pub use Rattle.convergence_laws.proofs.ConvergenceAnswers.{answer_of, delivery_is, opens}
-pub use Rattle.convergence_laws.proofs.ConvergenceLawsCallerLemmas.{AreKept, Behind, Both, HoldsAtEnds, IsWork, NamesOwn, StaysSo, Walks, fact_on, have_both, have_rest, have_weaker, hop_work, moves, near_back, packet_works, piece_has, reach_more, rule_cases, stays_itself, stays_on}
+pub use Rattle.convergence_laws.proofs.ConvergenceLawsCallerLemmas.{AreKept, Behind, Both, ControlLawHoldsAtEnds, IsWork, NamesOwn, StaysSo, Walks, fact_on, have_both, have_rest, have_weaker, hop_work, moves, near_back, packet_works, piece_has, reach_more, rule_cases, stays_itself, stays_on}
 pub use Rattle.convergence_laws.proofs.ConvergenceCaughtUp.{AreReady, IsCaughtUp, caught_updated, items_caused}
 pub use Rattle.convergence_laws.proofs.ConvergenceLinkChanges.{ends_there, held_in, newest_held, own_held}
 pub use Rattle.convergence_laws.proofs.ConvergedReceipts.{delivered_append, heard_in_boot, own_boot, sendings_on}

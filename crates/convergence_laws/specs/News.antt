@@ -3,40 +3,40 @@
 -- because a quiet network lost nothing that matters.
 use Rattle.std.specs.Prelude.{◌<◌, ◌≡◌, ◌⊎◌, Contains, IsFalse, IsTrue, List, Some, ℕ}
 use Rattle.failover.specs.Exports.{is_newer}
-use Rattle.update_machine.specs.Exports.{Advert, Item, Setting, journal_advert_known, advert_to, journal_boot_of, near, sendings}
+use Rattle.update_machine.specs.Exports.{Advert, Item, Setting, journal_advert_known, machine_advert_to, journal_boot_of, near, sendings}
 use Rattle.base.specs.Exports.{has}
 
 -- the advert has the same origin, and is at least as new
-pub record IsAsNew (advert than : Advert) : Type 0 where
+pub record IsConvergenceAdvertAsNew (advert than : Advert) : Type 0 where
   pub origin : advert.origin ≡ than.origin
   pub new : IsFalse (is_newer than advert)
 
 -- the switch has an advert that is at least as new
-pub record HoldsAsNew (setting : Setting) (journal : List Item) (s : ℕ) (than : Advert)
+pub record HoldsConvergingNews (setting : Setting) (journal : List Item) (s : ℕ) (than : Advert)
     : Type 0 where
   pub advert : Advert
   pub held : journal_advert_known setting journal s than.origin ≡ Some advert
-  pub as_new : IsAsNew advert than
+  pub as_new : IsConvergenceAdvertAsNew advert than
 
 -- an advert that is at least as new was sent to the switch in its present boot
-pub record NeighbourIsSentNews (journal : List Item) (s : ℕ) (than : Advert) : Type 0 where
+pub record NeighbourIsSentConvergenceNews (journal : List Item) (s : ℕ) (than : Advert) : Type 0 where
   pub number : ℕ
   pub advert : Advert
   pub sent : Contains (sendings journal)
-      (record { number = number; message = advert_to s advert; boot = journal_boot_of journal s })
-  pub as_new : IsAsNew advert than
+      (record { number = number; message = machine_advert_to s advert; boot = journal_boot_of journal s })
+  pub as_new : IsConvergenceAdvertAsNew advert than
 
 -- over a usable link each end has adverts at least as new as those of the other end, or was sent
 -- such adverts in its present boot
-abbrev pub NewsSpreadsToNeighbours : Setting → List Item → Type 0
-NewsSpreadsToNeighbours setting journal = (s neighbour origin : ℕ) (advert : Advert)
+abbrev pub NewsConvergesToNeighbours : Setting → List Item → Type 0
+NewsConvergesToNeighbours setting journal = (s neighbour origin : ℕ) (advert : Advert)
     → IsTrue (has (near setting journal s) neighbour) → origin < 64
     → journal_advert_known setting journal s origin ≡ Some advert
-    → HoldsAsNew setting journal neighbour advert ⊎ NeighbourIsSentNews journal neighbour advert
+    → HoldsConvergingNews setting journal neighbour advert ⊎ NeighbourIsSentConvergenceNews journal neighbour advert
 
 -- over a usable link each end has adverts at least as new as those of the other end
 abbrev pub NeighboursAgree : Setting → List Item → Type 0
 NeighboursAgree setting journal = (s neighbour origin : ℕ) (advert : Advert)
     → IsTrue (has (near setting journal s) neighbour) → origin < 64
     → journal_advert_known setting journal s origin ≡ Some advert
-    → HoldsAsNew setting journal neighbour advert
+    → HoldsConvergingNews setting journal neighbour advert

@@ -1,29 +1,29 @@
 //! Laws about quiet networks, and about networks whose neighbours agree.
 ghost use Rattle.std.specs.Prelude.{List};
 ghost use Rattle.net_file.specs.Net.{IsNet};
-ghost use Rattle.update_machine.specs.Exports.{Event, IsMachineQuiet, Item, Setting};
-ghost use Rattle.control_laws.specs.Always.{HoldsAtEnds, HoldsBehindItems};
-ghost use Rattle.convergence_laws.specs.Exports.{EndsInFinishedConvergence, GetStuckApart, HasConverged, IsNetworkFinished, HasConvergedOnVersion, NeighboursAgree, NewsSpreadsToNeighbours};
+ghost use Rattle.update_machine.specs.Exports.{Event, IsQuietMachineJournal, Item, Setting};
+ghost use Rattle.control_laws.specs.Always.{ControlLawHoldsAtEnds, ControlLawHoldsBehindItems};
+ghost use Rattle.convergence_laws.specs.Exports.{EndsInFinishedNetwork, ConvergedGetStuckApart, HasConverged, IsNetworkFinished, IsNetworkUpdateConverged, NeighboursAgree, NewsConvergesToNeighbours};
 
 /// Over each usable link, each end holds adverts at least as new as those of the other end, or
 /// such an advert was sent to it in its present boot. This is true at the end of each step, in a
 /// quiet network or not.
 pub fn news_spreads()
-    ensures { HoldsAtEnds (λ setting journal. IsNet setting.net → NewsSpreadsToNeighbours setting journal) }
+    ensures { ControlLawHoldsAtEnds (λ setting journal. IsNet setting.net → NewsConvergesToNeighbours setting journal) }
 {}
 
 /// In a quiet network neighbours agree: over each usable link, each end has adverts at least as
 /// new as those of the other end.
 pub fn quiet_neighbours_agree()
-    ensures { HoldsAtEnds (λ setting journal.
-        IsNet setting.net → IsMachineQuiet setting journal → NeighboursAgree setting journal) }
+    ensures { ControlLawHoldsAtEnds (λ setting journal.
+        IsNet setting.net → IsQuietMachineJournal setting journal → NeighboursAgree setting journal) }
 {}
 
 /// If neighbours agree, the network has converged: each switch has the own advert of each switch
 /// that it reaches over usable links. So of the links that end at a reachable switch it knows
 /// exactly the usable ones, and it finds no route only if no target is reachable.
 pub fn agreeing_networks_have_converged()
-    ensures { HoldsAtEnds (λ setting journal.
+    ensures { ControlLawHoldsAtEnds (λ setting journal.
         IsNet setting.net → NeighboursAgree setting journal → HasConverged setting journal) }
 {}
 
@@ -31,30 +31,30 @@ pub fn agreeing_networks_have_converged()
 /// links. So of the links that end at a reachable switch it knows exactly the usable ones, and it
 /// finds no route only if no target is reachable.
 pub fn quiet_networks_have_converged()
-    ensures { HoldsAtEnds (λ setting journal.
-        IsNet setting.net → IsMachineQuiet setting journal → HasConverged setting journal) }
+    ensures { ControlLawHoldsAtEnds (λ setting journal.
+        IsNet setting.net → IsQuietMachineJournal setting journal → HasConverged setting journal) }
 {}
 
 /// If neighbours agree, as in a quiet network, a packet that had found no link down gets stuck in
 /// the next step only if no target of its leg is reachable over usable links.
-pub fn packets_get_stuck_apart()
-    ensures agreed { HoldsAtEnds (λ setting journal.
-        IsNet setting.net → NeighboursAgree setting journal → GetStuckApart setting journal) }
-    ensures quiet { HoldsAtEnds (λ setting journal.
-        IsNet setting.net → IsMachineQuiet setting journal → GetStuckApart setting journal) }
+pub fn stuck_apart_when_neighbours_agree()
+    ensures agreed { ControlLawHoldsAtEnds (λ setting journal.
+        IsNet setting.net → NeighboursAgree setting journal → ConvergedGetStuckApart setting journal) }
+    ensures quiet { ControlLawHoldsAtEnds (λ setting journal.
+        IsNet setting.net → IsQuietMachineJournal setting journal → ConvergedGetStuckApart setting journal) }
 {}
 
 /// In a quiet network every switch that is up serves and stamps with the newest version, which is
 /// the current one, and each version before it is retired.
 pub fn quiet_networks_are_updated()
-    ensures { HoldsAtEnds (λ setting journal. IsMachineQuiet setting journal → HasConvergedOnVersion setting journal) }
+    ensures { ControlLawHoldsAtEnds (λ setting journal. IsQuietMachineJournal setting journal → IsNetworkUpdateConverged setting journal) }
 {}
 
 /// A network is quiet if no message waits, none was forgotten, and each switch is up or the
 /// controller doesn't wait for it.
-pub fn finished_networks_are_quiet()
-    ensures { HoldsBehindItems (λ setting journal.
-        IsNetworkFinished setting journal → IsMachineQuiet setting journal) }
+pub fn convergence_finished_networks_are_quiet()
+    ensures { ControlLawHoldsBehindItems (λ setting journal.
+        IsNetworkFinished setting journal → IsQuietMachineJournal setting journal) }
 {}
 
 /// A schedule that ends with a flush leaves no message waiting. So if none was forgotten, and each
@@ -62,10 +62,10 @@ pub fn finished_networks_are_quiet()
 /// and every switch that is up stamps with the newest version.
 pub fn flushed_networks_have_converged()
     ensures quiet { (setting : Setting) (events : List Event) (journal : List Item)
-        → EndsInFinishedConvergence setting events journal → IsMachineQuiet setting journal }
+        → EndsInFinishedNetwork setting events journal → IsQuietMachineJournal setting journal }
     ensures converged { (setting : Setting) (events : List Event) (journal : List Item)
-        → IsNet setting.net → EndsInFinishedConvergence setting events journal
+        → IsNet setting.net → EndsInFinishedNetwork setting events journal
         → HasConverged setting journal }
     ensures updated { (setting : Setting) (events : List Event) (journal : List Item)
-        → EndsInFinishedConvergence setting events journal → HasConvergedOnVersion setting journal }
+        → EndsInFinishedNetwork setting events journal → IsNetworkUpdateConverged setting journal }
 {}

@@ -6,7 +6,7 @@
 mod laws;
 
 pub use laws::{
-    agreeing_networks_have_converged, finished_networks_are_quiet, flushed_networks_have_converged,
-    news_spreads, packets_get_stuck_apart, quiet_neighbours_agree, quiet_networks_are_updated,
-    quiet_networks_have_converged,
+    agreeing_networks_have_converged, convergence_finished_networks_are_quiet,
+    flushed_networks_have_converged, news_spreads, quiet_neighbours_agree,
+    quiet_networks_are_updated, quiet_networks_have_converged, stuck_apart_when_neighbours_agree,
 };

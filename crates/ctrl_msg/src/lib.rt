@@ -11,5 +11,7 @@ mod same;
 mod shared;
 
 pub use message::{Body, Message, Place};
-pub use same::{are_same_tables, are_same_words, have_same_rows};
+pub use same::{
+    are_same_control_message_tables, are_same_control_message_words, have_same_message_table_rows,
+};
 pub use shared::SharedTables;

@@ -6,25 +6,25 @@ use switch_table::{PartRow, Tables, Touched};
 use ternary::Word;
 
 /// Whether they are the same tables.
-pub fn are_same_tables(one: &Tables, other: &Tables) -> bool
+pub fn are_same_control_message_tables(one: &Tables, other: &Tables) -> bool
     ensures { IsTrue result ↔ (one.now ≡ other.now) }
 {
-    one.version == other.version && have_same_rows(one, other)
+    one.version == other.version && have_same_message_table_rows(one, other)
 }
 
 /// Whether they are the same tables, whatever their versions are.
-pub fn have_same_rows(one: &Tables, other: &Tables) -> bool
+pub fn have_same_message_table_rows(one: &Tables, other: &Tables) -> bool
     ensures { IsTrue result ↔ (one.now ≡ record other.now { version = one.now.version }) }
 {
-    are_same(one.auth.items(), other.auth.items())
-        && are_same(one.parts.items(), other.parts.items())
+    are_same_control_message_values(one.auth.items(), other.auth.items())
+        && are_same_control_message_values(one.parts.items(), other.parts.items())
 }
 
 /// Whether they are the same words, in the same order.
-pub fn are_same_words(one: &Touched, other: &Touched) -> bool
+pub fn are_same_control_message_words(one: &Touched, other: &Touched) -> bool
     ensures { IsTrue result ↔ (one.now ≡ other.now) }
 {
-    are_same(one.words(), other.words())
+    are_same_control_message_values(one.words(), other.words())
 }
 
 // A part of tables, or a touched word.
@@ -38,7 +38,7 @@ impl Same for Partition {
     fn is_same(&self, other: &Partition) -> bool {
         self.number == other.number
             && self.region == other.region
-            && are_same(self.rules.items(), other.rules.items())
+            && are_same_control_message_values(self.rules.items(), other.rules.items())
     }
 }
 
@@ -61,7 +61,7 @@ impl Same for PartRow {
 }
 
 // Whether they are the same values, in the same order.
-fn are_same<T: Same>(one: &[T], other: &[T]) -> bool
+fn are_same_control_message_values<T: Same>(one: &[T], other: &[T]) -> bool
     ensures { IsTrue result ↔ (one.now ≡ other.now) }
 {
     if one.len() != other.len() {

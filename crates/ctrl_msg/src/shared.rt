@@ -5,7 +5,7 @@ use std::alloc::{AllocError, Global};
 use std::marker::Model;
 use std::rc::Rc;
 use switch_table::Tables;
-use table_tree::{Finder, Trees};
+use table_tree::{Finder, TableTrees};
 
 /// No trees are built for a list of this many entries or more.
 const MANY: usize = 1 << 32;
@@ -15,20 +15,20 @@ const MANY: usize = 1 << 32;
 #[derive(Debug, Drop)]
 pub struct SharedTables {
     shared: Rc<Tables>,
-    trees: Option<Rc<Trees>>,
+    trees: Option<Rc<TableTrees>>,
 }
 
 impl Model for SharedTables {
     ghost use Rattle.std.specs.Prelude.{IfSome};
     ghost use Rattle.switch_table.specs.declared.tables.Tables.{Tables};
-    ghost use Rattle.table_tree.specs.Finding.{AreTreesOf};
+    ghost use Rattle.table_tree.specs.Finding.{AreTableTreesOf};
 
     ghost Value = { Tables };
 
     ghost view = { λ t. t.shared.value };
 
     ghost invariant = { λ t. IfSome t.trees (λ trees.
-        AreTreesOf t.shared.value.parts t.shared.value.auth trees.value) };
+        AreTableTreesOf t.shared.value.parts t.shared.value.auth trees.value) };
 }
 
 impl SharedTables {
@@ -55,10 +55,10 @@ impl SharedTables {
     pub fn with_trees(self, alloc: Global) -> Result<SharedTables, AllocError>
         ensures { IfOk result (λ tables. tables ≡ self) }
     {
-        if self.trees.is_some() || !can_grow_trees(&self.shared) {
+        if self.trees.is_some() || !can_message_tables_grow_trees(&self.shared) {
             return Ok(self);
         }
-        let trees = Trees::grow(alloc, self.shared.parts.items(), self.shared.auth.items())?;
+        let trees = TableTrees::grow(alloc, self.shared.parts.items(), self.shared.auth.items())?;
         let trees = Rc::new(alloc, trees)?;
         Ok(SharedTables {
             shared: self.shared,
@@ -117,7 +117,7 @@ impl Clone for SharedTables {
 }
 
 // Whether trees can be built for the tables: no list has too many entries.
-fn can_grow_trees(tables: &Tables) -> bool
+fn can_message_tables_grow_trees(tables: &Tables) -> bool
     ensures parts { IsTrue result → length tables.now.parts < 2 ^ 32 }
     ensures auth { IsTrue result → All (λ part. length part.rules < 2 ^ 32) tables.now.auth }
 {

@@ -3,7 +3,7 @@ use Rattle.std.proofs.Common.{[], ◌%◌, ◌*◌, ◌+◌, ◌-◌, ◌<◌, �
 use Rattle.base.proofs.Exports.{and_le_l, bit_at, bit_at-lt, bit_at-trailing_zeros, bit_at-zero, bit_at_and, bit_at_not, bit_at_ones, bit_at_ones_above, bit_at_or, bit_at_xor, both_ways, cases_Bool, cases_eq, cases_lt, cond-false, cond-true, trailing_zeros, w128, xor_lt}
 use Rattle.ternary.specs.Exports.{WordValue, is_fixed_of}
 use Rattle.policy_rules.specs.declared.rules.Rule.{Rule}
-use Rattle.cut_tree.specs.Exports.{CostsAtMost, HaveSidesCounted, IsCuttableBit, IsCutPlaneHeight, IsCutBitOfLeastCount, cut_cost_from, cut_cost_of, count_at, count_by, counted_cut_cost, least_below, side_of_cut}
+use Rattle.cut_tree.specs.Exports.{CutCostsAtMost, HaveCutSidesCounted, IsCuttableBit, IsCutPlaneHeight, IsCutBitOfLeastCount, cut_cost_from, cut_cost_of, count_at, count_by, counted_cut_cost, least_below, side_of_cut}
 use Rattle.cut_tree.specs.declared.choice.Cost.{Cost}
 use Rattle.cut_tree.specs.declared.choice.CutSide.{CutSide}
 use Rattle.cut_tree.proofs.CutLemmas.{least_is}
@@ -189,7 +189,7 @@ pub least_first : (low high : List ℕ) (above bits fewest least bit : ℕ)
     → ((k : ℕ) → (bit_at fewest k ≡ 1) ↔ IsCutBitOfLeastCount bits (count_by low high above) k)
     → ((k : ℕ) → (bit_at least k ≡ 1) ↔ IsCutBitOfLeastCount fewest (count_by high low above) k)
     → bit_at least bit ≡ 1 → ((j : ℕ) → j < bit → bit_at least j ≡ 0) → (other : ℕ)
-    → bit_at bits other ≡ 1 → CostsAtMost (counted_cut_cost low high bit) (counted_cut_cost low high other)
+    → bit_at bits other ≡ 1 → CutCostsAtMost (counted_cut_cost low high bit) (counted_cut_cost low high other)
 least_first low high above bits fewest least bit is_above is_fewest is_least set before other m =
     let last = (is_least bit).0 set in
     let own = (is_fewest bit).0 last.member in
@@ -245,9 +245,9 @@ all_fixed region free bit within is none = search (rules, cases_Bool, bit_at-zer
 
 -- what is counted at the first bit that costs least
 pub counted_cut : (low high : CutSide) (rules : List Rule) (region : WordValue) (free bit : ℕ)
-    → HaveSidesCounted low false rules region → HaveSidesCounted high true rules region
+    → HaveCutSidesCounted low false rules region → HaveCutSidesCounted high true rules region
     → ((k : ℕ) → (bit_at free k ≡ 1) ↔ IsCuttableBit region k) → bit_at free bit ≡ 1
-    → ((other : ℕ) → bit_at free other ≡ 1 → CostsAtMost (counted_cut_cost low.counts.planes
+    → ((other : ℕ) → bit_at free other ≡ 1 → CutCostsAtMost (counted_cut_cost low.counts.planes
     high.counts.planes bit) (counted_cut_cost low.counts.planes high.counts.planes other))
     → Some (counted_cut_cost low.counts.planes high.counts.planes bit) ≡ least_below 104 rules region
 counted_cut low high rules region free bit lows highs frees set least =
@@ -259,8 +259,8 @@ counted_cut low high rules region free bit lows highs frees set least =
     ap Some (same bit is_free) ∙ sym (least_is rules region bit (record {
       cuts = is_free;
       least = λ other f.
-          let Left : Cost → Type 0 = λ c. CostsAtMost c (cut_cost_of rules region other) in
-          let Right : Cost → Type 0 = λ c. CostsAtMost (counted bit) c in
+          let Left : Cost → Type 0 = λ c. CutCostsAtMost c (cut_cost_of rules region other) in
+          let Right : Cost → Type 0 = λ c. CutCostsAtMost (counted bit) c in
           subst Left (same bit is_free)
           (subst Right (same other f) (least other ((frees other).1 f)));
     }))

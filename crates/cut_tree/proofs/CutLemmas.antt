@@ -3,7 +3,7 @@ use Rattle.std.proofs.Common.{◌<◌, ◌∙◌, ◌≡◌, IsFalse, List, None
 use Rattle.base.proofs.Exports.{both_ways, cases_Bool, cases_eq, cond-false, cond-true}
 use Rattle.ternary.specs.Exports.{WordValue, is_fixed_of}
 use Rattle.policy_rules.specs.declared.rules.Rule.{Rule}
-use Rattle.cut_tree.specs.Exports.{CostsAtMost, IsLeastCut, cheaper_cut_cost, cut_cost_of, is_cheaper_cut, least_below}
+use Rattle.cut_tree.specs.Exports.{CutCostsAtMost, IsLeastCut, cheaper_cut_cost, cut_cost_of, is_cheaper_cut, least_below}
 use Rattle.cut_tree.specs.declared.choice.Cost.{Cost}
 
 pub least_none : (rules : List Rule) (region : WordValue) → least_below 0 rules region ≡ None
@@ -36,20 +36,20 @@ record IsLeastBelow (n : ℕ) (rules : List Rule) (region : WordValue) (cost : C
   pub bound : cost.bit < n
   pub free : IsFalse (is_fixed_of region cost.bit)
   pub least : (other : ℕ) → other < n → IsFalse (is_fixed_of region other)
-      → CostsAtMost cost (cut_cost_of rules region other)
+      → CutCostsAtMost cost (cut_cost_of rules region other)
 
-at_most_self : (a : Cost) → CostsAtMost a a
+at_most_self : (a : Cost) → CutCostsAtMost a a
 at_most_self a = record { larger = omega arith; sum = λ e. omega arith; bit = λ e f. omega arith }
 
-at_most_trans : (a b c : Cost) → CostsAtMost a b → CostsAtMost b c → CostsAtMost a c
+at_most_trans : (a b c : Cost) → CutCostsAtMost a b → CutCostsAtMost b c → CutCostsAtMost a c
 at_most_trans a b c p q =
     record { larger = omega arith; sum = λ e. omega arith; bit = λ e f. omega arith }
 
 -- a cheaper cost of a higher bit is less; one that isn't cheaper is at least that of a lower bit
-cheaper_less : (a b : Cost) → is_cheaper_cut a b ≡ true → CostsAtMost a b
+cheaper_less : (a b : Cost) → is_cheaper_cut a b ≡ true → CutCostsAtMost a b
 cheaper_less a b is = grind arith
 
-not_cheaper : (a b : Cost) → b.bit < a.bit → is_cheaper_cut a b ≡ false → CostsAtMost b a
+not_cheaper : (a b : Cost) → b.bit < a.bit → is_cheaper_cut a b ≡ false → CutCostsAtMost b a
 not_cheaper a b lower is = grind arith
 
 -- no bit is free where there is no least cut
@@ -67,14 +67,14 @@ least_missing (suc n) rules region none bit within = elim (cases_Bool (is_fixed_
 
 -- what is known one bit further
 further : (n : ℕ) (rules : List Rule) (region : WordValue) (cost : Cost) → IsLeastBelow n rules
-    region cost → (is_fixed_of region n ≡ false → CostsAtMost cost (cut_cost_of rules region n))
+    region cost → (is_fixed_of region n ≡ false → CutCostsAtMost cost (cut_cost_of rules region n))
     → IsLeastBelow (suc n) rules region cost
 further n rules region cost below here = record {
   is = below.is;
   bound = omega (arith, below.bound);
   free = below.free;
   least = λ other within free. elim (cases_eq other n) [
-    | inl same ↦ let Goal : ℕ → Type 0 = λ k. CostsAtMost cost (cut_cost_of rules region k) in
+    | inl same ↦ let Goal : ℕ → Type 0 = λ k. CutCostsAtMost cost (cut_cost_of rules region k) in
         subst Goal (sym same) (here (sym (ap (is_fixed_of region) same) ∙ free))
     | inr before ↦ below.least other (omega arith) free
   ];
@@ -83,7 +83,7 @@ further n rules region cost below here = record {
 -- a new least cut
 newest : (n : ℕ) (rules : List Rule) (region : WordValue) → is_fixed_of region n ≡ false
     → ((other : ℕ) → other < n → IsFalse (is_fixed_of region other)
-    → CostsAtMost (cut_cost_of rules region n) (cut_cost_of rules region other))
+    → CutCostsAtMost (cut_cost_of rules region n) (cut_cost_of rules region other))
     → IsLeastBelow (suc n) rules region (cut_cost_of rules region n)
 newest n rules region free before = record {
   is = refl;
@@ -91,7 +91,7 @@ newest n rules region free before = record {
   free = free;
   least = λ other within freed. elim (cases_eq other n) [
     | inl same ↦
-        let Goal : ℕ → Type 0 = λ k. CostsAtMost (cut_cost_of rules region n) (cut_cost_of rules region k) in
+        let Goal : ℕ → Type 0 = λ k. CutCostsAtMost (cut_cost_of rules region n) (cut_cost_of rules region k) in
         subst Goal (sym same) (at_most_self (cut_cost_of rules region n))
     | inr lower ↦ before other (omega arith) freed
   ];
@@ -133,14 +133,14 @@ pub least_cuts : (rules : List Rule) (region : WordValue) (cost : Cost)
     → least_below 104 rules region ≡ Some cost → IsLeastCut rules region cost.bit
 least_cuts rules region cost is =
     let below = least_some 104 rules region cost is in
-    let Goal : (ℕ → Cost → Type 0) = λ other best. CostsAtMost best (cut_cost_of rules region other) in
+    let Goal : (ℕ → Cost → Type 0) = λ other best. CutCostsAtMost best (cut_cost_of rules region other) in
     record {
       cuts = record { bound = below.bound; free = below.free };
       least = λ other free. subst (Goal other) below.is (below.least other free.bound free.free);
     }
 
 -- costs of which neither is greater are those of one bit
-at_most_both : (a b : Cost) → CostsAtMost a b → CostsAtMost b a → a.bit ≡ b.bit
+at_most_both : (a b : Cost) → CutCostsAtMost a b → CutCostsAtMost b a → a.bit ≡ b.bit
 at_most_both a b p q = grind arith
 
 -- and it is the only one

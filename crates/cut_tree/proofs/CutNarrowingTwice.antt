@@ -66,15 +66,15 @@ one_rule rule kept rest outer inner within meet same =
     elim (cases_Bool (meets rule.word inner)) [
       | inr apart ↦ narrow_apart inner (with_word rule word) kept (met ∙ apart) ∙ same
           ∙ sym (narrow_apart inner rule rest apart)
-      | inl meeting ↦ let head = narrowed_inner rule outer inner within meet meeting in
+      | inl table_tree_candidates_meeting ↦ let head = narrowed_inner rule outer inner within meet table_tree_candidates_meeting in
           elim (cases_Bool (word_covers_of rule.word inner)) [
-            | inl covers ↦ narrow_covered inner (with_word rule word) kept (met ∙ meeting)
+            | inl covers ↦ narrow_covered inner (with_word rule word) kept (met ∙ table_tree_candidates_meeting)
                 (covered ∙ covers) ∙ ap (λ r. r ∷ []) head
-                ∙ sym (narrow_covered inner rule rest meeting covers)
-            | inr past ↦ narrow_more inner (with_word rule word) kept (met ∙ meeting)
+                ∙ sym (narrow_covered inner rule rest table_tree_candidates_meeting covers)
+            | inr past ↦ narrow_more inner (with_word rule word) kept (met ∙ table_tree_candidates_meeting)
                 (covered ∙ past) ∙ ap (λ r. r ∷ narrow kept inner) head
                 ∙ ap (λ rs. cut_narrowed_rule inner rule ∷ rs) same
-                ∙ sym (narrow_more inner rule rest meeting past)
+                ∙ sym (narrow_more inner rule rest table_tree_candidates_meeting past)
           ]
     ]
 

@@ -1,10 +1,10 @@
 -- Which halves of a region a word meets and covers, bit by bit.
 use Rattle.std.proofs.Common.{◌%◌, ◌&&◌, ◌*◌, ◌+◌, ◌-◌, ◌<◌, ◌==◌, ◌^◌, ◌||◌, ◌∙◌, ◌∷◌, ◌≡◌, ◌≢◌, ◌≤◌, Bool, IsTrue, List, ap, arith, bit_and, bit_or, bit_xor, drop, false, inl, inr, length, max, min, not, suc, sym, true, zero, ℕ, rules}
 use Rattle.base.proofs.Exports.{bit_at, bit_at-lt, bit_at-pow_other, bit_at-pow_same, bit_at-trailing_zeros, bit_at-zero, bit_at_and, bit_at_not, bit_at_or, bit_at_xor, both_ways, cases_Bool, cases_eq, false_from_ne_true, from_bool, nat_tests, pow_below, same_from_bits, trailing_zeros, w128, xor_lt}
-use Rattle.ternary.specs.Exports.{IsWord, WordValue, word_admits, word_covers_of, word_fix_of, free_of, is_fixed_of, meets}
+use Rattle.ternary.specs.Exports.{IsWord, WordValue, word_admits, word_covers_of, word_fix_of, ternary_with_bit_freed, is_fixed_of, meets}
 use Rattle.ternary.proofs.TernaryCallerLemmas.{covers_decides, covers_half, meets_comm, meets_cover, meets_half, ternary_without_bit-other, ternary_without_bit-same}
 use Rattle.policy_rules.specs.declared.rules.Rule.{Rule}
-use Rattle.cut_tree.specs.Exports.{HaveSidesCounted, IsSideCounting, IsCuttableBit, IsNarrowInCutRegion, narrow, side_of_cut}
+use Rattle.cut_tree.specs.Exports.{HaveCutSidesCounted, IsSideCounting, IsCuttableBit, IsNarrowInCutRegion, narrow, side_of_cut}
 use Rattle.cut_tree.specs.declared.choice.CutSide.{CutSide}
 use Rattle.cut_tree.proofs.CutNarrowing.{narrow_covered, narrow_more, narrow_apart, narrow_end}
 
@@ -49,21 +49,21 @@ same_digit : (a b : ℕ) → a < 2 → b < 2 → (b ≡ 1 → a ≡ 1) → (a �
 same_digit a b p q r s = grind (arith, nat_tests)
 
 pub covers_only : (w r : WordValue) (k : ℕ) → IsTrue (word_covers_of r w)
-    → IsTrue (word_covers_of (free_of w k) r) → IsOnly (beyond w r) k
-unfolding free_of
+    → IsTrue (word_covers_of (ternary_with_bit_freed w k) r) → IsOnly (beyond w r) k
+unfolding ternary_with_bit_freed
 covers_only w r k within covers = λ j other. let inner = (covers_decides r w).0 within j in
-    let outer = (covers_decides (free_of w k) r).0 covers j in
+    let outer = (covers_decides (ternary_with_bit_freed w k) r).0 covers j in
     let fixed : bit_at w.mask j ≡ 1 → bit_at r.mask j ≡ 1 =
     λ e. (outer (ternary_without_bit-other w.mask k j other ∙ e)).0 in
     bit_at_xor w.mask r.mask j ∙ same_digit (bit_at w.mask j) (bit_at r.mask j) (bit_at-lt w.mask j)
     (bit_at-lt r.mask j) (λ e. (inner e).0) fixed
 
 pub only_covers : (w r : WordValue) (k : ℕ) → IsTrue (word_covers_of r w) → IsOnly (beyond w r) k
-    → IsTrue (word_covers_of (free_of w k) r)
-unfolding free_of
-only_covers w r k within only = (covers_decides (free_of w k) r).1 (λ j set.
-    let other : j ≢ k = λ e. let lost : bit_at (free_of w k).mask j ≡ 0 =
-    ap (bit_at (free_of w k).mask) e ∙ ternary_without_bit-same w.mask k in omega (arith, lost, set) in
+    → IsTrue (word_covers_of (ternary_with_bit_freed w k) r)
+unfolding ternary_with_bit_freed
+only_covers w r k within only = (covers_decides (ternary_with_bit_freed w k) r).1 (λ j set.
+    let other : j ≢ k = λ e. let lost : bit_at (ternary_with_bit_freed w k).mask j ≡ 0 =
+    ap (bit_at (ternary_with_bit_freed w k).mask) e ∙ ternary_without_bit-same w.mask k in omega (arith, lost, set) in
     let m : bit_at w.mask j ≡ 1 = sym (ternary_without_bit-other w.mask k j other) ∙ set in
     let q : bit_at r.mask j ≡ 1 =
     omega (arith, m, sym (bit_at_xor w.mask r.mask j) ∙ only j other, bit_at-lt r.mask j) in
@@ -89,7 +89,7 @@ covered_one w r t k one met within is admitted =
           let least : min (bit_at (2 ^ t) k) (bit_at met k) ≡ bit_at met k =
           omega (arith, ap (bit_at (2 ^ t)) same ∙ bit_at-pow_same t, bit_at-lt met k) in
           bits ∙ least ∙ admitted ∙ sym (ap from_bool (half ∙ ap (λ t. t && word_admits w k one) covers))
-      | inr other ↦ let lost : word_covers_of (free_of w k) r ≡ false =
+      | inr other ↦ let lost : word_covers_of (ternary_with_bit_freed w k) r ≡ false =
           false_from_ne_true _ (λ covers. omega (
             arith,
             sym (ap (λ n. bit_at n t) is) ∙ covers_only w r k within covers t (λ e. other (sym e)),
@@ -106,7 +106,7 @@ pub covered_none : (w r : WordValue) (k : ℕ) (one : Bool) → IsTrue (word_cov
 covered_none w r k one within some small many =
     let t = trailing_zeros w128 (beyond w r) in
     let lowest = bit_at-trailing_zeros w128 (beyond w r) some small in
-    let lost : word_covers_of (free_of w k) r ≡ false = false_from_ne_true _ (λ covers.
+    let lost : word_covers_of (ternary_with_bit_freed w k) r ≡ false = false_from_ne_true _ (λ covers.
     let only = covers_only w r k within covers in
     let same : t ≡ k = elim (cases_eq t k)
     [ inl e ↦ e | inr other ↦ absurd (omega (arith, only t other, lowest.1)) ] in
@@ -199,7 +199,7 @@ met_step region rule rules bit one left met fit free is_met =
 -- a side that has seen each rule has counted each half
 pub counted_all : (side : CutSide) (one : Bool) (rules : List Rule) (region : WordValue) (place : ℕ)
     → IsSideCounting side one rules region place → length rules ≤ place
-    → HaveSidesCounted side one rules region
+    → HaveCutSidesCounted side one rules region
 counted_all side one rules region place counting past = λ bit free.
     let half = word_fix_of region bit side.one in
     let nothing : bit_at side.«open» bit * length (narrow (drop place rules) half)

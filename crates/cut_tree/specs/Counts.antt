@@ -50,8 +50,8 @@ pub record IsSideCounting (side : CutSide) (upper : Bool) (rules : List Rule)
       expected_side_count side region bit (drop place rules) ≡ length (side_of_cut rules region bit upper)
 
 -- the side has counted the rules of each half
-abbrev pub HaveSidesCounted : CutSide → Bool → List Rule → WordValue → Type 0
-HaveSidesCounted side one rules region =
+abbrev pub HaveCutSidesCounted : CutSide → Bool → List Rule → WordValue → Type 0
+HaveCutSidesCounted side one rules region =
     (bit : ℕ) → IsCuttableBit region bit → count_on_side side bit ≡ length (side_of_cut rules region bit one)
 
 -- the rule lies in the region and covers no half of it

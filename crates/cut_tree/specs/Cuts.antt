@@ -22,7 +22,7 @@ cut_cost_of rules region bit =
     (length (side_of_cut rules region bit true))
 
 -- a costs no more than b
-pub record CostsAtMost (a b : Cost) : Type 0 where
+pub record CutCostsAtMost (a b : Cost) : Type 0 where
   pub larger : a.larger ≤ b.larger
   pub sum : a.larger ≡ b.larger → a.sum ≤ b.sum
   pub bit : a.larger ≡ b.larger → a.sum ≡ b.sum → a.bit ≤ b.bit
@@ -36,7 +36,7 @@ pub record IsCuttableBit (region : WordValue) (bit : ℕ) : Type 0 where
 pub record IsLeastCut (rules : List Rule) (region : WordValue) (bit : ℕ) : Type 0 where
   pub cuts : IsCuttableBit region bit
   pub least : (other : ℕ) → IsCuttableBit region other →
-      CostsAtMost (cut_cost_of rules region bit) (cut_cost_of rules region other)
+      CutCostsAtMost (cut_cost_of rules region bit) (cut_cost_of rules region other)
 
 -- the larger side of a is smaller than that of b, or these are equal and the sum of a is smaller
 abbrev pub is_cheaper_cut : Cost → Cost → Bool

@@ -1,4 +1,4 @@
--- The laws of narrowing and of trees: `x_laws` of the crate ensures the record of each.
+-- The laws of narrowing and of trees: a function of `src` ensures each record.
 use Rattle.std.specs.Prelude.{◌<◌, ◌≡◌, IsTrue, List, find, option_map, ℕ}
 use Rattle.ternary.specs.Exports.{WordValue, word_covers_of, holds}
 use Rattle.policy_rules.specs.Exports.{is_held}

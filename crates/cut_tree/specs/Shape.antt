@@ -13,9 +13,9 @@ shape_of (Leaf region rules) = End region rules
 shape_of (Cut' bit p low q high) = Node bit (shape_of low) (shape_of high)
 
 -- the leaves, low side before high side, each with its region and its rules
-abbrev pub leaves_of : Shape → List (WordValue × List Rule)
-leaves_of (End region rules) = (region, rules) ∷ []
-leaves_of (Node bit low high) = leaves_of low ++ leaves_of high
+abbrev pub cut_leaves_of : Shape → List (WordValue × List Rule)
+cut_leaves_of (End region rules) = (region, rules) ∷ []
+cut_leaves_of (Node bit low high) = cut_leaves_of low ++ cut_leaves_of high
 
 abbrev pub leaf_count : Shape → ℕ
-leaf_count shape = length (leaves_of shape)
+leaf_count shape = length (cut_leaves_of shape)

@@ -3,8 +3,8 @@ ghost use Rattle.std.specs.Int.{bit_at, from_bool, trailing_zeros, w128};
 ghost use Rattle.ternary.specs.Word.{WordValue};
 ghost use Rattle.ternary.specs.Meets.{word_admits, word_covers_of, word_fix_of};
 ghost use Rattle.policy_rules.specs.declared.rules.Rule.{Rule};
-ghost use Rattle.cut_tree.specs.Counts.{IsCutPlaneHeight, count_on_side, counted_cut_cost, expected_side_count, AreNarrowIn, HaveSidesCounted, IsSideCounting, IsNarrowInCutRegion};
-ghost use Rattle.cut_tree.specs.Cuts.{CostsAtMost, IsCuttableBit, cut_cost_from, least_below, side_of_cut};
+ghost use Rattle.cut_tree.specs.Counts.{IsCutPlaneHeight, count_on_side, counted_cut_cost, expected_side_count, AreNarrowIn, HaveCutSidesCounted, IsSideCounting, IsNarrowInCutRegion};
+ghost use Rattle.cut_tree.specs.Cuts.{CutCostsAtMost, IsCuttableBit, cut_cost_from, least_below, side_of_cut};
 ghost use Rattle.cut_tree.specs.Nodes.{LiesInCutRegion};
 
 use crate::counters::CutCounters;
@@ -45,7 +45,7 @@ pub fn least_cut(rules: &[Rule], region: &Word) -> Option<Cost>
     }
     let (low, high) = count_cut_sides(rules, region);
     let height = low.counts.height(&high.counts);
-    let bit = least_cut_bit(&low.counts, &high.counts, free, height);
+    let bit = cut_tree_cheapest_bit(&low.counts, &high.counts, free, height);
     Some(Cost::new(
         bit,
         low.counts.count(bit, height),
@@ -61,13 +61,13 @@ pub fn free_bits_to_cut(region: &Word) -> u128
 }
 
 // The first bit of the set whose cut costs least; the first `height` planes have all counts.
-fn least_cut_bit(low: &CutCounters, high: &CutCounters, bits: u128, height: usize) -> u32
+fn cut_tree_cheapest_bit(low: &CutCounters, high: &CutCounters, bits: u128, height: usize) -> u32
     requires some { bits ≢ 0 }
     requires low { IsCutPlaneHeight low.now.planes height }
     requires high { IsCutPlaneHeight high.now.planes height }
     ensures member { bit_at bits result ≡ 1 }
     ensures least { (other : ℕ) → bit_at bits other ≡ 1 →
-        CostsAtMost (counted_cut_cost low.now.planes high.now.planes result)
+        CutCostsAtMost (counted_cut_cost low.now.planes high.now.planes result)
         (counted_cut_cost low.now.planes high.now.planes other) }
 {
     let above = high.more_than(low, height);
@@ -80,8 +80,8 @@ fn least_cut_bit(low: &CutCounters, high: &CutCounters, bits: u128, height: usiz
 fn count_cut_sides(rules: &[Rule], region: &Word) -> (CutSide, CutSide)
     requires few { length rules.now < 2 ^ 32 }
     requires within { All (LiesInCutRegion region.now) rules.now }
-    ensures low { HaveSidesCounted result.0 false rules.now region.now }
-    ensures high { HaveSidesCounted result.1 true rules.now region.now }
+    ensures low { HaveCutSidesCounted result.0 false rules.now region.now }
+    ensures high { HaveCutSidesCounted result.1 true rules.now region.now }
 {
     let mut low = CutSide::new(false);
     let mut high = CutSide::new(true);
@@ -116,7 +116,7 @@ fn count_next_rules(
         let b = &rules[place + 1];
         let c = &rules[place + 2];
         let d = &rules[place + 3];
-        let fit = rules_fix_many_bits(a, b, region) && rules_fix_many_bits(c, d, region);
+        let fit = are_narrow_in_cut(a, b, region) && are_narrow_in_cut(c, d, region);
         if fit {
             low.count_four(a, b, c, d, false);
             high.count_four(a, b, c, d, true);
@@ -130,13 +130,13 @@ fn count_next_rules(
 }
 
 // Whether both rules fix two bits or more that the region doesn't, so that neither covers a half.
-fn rules_fix_many_bits(one: &Rule, other: &Rule, region: &Word) -> bool
+fn are_narrow_in_cut(one: &Rule, other: &Rule, region: &Word) -> bool
     requires one { LiesInCutRegion region.now one.now }
     requires other { LiesInCutRegion region.now other.now }
     ensures one { IsTrue result → IsNarrowInCutRegion region.now one.now }
     ensures other { IsTrue result → IsNarrowInCutRegion region.now other.now }
 {
-    !fixes_at_most_one_more(&one.word, region) && !fixes_at_most_one_more(&other.word, region)
+    !fixes_few_cuttable_bits(&one.word, region) && !fixes_few_cuttable_bits(&other.word, region)
 }
 
 /// For each bit, how many rules one half of a region keeps: that in which the bit is 1 if `one` is
@@ -190,10 +190,10 @@ impl CutSide {
             ≡ expected_side_count self.old region bit (a.now ∷ b.now ∷ c.now ∷ d.now ∷ rules) }
     {
         let left = self.open;
-        let first = halves_met(&a.word, one);
-        let second = halves_met(&b.word, one);
-        let third = halves_met(&c.word, one);
-        let fourth = halves_met(&d.word, one);
+        let first = cut_halves_met(&a.word, one);
+        let second = cut_halves_met(&b.word, one);
+        let third = cut_halves_met(&c.word, one);
+        let fourth = cut_halves_met(&d.word, one);
         self.counts
             .add_four(left & first, left & second, left & third, left & fourth);
     }
@@ -208,8 +208,8 @@ fn pass(left: &mut u128, one: bool, rule: &Rule, region: &Word) -> u128
         ≡ bit_at left.old bit * length (side_of_cut (rule.now ∷ rules) region.now bit one) }
 {
     let was = *left;
-    let met = halves_met(&rule.word, one);
-    let may_cover = fixes_at_most_one_more(&rule.word, region);
+    let met = cut_halves_met(&rule.word, one);
+    let may_cover = fixes_few_cuttable_bits(&rule.word, region);
     if !may_cover {
         return was & met;
     }
@@ -219,7 +219,7 @@ fn pass(left: &mut u128, one: bool, rule: &Rule, region: &Word) -> u128
 }
 
 // Whether the word fixes at most one bit more than the region; if not, it covers no half of it.
-fn fixes_at_most_one_more(word: &Word, region: &Word) -> bool
+fn fixes_few_cuttable_bits(word: &Word, region: &Word) -> bool
     requires { IsTrue (word_covers_of region.now word.now) }
     ensures { IsFalse result → (bit : ℕ) (one : Bool) → IsCuttableBit region.now bit →
         IsFalse (word_covers_of word.now (word_fix_of region.now bit one)) }
@@ -242,7 +242,7 @@ fn is_one_cut_bit(bits: u128) -> bool
 }
 
 // The bits whose half the word meets, if it meets the region.
-fn halves_met(word: &Word, one: bool) -> u128
+fn cut_halves_met(word: &Word, one: bool) -> u128
     ensures { (bit : ℕ) → bit < 104 → bit_at result bit ≡ from_bool (word_admits word.now bit one) }
 {
     let value = word.value();
@@ -255,7 +255,7 @@ fn cut_halves_covered(word: &Word, region: &Word, one: bool) -> u128
     ensures { (bit : ℕ) → IsCuttableBit region.now bit →
         bit_at result bit ≡ from_bool (word_covers_of word.now (word_fix_of region.now bit one)) }
 {
-    let met = halves_met(word, one);
+    let met = cut_halves_met(word, one);
     let fixed = word.mask() ^ region.mask();
     if fixed == 0 {
         met

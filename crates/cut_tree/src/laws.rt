@@ -2,7 +2,7 @@ ghost use Rattle.cut_tree.specs.Laws.{CutNarrowingLaws, CutTreeLaws};
 
 /// Narrowing a list to a region, and then to one within it, is narrowing it to the latter.
 /// Narrowing keeps the first rule of each header of the region.
-pub fn narrow_laws()
+pub fn cut_tree_narrowing_laws()
     ensures { CutNarrowingLaws }
 {}
 

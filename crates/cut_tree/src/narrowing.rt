@@ -57,7 +57,7 @@ pub fn narrow_half(
     let whole = region.fix(bit, one).mask();
     let mut kept = Vec::with_capacity(alloc, rules.len())?;
     for rule in rules {
-        let Some(word) = with_bit(&rule.word, bit, one) else {
+        let Some(word) = cut_word_with_bit(&rule.word, bit, one) else {
             continue;
         };
         let mut own = *rule;
@@ -73,7 +73,7 @@ pub fn narrow_half(
 
 // The word of the headers of a word that have this bit: its meet with this half of a region that
 // contains it; `None` if there are no such headers.
-fn with_bit(word: &Word, bit: u32, one: bool) -> Option<Word>
+fn cut_word_with_bit(word: &Word, bit: u32, one: bool) -> Option<Word>
     requires { bit < 104 }
     ensures { (region : WordValue) → IsWord region → IsCuttableBit region bit →
         IsTrue (word_covers_of region word.now) → result ≡ meet_of word.now (word_fix_of region bit one) }

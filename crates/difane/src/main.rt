@@ -12,7 +12,7 @@ use std::rt::Env;
 use std::{env, io, mem};
 
 /// The arguments of the command line, without the program's name.
-fn read_args<R: Env + AllocGlobal>(rt: &R) -> io::Result<Vec<String>> {
+fn read_difane_arguments<R: Env + AllocGlobal>(rt: &R) -> io::Result<Vec<String>> {
     let mut args = Vec::new(rt.alloc());
     for arg in env::args(rt)?.skip(1) {
         args.push(arg)?;
@@ -22,7 +22,7 @@ fn read_args<R: Env + AllocGlobal>(rt: &R) -> io::Result<Vec<String>> {
 
 /// The status of a call whose arguments can't be read. If one isn't UTF-8, that is the status of
 /// wrong arguments, and its line is written.
-fn unread<E: Sink>(kind: ErrorKind, errs: &mut E) -> Status {
+fn difane_unread_status<E: Sink>(kind: ErrorKind, errs: &mut E) -> Status {
     match kind {
         ErrorKind::OutOfMemory => Status::NoMemory,
         _ => {
@@ -35,9 +35,9 @@ fn unread<E: Sink>(kind: ErrorKind, errs: &mut E) -> Status {
 fn main(rt: HostRuntime) -> ExitCode {
     let alloc = rt.alloc();
     let mut errs = StdSink::new(rt.stderr());
-    let args = match read_args(&rt) {
+    let args = match read_difane_arguments(&rt) {
         Ok(args) => args,
-        Err(error) => return ExitCode::from(unread(error.kind(), &mut errs).number()),
+        Err(error) => return ExitCode::from(difane_unread_status(error.kind(), &mut errs).number()),
     };
     let mut out = StdSink::new(rt.stdout());
     let mut shelf = DiskShelf::new(rt);

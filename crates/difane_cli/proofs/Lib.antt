@@ -9,7 +9,7 @@ mod ProgramStatedInputs
 mod ProgramQuietVerdicts
 mod ProgramStatus
 mod ProgramReplayReports
-mod PrintedTexts
+mod ProgramPrintedTexts
 mod ProposalOutcomes
 mod ProgramAsksFlows
 mod ProgramMeteredFlows

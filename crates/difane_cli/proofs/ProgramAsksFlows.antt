@@ -3,7 +3,7 @@ use Rattle.base.proofs.Exports.{bytes_eq-Decides, ⊤}
 use Rattle.std.proofs.Common.{[], ◌∷◌, ◌≡◌, Bool, List, None, Option, Some, codes, cond, false, length, option_and_then, refl, subst, sym, true, ℕ}
 use Rattle.command_line.specs.Exports.{Command, Replay, StatedArgumentLine, command_by, command_of, line_of, may_be_policy_arguments, play_from_arguments}
 use Rattle.command_line.specs.declared.report.Report.TheVariants as report
-use Rattle.difane_cli.specs.Exports.{command_asks_flows}
+use Rattle.difane_cli.specs.Exports.{program_call_asks_flows}
 
 -- a command that there is tells flows
 abbrev pub TellsIfAny : Option Command → Type 0
@@ -32,7 +32,7 @@ line_tells (Some line) = go line.quiet where
   go true = tt
   go false = play_tells line line.names
 
-pub flows_tell : (texts : List (List ℕ)) → command_asks_flows texts ≡ true → TellsIfAny (command_of texts)
+pub flows_tell : (texts : List (List ℕ)) → program_call_asks_flows texts ≡ true → TellsIfAny (command_of texts)
 flows_tell [] asks = tt
 flows_tell (name ∷ args) asks =
     let is : name ≡ codes "flows" = (bytes_eq-Decides name (codes "flows")).0 asks in

@@ -6,13 +6,14 @@ use Rattle.update_machine.specs.Exports.{PolicyFile}
 use Rattle.shelf.specs.Exports.{Files, SinkGainedPart, IsAfterWrite, SinkState}
 use Rattle.shelf.specs.declared.output.SinkError.{SinkError}
 use Rattle.shelf.specs.declared.output.SinkError.TheVariants as sink
-use Rattle.trace_audit.specs.Exports.{AreTraceEndsJustified, AreTraceRun, IsTraceAuditVerdict, IsFirstBad, lines_of, trace_lines_of_parts, open_trace_line}
+use Rattle.trace_audit.specs.Exports.{AreTraceEndsJustified, AreAuditedTraceRun, IsTraceAuditVerdict, IsFirstBad, lines_of, trace_lines_of_parts, open_trace_line}
 use Rattle.trace_audit.specs.declared.trace.Verdict.{Verdict}
 use Rattle.trace_audit.specs.declared.trace.Verdict.TheVariants.{Yes, No}
-use Rattle.command_line.specs.Exports.{AuditCommand}
+use Rattle.command_inputs.specs.declared.status.Status.{Status}
+use Rattle.command_line.specs.Exports.{AuditArguments}
 use Rattle.command_line.specs.Commands as asked
-use Rattle.command_inputs.specs.Exports.{Audit, CommandAuditInputs, IsCommandAuditingOf, known_command_task, program_most_trace_bytes, command_status_after}
-use Rattle.difane_cli.specs.Exports.{ProgramAuditOutcome, CommandAuditEnded, IsCommandAuditJudged, OutputWrote, command_audit_yes_line}
+use Rattle.command_inputs.specs.Exports.{Audit, CommandAuditInputs, IsAuditInputOf, known_command_input_task, command_input_most_trace_bytes, command_status_after}
+use Rattle.difane_cli.specs.Exports.{IsAfterProgramOutput, ProgramAuditOutcome, CommandAuditEnded, IsCommandAuditJudged, ProgramOutputWrote, command_audit_yes_line}
 
 -- ---- how many lines there are
 
@@ -37,7 +38,7 @@ few_lines trace = let feeds = length-slice_split (λ (b : ℕ). b == 10) trace i
     )
 
 -- so in a trace that isn't too long the verdict has the line's own number
-own_number : (files : List PolicyFile) (trace : List ℕ) (line : ℕ) → length trace ≤ program_most_trace_bytes
+own_number : (files : List PolicyFile) (trace : List ℕ) (line : ℕ) → length trace ≤ command_input_most_trace_bytes
     → IsTraceAuditVerdict files (lines_of trace) (No line) → IsFirstBad files (lines_of trace) line
 own_number files trace line short is =
     let first = is.1 in
@@ -48,13 +49,13 @@ own_number files trace line short is =
 
 -- a verdict on what was read is one on what the inputs are
 pub verdict_on : (trace owned : List ℕ) (files own : List PolicyFile) (found verdict : Verdict)
-    → length owned ≤ program_most_trace_bytes → IsTraceAuditVerdict files (lines_of trace) found
-    → (found ≡ Yes → AreTraceRun files (lines_of trace))
+    → length owned ≤ command_input_most_trace_bytes → IsTraceAuditVerdict files (lines_of trace) found
+    → (found ≡ Yes → AreAuditedTraceRun files (lines_of trace))
     → (found ≡ Yes → AreTraceEndsJustified files (lines_of trace))
     → trace ≡ owned → files ≡ own → found ≡ verdict → IsCommandAuditJudged own (lines_of owned) verdict
 verdict_on trace owned files own found verdict short is run justified same all told =
-    let few : length trace ≤ program_most_trace_bytes =
-    subst (λ (bytes : List ℕ). length bytes ≤ program_most_trace_bytes) (sym same) short in
+    let few : length trace ≤ command_input_most_trace_bytes =
+    subst (λ (bytes : List ℕ). length bytes ≤ command_input_most_trace_bytes) (sym same) short in
     subst (λ (given : Verdict). IsCommandAuditJudged own (lines_of owned) given) told
     (subst (λ (bytes : List ℕ). IsCommandAuditJudged own (lines_of bytes) found) same
     (subst (λ (given : List PolicyFile). IsCommandAuditJudged given (lines_of trace) found) all (record {
@@ -65,9 +66,9 @@ verdict_on trace owned files own found verdict short is run justified same all t
       justified = justified;
     })))
 
-module _ (command : AuditCommand) (files : Option Files) (auditing : CommandAuditInputs)
-    (own : IsCommandAuditingOf command auditing)
-    (accepted : ForSome (known_command_task files (Some (asked.Audit command)))
+module _ (command : AuditArguments) (files : Option Files) (auditing : CommandAuditInputs)
+    (own : IsAuditInputOf command auditing)
+    (accepted : ForSome (known_command_input_task files (Some (asked.Audit command)))
     (λ read. read ≡ Ok (Audit auditing))) where
   pub audited : (verdict : Verdict) (IsWritten : List ℕ → Type 0)
       → IsCommandAuditJudged auditing.files (lines_of auditing.trace) verdict → IsWritten command_audit_yes_line
@@ -81,14 +82,18 @@ module _ (command : AuditCommand) (files : Option Files) (auditing : CommandAudi
     written = written;
   }
 
-  pub yes_told : (takes_memory : Bool) (before now : SinkState) (result : Result (⊤) SinkError)
+  pub yes_told : (takes_memory : Bool) (before now : SinkState) (ended : Status)
       → IsCommandAuditJudged auditing.files (lines_of auditing.trace) Yes
-      → IsAfterWrite command_audit_yes_line takes_memory before now result
-      → ProgramAuditOutcome command files (command_status_after result None) [] before now
-  yes_told takes_memory before now (Ok done) judged after =
-      audited Yes (λ text. OutputWrote text before now) judged
-      (record { whole = after.whole; untouched = λ none. absurd (cc none) })
-  yes_told takes_memory before now (Err sink.Failed) judged after =
-      audited Yes (λ text. SinkGainedPart before.bytes text now.bytes) judged after.part
-  yes_told takes_memory before now (Err sink.NoMemory) judged after =
-      inr (audited Yes (λ text. SinkGainedPart before.bytes text now.bytes) judged after.part)
+      → IsAfterProgramOutput command_audit_yes_line takes_memory before now ended
+      → ProgramAuditOutcome command files ended [] before now
+  yes_told takes_memory before now ended judged wrote =
+      rw wrote.status (by_result wrote.written wrote.after)
+    where
+      by_result : (result : Result (⊤) SinkError) → IsAfterWrite command_audit_yes_line takes_memory before now result
+          → ProgramAuditOutcome command files (command_status_after result None) [] before now
+      by_result (Ok done) after = audited Yes (λ text. ProgramOutputWrote text before now) judged
+          (record { whole = after.whole; untouched = λ none. absurd (cc none) })
+      by_result (Err sink.Failed) after =
+          audited Yes (λ text. SinkGainedPart before.bytes text now.bytes) judged after.part
+      by_result (Err sink.NoMemory) after =
+          inr (audited Yes (λ text. SinkGainedPart before.bytes text now.bytes) judged after.part)

@@ -7,15 +7,15 @@ use Rattle.journal_text.specs.Lines.{journal_text}
 use Rattle.meters.specs.Exports.{Seen}
 use Rattle.meters.specs.declared.flows.FlowRecord.{FlowRecord}
 use Rattle.steps.specs.Exports.{max_events, max_step_number}
-use Rattle.trace_audit.specs.Exports.{AreGoodTraceLines, lines_of}
+use Rattle.trace_audit.specs.Exports.{AreGoodAuditLines, lines_of}
 use Rattle.trace_texts.specs.Texts.{IsTraceTextAnswerTo, IsLastTraceTextLine, TextsAreGood, trace_text_with_feeds}
 use Rattle.trace_texts.proofs.TraceTextPieces.{IsOneLine, joined, number_line, tested}
 use Rattle.command_line.specs.Exports.{Command}
 use Rattle.command_line.specs.Commands as asked
 use Rattle.command_line.specs.declared.report.Report.{Report}
 use Rattle.command_line.specs.declared.report.Report.TheVariants as report
-use Rattle.command_inputs.specs.Exports.{Inputs, IsPlayOfCommand, MayPlayCommandInputs}
-use Rattle.difane_cli.specs.Exports.{IsCommandTraceGood, CommandAuditTellsLines, command_last_lines, program_meter_line_by, command_meter_line, meter_lines, command_notes_line, play_text, command_quiet_line, replay_text}
+use Rattle.command_inputs.specs.Exports.{Inputs, AreCommandPlayInputs, MayPlayCommandInputs}
+use Rattle.difane_cli.specs.Exports.{IsCommandTraceGood, CommandAuditTellsLines, command_last_lines, program_meter_line_by, command_meter_line, meter_lines, command_notes_line, program_play_text, command_quiet_line, program_replay_text}
 
 -- ---- the last lines, without their line feeds
 
@@ -111,15 +111,15 @@ good_text : TextsAreGood → (setting : Setting) (events : List Event) (journal 
     (full : Option ℕ) (meters : List Seen) (answer : Option Bool) → IsSetting setting
     → AreNetworkEvents setting events → IsMachinePlay setting events journal full → length events ≤ max_events
     → length setting.files ≤ max_step_number
-    → AreGoodTraceLines setting.files (lines_of (replay_text setting.net journal full meters answer))
+    → AreGoodAuditLines setting.files (lines_of (program_replay_text setting.net journal full meters answer))
 good_text laws setting events journal None meters answer is own play few numbered =
-    subst (λ (text : List ℕ). AreGoodTraceLines setting.files
+    subst (λ (text : List ℕ). AreGoodAuditLines setting.files
     (lines_of (journal_text setting.net journal ++ text))) (last_whole meters answer)
     (laws setting events journal None (all_texts meters ++ quiet_texts answer) is own
     (answered setting events journal None play) few numbered (All-append IsLastTraceTextLine
     (all_texts meters) (quiet_texts answer) (meters_are_last meters) (quiet_is_last answer)))
 good_text laws setting events journal (Some row) meters answer is own play few numbered =
-    subst (λ (text : List ℕ). AreGoodTraceLines setting.files (lines_of text))
+    subst (λ (text : List ℕ). AreGoodAuditLines setting.files (lines_of text))
     (append-nil (journal_text setting.net journal)) (laws setting events journal (Some row) [] is
     own (answered setting events journal (Some row) play) few numbered (All-nil IsLastTraceTextLine))
 
@@ -129,8 +129,8 @@ module _ (laws : TextsAreGood) (inputs : Inputs) (journal : List Item) (full : O
     (gone : List FlowRecord) (meters : List Seen) (answer : Option Bool) (sound : MayPlayCommandInputs inputs)
     (play : IsMachinePlay inputs.setting inputs.events journal full) where
   good_lines : length inputs.events ≤ max_events → length inputs.setting.files ≤ 64
-      → (told : Report) → CommandAuditTellsLines told → AreGoodTraceLines inputs.setting.files
-      (lines_of (play_text told inputs.setting.net journal full gone meters answer))
+      → (told : Report) → CommandAuditTellsLines told → AreGoodAuditLines inputs.setting.files
+      (lines_of (program_play_text told inputs.setting.net journal full gone meters answer))
   good_lines few some (report.Lines quiet) tells =
       let numbered : length inputs.setting.files ≤ 999_999_999 = omega (arith, some) in
       good_text laws inputs.setting inputs.events journal full meters answer sound.setting
@@ -139,8 +139,8 @@ module _ (laws : TextsAreGood) (inputs : Inputs) (journal : List Item) (full : O
   good_lines few some report.Placement tells = absurd tells
   good_lines few some report.Summary tells = absurd tells
 
-  pub good_trace : (command : Command) → IsPlayOfCommand command inputs → IsCommandTraceGood inputs
-      (play_text inputs.report inputs.setting.net journal full gone meters answer)
+  pub good_trace : (command : Command) → AreCommandPlayInputs command inputs → IsCommandTraceGood inputs
+      (program_play_text inputs.report inputs.setting.net journal full gone meters answer)
   good_trace (asked.Replay args) own = good_lines own.limits.events own.limits.files inputs.report
   good_trace (asked.Load n) own = λ tells.
       absurd (subst (λ (drawn : Inputs). CommandAuditTellsLines drawn.report) own tells)

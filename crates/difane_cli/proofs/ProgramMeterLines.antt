@@ -5,7 +5,7 @@ use Rattle.journal_text.specs.Lines.{journal_text}
 use Rattle.meters.specs.Exports.{Seen}
 use Rattle.shelf.specs.Exports.{IsAfterWrite, SinkState}
 use Rattle.shelf.specs.declared.output.SinkError.{SinkError}
-use Rattle.difane_cli.specs.Exports.{command_last_lines, program_meter_line_by, command_meter_line, meter_lines, command_notes_line, replay_text}
+use Rattle.difane_cli.specs.Exports.{command_last_lines, program_meter_line_by, command_meter_line, meter_lines, command_notes_line, program_replay_text}
 use Rattle.shelf.proofs.SinkGains.{first_part}
 
 -- ---- one line
@@ -39,13 +39,13 @@ none_right (x ∷ xs) ys is = absurd (cc is)
 -- a play that didn't stop full has both
 pub text_whole : (net : Net) (journal : List Item) (full : Option ℕ) (meters : List Seen)
     (answer : Option Bool) → full ≡ None → journal_text net journal ++ command_last_lines meters answer
-    ≡ replay_text net journal full meters answer
+    ≡ program_replay_text net journal full meters answer
 text_whole net journal None meters answer is = refl
 text_whole net journal (Some row) meters answer is = absurd (cc is)
 
 -- where it is empty, the journal's is
 pub none_of_text : (net : Net) (journal : List Item) (full : Option ℕ) (meters : List Seen)
-    (answer : Option Bool) → replay_text net journal full meters answer ≡ []
+    (answer : Option Bool) → program_replay_text net journal full meters answer ≡ []
     → journal_text net journal ≡ []
 none_of_text net journal None meters answer none =
     none_left (journal_text net journal) (command_last_lines meters answer) none
@@ -55,7 +55,7 @@ none_of_text net journal (Some row) meters answer none = none
 pub cut_short : (net : Net) (journal : List Item) (full : Option ℕ) (meters : List Seen)
     (answer : Option Bool) (before now : SinkState) (takes_memory : Bool) (why : SinkError)
     → IsAfterWrite (journal_text net journal) takes_memory before now (Err why)
-    → IsAfterWrite (replay_text net journal full meters answer) takes_memory before now (Err why)
+    → IsAfterWrite (program_replay_text net journal full meters answer) takes_memory before now (Err why)
 cut_short net journal None meters answer before now takes_memory why after = first_part before now
     (journal_text net journal) (command_last_lines meters answer) takes_memory why after
 cut_short net journal (Some row) meters answer before now takes_memory why after = after

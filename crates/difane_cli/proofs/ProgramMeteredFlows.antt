@@ -1,10 +1,10 @@
 -- What flows tell: the counts of new flow meters are right.
 use Rattle.std.proofs.Common.{[], ◌↔◌, ◌∙◌, ◌∷◌, ◌≡◌, All, Bool, List, None, Option, Some, map, refl, subst, sym, true, ℕ}
 use Rattle.base.proofs.Exports.{All-cons, All-nil, range_with_len}
-use Rattle.command_line.specs.Exports.{Command, Replay, ReplayCommand, command_of}
+use Rattle.command_line.specs.Exports.{Command, Replay, ReplayArguments, command_of}
 use Rattle.command_line.specs.declared.report.Report.{Report}
 use Rattle.command_line.specs.declared.report.Report.TheVariants as report
-use Rattle.difane_cli.specs.Exports.{AreCommandFlowsCounted, PlayedByCommandReport, MeteredCommandOutcome, Outcome, Played, CommandTellsFlows, WritesFlowCounts, OutputWrote, command_asks_flows, command_gone_records_by, program_most_headers, new_command_meter, new_command_meters, play_text}
+use Rattle.difane_cli.specs.Exports.{AreCommandFlowsCounted, ProgramPlayedByReport, MeteredCommandOutcome, Outcome, Played, CommandTellsFlows, WritesProgramFlowCounts, ProgramOutputWrote, program_call_asks_flows, command_gone_records_by, program_most_headers, new_command_meter, new_command_meters, program_play_text}
 use Rattle.command_inputs.specs.declared.status.Status.{Status}
 use Rattle.command_inputs.specs.declared.status.Status.TheVariants as status
 use Rattle.flow_export.specs.Counted.{IsNewFlowMeter}
@@ -24,20 +24,20 @@ are_new [] = All-nil (IsNewFlowMeter program_most_headers)
 are_new (port ∷ ports) = All-cons (IsNewFlowMeter program_most_headers) _ _ (is_new port) (are_new ports)
 
 plays : (told : Report) (proposes others : Type 0) → told ≡ report.Flows
-    → PlayedByCommandReport told proposes others → others
-plays told proposes others is by = subst (λ r. PlayedByCommandReport r proposes others) is by
+    → ProgramPlayedByReport told proposes others → others
+plays told proposes others is by = subst (λ r. ProgramPlayedByReport r proposes others) is by
 
-told_by : (args : ReplayCommand) (files : Option Files) (journal : List Item) (given : List Seen)
+told_by : (args : ReplayArguments) (files : Option Files) (journal : List Item) (given : List Seen)
     (before now : SinkState) → args.report ≡ report.Flows
     → (played : Played (Replay args) files None journal (new_command_meters true) given before now)
-    → WritesFlowCounts played.inputs.setting.net journal before now
+    → WritesProgramFlowCounts played.inputs.setting.net journal before now
 told_by args files journal given before now is played =
     let net = played.inputs.setting.net in
     let meters = new_command_meters true in
     let told = played.played.asked.report ∙ is in record {
-      written = subst (λ (all : List Seen). OutputWrote (play_text report.Flows net journal None
+      written = subst (λ (all : List Seen). ProgramOutputWrote (program_play_text report.Flows net journal None
           (command_gone_records_by net journal meters) all played.answer) before now) played.kept
-          (subst (λ (r : Report). OutputWrote (play_text r net journal None (command_gone_records_by net journal meters)
+          (subst (λ (r : Report). ProgramOutputWrote (program_play_text r net journal None (command_gone_records_by net journal meters)
           given played.answer) before now) told played.written);
       counted = subst (AreCommandFlowsCounted journal) played.kept
           (played.counted program_most_headers (are_new (range_with_len 0 64)));
@@ -64,7 +64,7 @@ told_of texts (Some _) is files takes_memory journal given before now tells know
 -- what `run` comes to with meters that are seen as the new ones
 pub come_to : (texts : List (List ℕ)) (files : Option Files) (takes_memory : Bool) (status : Status)
     (journal : List Item) (taken given : List Seen) (before now : SinkState)
-    → taken ≡ new_command_meters (command_asks_flows texts)
+    → taken ≡ new_command_meters (program_call_asks_flows texts)
     → Outcome (command_of texts) files takes_memory status journal taken given before now
     → MeteredCommandOutcome texts files takes_memory status journal before now
 come_to texts files takes_memory status journal taken given before now are outcome = (
@@ -78,10 +78,10 @@ pub flows_told : (texts : List (List ℕ)) (files : Option Files) (takes_memory 
     (ended : Status) (journal : List Item) (before now : SinkState)
     → MeteredCommandOutcome texts files takes_memory ended journal before now
     → (ended ≡ status.Words) ↔ (command_of texts ≡ None)
-    → command_asks_flows texts ≡ true → ended ≡ status.Ok → CommandTellsFlows texts files journal before now
+    → program_call_asks_flows texts ≡ true → ended ≡ status.Ok → CommandTellsFlows texts files journal before now
 flows_told texts files takes_memory ended journal before now outcome words asks done = told_of texts
     (command_of texts) refl files takes_memory journal outcome.0 before now (flows_tell texts asks)
     (λ none. absurd (cc (sym done ∙ words.1 none))) (subst (λ (b : Bool). Outcome (command_of texts)
     files takes_memory status.Ok journal (new_command_meters b) outcome.0 before now) asks
     (subst (λ (s : Status). Outcome (command_of texts) files takes_memory s journal
-    (new_command_meters (command_asks_flows texts)) outcome.0 before now) done outcome.1))
+    (new_command_meters (program_call_asks_flows texts)) outcome.0 before now) done outcome.1))

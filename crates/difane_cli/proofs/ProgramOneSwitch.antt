@@ -1,14 +1,14 @@
 -- The plan of a policy on the network of one switch.
 use Rattle.std.proofs.Common.{[], ◌&&◌, ◌+◌, ◌∷◌, ◌≡◌, ◌≤◌, Bool, List, Ok, arith, false, leb, length, refl, true, ℕ}
 use Rattle.base.proofs.Exports.{nat_tests}
-use Rattle.net_file.specs.Exports.{solo_net}
+use Rattle.net_file.specs.Exports.{net_of_one_switch}
 use Rattle.cut_tree.specs.Exports.{End, IsDefinedTree, CutTreeLaws, tree_of}
 use Rattle.partition.specs.Parts.{partitions_from}
 use Rattle.partition.specs.Plan.{partition_plan_of}
 use Rattle.partition.proofs.PartitionCallerLemmas.{planned}
 use Rattle.placement.specs.Order.{in_order}
 use Rattle.placement.specs.Placement.{has_room, is_placed_earlier, load_before, placement_of}
-use Rattle.policy_rules.specs.Exports.{IsPolicy, RuleListLaws, rules_of, rule_word_total}
+use Rattle.policy_rules.specs.Exports.{IsPolicy, RuleListLaws, rules_of, policy_row_word_total}
 use Rattle.update_machine.specs.Exports.{Row}
 use Rattle.ternary.specs.Exports.{any_word}
 
@@ -28,12 +28,12 @@ only_target size few =
     let room : leb (0 + size) 8192 ≡ true = grind (arith, nat_tests) in rw (no_load size, room) refl
 
 pub one_partition : RuleListLaws → CutTreeLaws → (rows : List Row) → IsPolicy rows
-    → rule_word_total rows ≤ 4096 → partition_plan_of rows solo_net
+    → policy_row_word_total rows ≤ 4096 → partition_plan_of rows net_of_one_switch
     ≡ Ok ((record { number = 0; region = any_word; rules = rules_of rows }, 0 ∷ []) ∷ [])
 unfolding partitions_from
 one_partition lists trees rows policy few =
     let rules = rules_of rows in
-    let count : length rules ≡ rule_word_total rows + 1 = lists.count rows policy in
+    let count : length rules ≡ policy_row_word_total rows + 1 = lists.count rows policy in
     let small : length rules ≤ 8192 = omega arith in
     let leaf : IsDefinedTree rules 8192 (End any_word rules) =
     record { same_region = refl; same_rules = refl; few = small } in
@@ -41,5 +41,5 @@ one_partition lists trees rows policy few =
     (omega arith) (lists.list rows policy).words in
     let tree : End any_word rules ≡ tree_of rules 8192 = trees.only rules 8192 (End any_word rules)
     (tree_of rules 8192) leaf defined in
-    planned rows solo_net (End any_word rules) ((0 ∷ []) ∷ []) few tree (omega arith)
+    planned rows net_of_one_switch (End any_word rules) ((0 ∷ []) ∷ []) few tree (omega arith)
     (only_target (length rules) small)

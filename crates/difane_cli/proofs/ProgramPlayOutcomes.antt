@@ -5,9 +5,9 @@ use Rattle.update_machine.specs.Exports.{IsMachinePlay, Item, Net, Setting}
 use Rattle.flow_export.specs.Counted.{FlowMeterLaws}
 use Rattle.meters.specs.Exports.{Seen}
 use Rattle.net_file.specs.Exports.{port_mask}
-use Rattle.packet_laws.specs.Exports.{HeldOnTheWay, HoldsSoFar}
-use Rattle.difane_cli.specs.Exports.{ProgramAnswerLaws, AreCommandFlowsCounted, CommandCountsFlows, IsAfterCommandText, IsCommandAnswer, IsCommandQuietVerdict, IsCommandVerdict, CommandPlayOutcome, Played, CommandPlayedUnfinished, CommandPlayWantsMemory, command_asks_quiet, command_gone_records_by, is_command_verdict_asked, is_command_output_made, play_text}
-use Rattle.command_inputs.specs.Exports.{Inputs, IsPlayOfCommand, MayPlayCommandInputs, Play, known_command_task, command_status_after}
+use Rattle.packet_laws.specs.Exports.{PacketLawsHeldThroughout, PacketLawsHoldSoFar}
+use Rattle.difane_cli.specs.Exports.{ProgramAnswerLaws, AreCommandFlowsCounted, CommandCountsFlows, IsAfterCommandText, IsCommandAnswer, IsCommandQuietVerdict, IsProgramVerdictOnQuiet, CommandPlayOutcome, Played, CommandPlayedUnfinished, CommandPlayWantsMemory, program_asks_quiet, command_gone_records_by, is_command_verdict_asked, is_command_output_made, program_play_text}
+use Rattle.command_inputs.specs.Exports.{Inputs, AreCommandPlayInputs, MayPlayCommandInputs, Play, known_command_input_task, command_status_after}
 use Rattle.shelf.specs.Exports.{Files, SinkState}
 use Rattle.shelf.specs.declared.output.SinkError.{SinkError}
 use Rattle.shelf.specs.declared.output.SinkError.TheVariants as sink
@@ -19,12 +19,12 @@ use Rattle.replay.specs.Leavings.{kept_by, left_in}
 
 -- what the journal of a play is, and what follows
 pub played : ProgramAnswerLaws → (command : Command) (files : Option Files)
-    (inputs : Inputs) (journal : List Item) (full : Option ℕ) → IsPlayOfCommand command inputs
-    → ForSome (known_command_task files (Some command)) (λ read. read ≡ Ok (Play inputs))
+    (inputs : Inputs) (journal : List Item) (full : Option ℕ) → AreCommandPlayInputs command inputs
+    → ForSome (known_command_input_task files (Some command)) (λ read. read ≡ Ok (Play inputs))
     → MayPlayCommandInputs inputs → IsMachinePlay inputs.setting inputs.events journal full
-    → HeldOnTheWay inputs.setting journal → IsCommandAnswer command files inputs journal full
+    → PacketLawsHeldThroughout inputs.setting journal → IsCommandAnswer command files inputs journal full
 played laws command files inputs journal full asked accepted sound play held =
-    let whole : HoldsSoFar inputs.setting journal = subst (HoldsSoFar inputs.setting)
+    let whole : PacketLawsHoldSoFar inputs.setting journal = subst (PacketLawsHoldSoFar inputs.setting)
     (take_all (length journal) journal (omega arith)) (held.so_far (length journal)) in record {
       asked = asked;
       stated = stated_by files command inputs accepted;
@@ -43,18 +43,18 @@ played laws command files inputs journal full asked accepted sound play held =
 pub judged : ProgramAnswerLaws → (command : Command) (files : Option Files) (inputs : Inputs)
     (journal : List Item) (full : Option ℕ) (net : Net) (given : Option Bool)
     → IsCommandAnswer command files inputs journal full → inputs.setting.net ≡ net
-    → is_some given ≡ is_command_verdict_asked (command_asks_quiet inputs.report) full
-    → ((setting : Setting) → setting.net ≡ net → IsCommandVerdict setting journal given)
-    → IsCommandQuietVerdict (command_asks_quiet inputs.report) inputs.setting journal full given
+    → is_some given ≡ is_command_verdict_asked (program_asks_quiet inputs.report) full
+    → ((setting : Setting) → setting.net ≡ net → IsProgramVerdictOnQuiet setting journal given)
+    → IsCommandQuietVerdict (program_asks_quiet inputs.report) inputs.setting journal full given
 judged laws command files inputs journal full net given answer own asked decides =
-    verdict laws.quiet (command_asks_quiet inputs.report) inputs.setting inputs.events journal full given
+    verdict laws.quiet (program_asks_quiet inputs.report) inputs.setting inputs.events journal full given
     answer.sound.setting answer.sound.events answer.play asked (decides inputs.setting own)
 
 -- memory ran out before an answer was given, and nothing was written
 pub unjudged : (command : Command) (files : Option Files) (takes_memory : Bool) (inputs : Inputs)
     (journal : List Item) (full : Option ℕ) (taken given : List Seen) (now : SinkState)
     → IsCommandAnswer command files inputs journal full → given ≡ kept_by inputs.setting.net journal taken
-    → IsTrue (is_command_verdict_asked (command_asks_quiet inputs.report) full)
+    → IsTrue (is_command_verdict_asked (program_asks_quiet inputs.report) full)
     → CommandPlayedUnfinished command files takes_memory journal taken given now now
 unjudged command files takes_memory inputs journal full taken given now answer kept asked = record {
   inputs = inputs;
@@ -79,8 +79,8 @@ pub told : ProgramAnswerLaws → (command : Command) (files : Option Files) (inp
     (takes_memory : Bool) (written : Result (⊤) SinkError)
     → IsCommandAnswer command files inputs journal full
     → given ≡ kept_by inputs.setting.net journal taken
-    → IsCommandQuietVerdict (command_asks_quiet inputs.report) inputs.setting journal full said
-    → IsAfterCommandText (play_text inputs.report inputs.setting.net journal full
+    → IsCommandQuietVerdict (program_asks_quiet inputs.report) inputs.setting journal full said
+    → IsAfterCommandText (program_play_text inputs.report inputs.setting.net journal full
     (command_gone_records_by inputs.setting.net journal taken) given said)
     (is_command_output_made inputs.report full) takes_memory before now written
     → CommandPlayOutcome command files takes_memory (command_status_after written full) journal taken given before now

@@ -3,17 +3,17 @@ use Rattle.std.proofs.Common.{◌∙◌, ◌≡◌, ◌≢◌, ◌⊎◌, Bool, 
 use Rattle.update_machine.specs.Exports.{Item}
 use Rattle.meters.specs.Exports.{Seen}
 use Rattle.shelf.specs.Exports.{Files, SinkState}
-use Rattle.command_line.specs.Exports.{Command, ReplayCommand}
+use Rattle.command_line.specs.Exports.{Command, ReplayArguments}
 use Rattle.command_line.specs.Commands as asked
 use Rattle.command_line.specs.declared.report.Report.{Report}
 use Rattle.command_line.specs.declared.report.Report.TheVariants as report
-use Rattle.difane_cli.specs.Exports.{PlayedByCommandReport, CommandGivesBackMeters, IsCommandAnswer, Outcome, CommandPlayOutcome, CommandProposalOutcome, CommandRanOut, is_command_output_made}
-use Rattle.command_inputs.specs.Exports.{Inputs, IsPlayOfCommand}
+use Rattle.difane_cli.specs.Exports.{ProgramPlayedByReport, CommandGivesBackMeters, IsCommandAnswer, Outcome, CommandPlayOutcome, CommandProposalOutcome, ProgramMemoryRanOut, is_command_output_made}
+use Rattle.command_inputs.specs.Exports.{Inputs, AreCommandPlayInputs}
 use Rattle.command_inputs.specs.declared.status.Status.{Status}
 
 pub play_outcome : (command : Command) (inputs : Inputs) (files : Option Files)
     (takes_memory : Bool) (status : Status) (journal : List Item) (taken given : List Seen)
-    (before now : SinkState) → IsPlayOfCommand command inputs → inputs.report ≢ report.Placement
+    (before now : SinkState) → AreCommandPlayInputs command inputs → inputs.report ≢ report.Placement
     → CommandPlayOutcome command files takes_memory status journal taken given before now
     → Outcome (Some command) files takes_memory status journal taken given before now
 play_outcome (asked.Print args) inputs files takes_memory status journal taken given before now own
@@ -26,7 +26,7 @@ play_outcome (asked.Replay args) inputs files takes_memory status journal taken 
     own other outcome = by_report args.report (λ is. other (own.report ∙ is))
   where
     by_report : (told : Report) → (told ≡ report.Placement → ⊥)
-        → PlayedByCommandReport told
+        → ProgramPlayedByReport told
         (CommandProposalOutcome (IsCommandAnswer (asked.Replay args) files) takes_memory status journal before now)
         (CommandPlayOutcome (asked.Replay args) files takes_memory status journal taken given before now)
     by_report report.Placement never = absurd (never refl)
@@ -40,8 +40,8 @@ summed inputs is other = let clash : report.Summary ≡ report.Placement = sym i
 
 pub proposal_outcome : (command : Command) (inputs : Inputs) (files : Option Files)
     (takes_memory : Bool) (status : Status) (journal : List Item) (taken given : List Seen)
-    (before now : SinkState) → IsPlayOfCommand command inputs → inputs.report ≡ report.Placement
-    → ((args : ReplayCommand) → command ≡ asked.Replay args
+    (before now : SinkState) → AreCommandPlayInputs command inputs → inputs.report ≡ report.Placement
+    → ((args : ReplayArguments) → command ≡ asked.Replay args
     → CommandProposalOutcome (IsCommandAnswer (asked.Replay args) files) takes_memory status journal before now)
     → Outcome (Some command) files takes_memory status journal taken given before now
 proposal_outcome (asked.Print args) inputs files takes_memory status journal taken given before now
@@ -51,15 +51,15 @@ proposal_outcome (asked.Audit args) inputs files takes_memory status journal tak
 proposal_outcome (asked.Load n) inputs files takes_memory status journal taken given before now own
     is proposes = absurd (summed inputs (ap (λ (i : Inputs). i.report) own) is)
 proposal_outcome (asked.Replay args) inputs files takes_memory status journal taken given before now
-    own is proposes = subst (λ (told : Report). PlayedByCommandReport told
+    own is proposes = subst (λ (told : Report). ProgramPlayedByReport told
     (CommandProposalOutcome (IsCommandAnswer (asked.Replay args) files) takes_memory status journal before now)
     (CommandPlayOutcome (asked.Replay args) files takes_memory status journal taken given before now))
     (sym is ∙ own.report) (proposes args refl)
 
 -- what is proposed is made in memory
 pub proposal_out : (command : Command) (inputs : Inputs) (takes_memory : Bool) (journal : List Item)
-    (before now : SinkState) → IsPlayOfCommand command inputs → inputs.report ≡ report.Placement
-    → IsTrue takes_memory ⊎ (now ≡ before) → CommandRanOut (Some command) takes_memory journal before now
+    (before now : SinkState) → AreCommandPlayInputs command inputs → inputs.report ≡ report.Placement
+    → IsTrue takes_memory ⊎ (now ≡ before) → ProgramMemoryRanOut (Some command) takes_memory journal before now
 proposal_out (asked.Print args) inputs takes_memory journal before now own is out = absurd own
 proposal_out (asked.Audit args) inputs takes_memory journal before now own is out = absurd own
 proposal_out (asked.Load n) inputs takes_memory journal before now own is out =
@@ -72,7 +72,7 @@ proposal_out (asked.Replay args) inputs takes_memory journal before now own is (
     inr (same, inr (inr made))
 
 -- only a proposal gives the meters back
-pub keeps_meters : (command : Command) (inputs : Inputs) → IsPlayOfCommand command inputs
+pub keeps_meters : (command : Command) (inputs : Inputs) → AreCommandPlayInputs command inputs
     → inputs.report ≢ report.Placement → CommandGivesBackMeters (Some command) → ⊥
 keeps_meters (asked.Print args) inputs own other back = absurd own
 keeps_meters (asked.Audit args) inputs own other back = absurd own

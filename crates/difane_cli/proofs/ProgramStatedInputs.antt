@@ -8,10 +8,10 @@ use Rattle.policy_file.specs.declared.ports.NoPort.{NoPort}
 use Rattle.schedule.specs.Reading.{schedule_of}
 use Rattle.schedule.specs.Refusals.{schedule_code}
 use Rattle.shelf.specs.Exports.{Files, file_named}
-use Rattle.command_line.specs.Exports.{Command, ReplayCommand}
+use Rattle.command_line.specs.Exports.{Command, ReplayArguments}
 use Rattle.command_line.specs.Commands as asked
-use Rattle.difane_cli.specs.Exports.{AreInputsStated, AreCommandInputsStated, CommandFileStates}
-use Rattle.command_inputs.specs.Exports.{Inputs, Play, and_then_input, command_content_from, content_of, command_first_change_code, first_plan, first_command_input_stated, command_replay_inputs, known_command_task, program_most_file_bytes, command_net_stated, play_task, command_policy_stated, read_file, read_files, input_read_from, read_net, read_schedule, command_refused_whole_file, command_schedule_in, input_stated_as, task_of, too_long, input_with_ports}
+use Rattle.difane_cli.specs.Exports.{AreProgramInputsStated, AreKnownProgramInputsStated, ProgramFileStates}
+use Rattle.command_inputs.specs.Exports.{Inputs, Play, and_then_input, command_content_from, command_input_content, command_input_first_change_code, first_plan, first_command_input_stated, command_replay_inputs, known_command_input_task, command_input_most_file_bytes, command_net_stated, command_input_play_task, input_policy_stated, read_file, read_files, input_read_from, read_net, read_schedule, input_file_refused_whole, command_schedule_in, input_stated_as, command_input_task_of, too_long, input_with_ports}
 use Rattle.command_inputs.specs.declared.status.Refusal.{Refusal}
 use Rattle.command_inputs.proofs.InputFileChecks.{stated_so}
 
@@ -27,10 +27,10 @@ same_value : {X : Type 0} (read : Result X Refusal) (x y : X) → read ≡ Ok x 
 same_value read x y one two = cc (one, two)
 
 content_is : (name : List ℕ) (found : Option (List ℕ)) (bytes : List ℕ)
-    → command_content_from program_most_file_bytes name found ≡ Ok bytes → found ≡ Some bytes
+    → command_content_from command_input_most_file_bytes name found ≡ Ok bytes → found ≡ Some bytes
 content_is name None bytes is = absurd (cc is)
-content_is name (Some held) bytes is = by (nat_le (length held) program_most_file_bytes) is where
-  by : (few : Bool) → (if few then Ok held else Err (command_refused_whole_file name too_long)) ≡ Ok bytes
+content_is name (Some held) bytes is = by (nat_le (length held) command_input_most_file_bytes) is where
+  by : (few : Bool) → (if few then Ok held else Err (input_file_refused_whole name too_long)) ≡ Ok bytes
       → Some held ≡ Some bytes
   by true is = cc is
   by false is = absurd (cc is)
@@ -39,9 +39,9 @@ content_is name (Some held) bytes is = by (nat_le (length held) program_most_fil
 states : {V E : Type 0} (files : Files) (name : List ℕ) (read : List ℕ → Result V E)
     (stated : List ℕ → Result V Refusal) (value : V)
     → ((bytes : List ℕ) → stated bytes ≡ Ok value → read bytes ≡ Ok value)
-    → and_then_input (content_of files name) stated ≡ Ok value → CommandFileStates files read name value
+    → and_then_input (command_input_content files name) stated ≡ Ok value → ProgramFileStates files read name value
 states files name read stated value own is =
-    let on = went_on (content_of files name) stated value is in
+    let on = went_on (command_input_content files name) stated value is in
     (on.0, content_is name (file_named files name) on.0 on.1, own on.0 on.2)
 
 -- ---- networks, schedules and policies
@@ -52,13 +52,13 @@ read_is code name (Ok value) own is = cc is
 read_is code name (Err refused) own is = absurd (cc is)
 
 net_states : (files : Files) (name : List ℕ) (net : Net) → read_net files (Some name) ≡ Ok net
-    → CommandFileStates files net_of name net
+    → ProgramFileStates files net_of name net
 net_states files name net is =
     states files name net_of (command_net_stated name) net (λ bytes. read_is net_code name (net_of bytes) net) is
 
 schedule_states : (net : Net) (count : ℕ) (files : Files) (name : List ℕ) (events : List Event)
     → read_schedule net count files name ≡ Ok events
-    → CommandFileStates files (schedule_of net count) name events
+    → ProgramFileStates files (schedule_of net count) name events
 schedule_states net count files name events is =
     states files name (schedule_of net count) (command_schedule_in net count name) events
     (λ bytes. read_is schedule_code name (schedule_of net count bytes) events) is
@@ -81,8 +81,8 @@ ported_is code name read lack value is =
 no_change : (ports : ℕ) (name bytes : List ℕ) (file : PolicyFile)
     → first_command_input_stated ports name bytes ≡ Ok file → is_change_text bytes ≡ false
 no_change ports name bytes file is = by (is_change_text bytes) is where
-  by : (changes : Bool) → (if changes then Err (command_refused_whole_file name command_first_change_code)
-      else and_then_input (command_policy_stated ports name bytes) (λ rows. Ok (Whole rows))) ≡ Ok file
+  by : (changes : Bool) → (if changes then Err (input_file_refused_whole name command_input_first_change_code)
+      else and_then_input (input_policy_stated ports name bytes) (λ rows. Ok (Whole rows))) ≡ Ok file
       → changes ≡ false
   by true is = absurd (cc is)
   by false is = refl
@@ -94,20 +94,20 @@ stated_is is_first ports name bytes file is = ported_is policy_file_refusal_code
     name bytes file (subst (λ (b : Bool). input_stated_as b ports name bytes ≡ Ok file) first is))) ∙ is)
 
 file_states : (is_first : Bool) (ports : ℕ) (files : Files) (name : List ℕ) (file : PolicyFile)
-    → read_file is_first ports files name ≡ Ok file → CommandFileStates files policy_file_of name file
+    → read_file is_first ports files name ≡ Ok file → ProgramFileStates files policy_file_of name file
 file_states is_first ports files name file is = states files name policy_file_of
     (input_stated_as is_first ports name) file (λ bytes. stated_is is_first ports name bytes file) is
 
 files_state : (is_first : Bool) (ports : ℕ) (files : Files) (names : List (List ℕ))
     (read : List PolicyFile) → read_files is_first ports files names ≡ Ok read
-    → AllZip (CommandFileStates files policy_file_of) names read
+    → AllZip (ProgramFileStates files policy_file_of) names read
 files_state is_first ports files [] read is =
-    subst (AllZip (CommandFileStates files policy_file_of) []) (same_value (Ok []) [] read refl is) tt
+    subst (AllZip (ProgramFileStates files policy_file_of) []) (same_value (Ok []) [] read refl is) tt
 files_state is_first ports files (name ∷ names) read is =
     let first = went_on (read_file is_first ports files name) _ read is in
     let others = went_on (read_files false ports files names) (λ more. Ok (first.0 ∷ more)) read
     first.2 in
-    subst (AllZip (CommandFileStates files policy_file_of) (name ∷ names))
+    subst (AllZip (ProgramFileStates files policy_file_of) (name ∷ names))
     (same_value (Ok (first.0 ∷ others.0)) _ read refl others.2) (
       file_states is_first ports files name first.0 first.1,
       files_state false ports files names others.0 others.1,
@@ -115,8 +115,8 @@ files_state is_first ports files (name ∷ names) read is =
 
 -- ---- all files of a replay
 
-inputs_state : (files : Files) (command : ReplayCommand) (inputs : Inputs)
-    → command_replay_inputs files command ≡ Ok inputs → AreInputsStated files command inputs
+inputs_state : (files : Files) (command : ReplayArguments) (inputs : Inputs)
+    → command_replay_inputs files command ≡ Ok inputs → AreProgramInputsStated files command inputs
 inputs_state files command inputs is =
     let net = went_on (read_net files command.net) _ inputs is in
     let count = length command.policies in
@@ -124,7 +124,7 @@ inputs_state files command inputs is =
     let ports = port_mask net.0.switches in
     let policies = went_on (read_files true ports files command.policies) _ inputs events.2 in
     let planned = went_on (first_plan command.policies net.0 policies.0) _ inputs policies.2 in
-    subst (AreInputsStated files command) (same_value _ _ inputs refl planned.2)
+    subst (AreProgramInputsStated files command) (same_value _ _ inputs refl planned.2)
     (record {
       net = λ name named. net_states files name net.0
           (subst (λ given. read_net files given ≡ Ok net.0) named net.1);
@@ -133,17 +133,17 @@ inputs_state files command inputs is =
     })
 
 play_is : (read : Result Inputs Refusal) (inputs : Inputs)
-    → play_task read ≡ Ok (Play inputs) → read ≡ Ok inputs
+    → command_input_play_task read ≡ Ok (Play inputs) → read ≡ Ok inputs
 play_is (Ok own) inputs is = cc is
 play_is (Err refusal) inputs is = absurd (cc is)
 
 -- the inputs of the known task are those that the files state
 pub stated_by : (files : Option Files) (command : Command) (inputs : Inputs)
-    → ForSome (known_command_task files (Some command)) (λ read. read ≡ Ok (Play inputs))
-    → AreCommandInputsStated files command inputs
+    → ForSome (known_command_input_task files (Some command)) (λ read. read ≡ Ok (Play inputs))
+    → AreKnownProgramInputsStated files command inputs
 stated_by files (asked.Replay replay) inputs accepted = λ all known.
     inputs_state all replay inputs (play_is (command_replay_inputs all replay) inputs
-    (accepted _ (ap (λ held. task_of held (asked.Replay replay)) known)))
+    (accepted _ (ap (λ held. command_input_task_of held (asked.Replay replay)) known)))
 stated_by files (asked.Print print) inputs accepted = tt
 stated_by files (asked.Load n) inputs accepted = tt
 stated_by files (asked.Audit args) inputs accepted = tt

@@ -1,14 +1,15 @@
 -- What the status of work that was begun says, and what became of the memory.
 use Rattle.base.proofs.Exports.{⊤}
-use Rattle.std.proofs.Common.{◌≡◌, ◌⊎◌, Bool, Err, IsErrOf, IsTrue, List, None, Ok, OnErr, Option, Result, Some, inl, inr, refl, subst, ℕ}
+use Rattle.std.proofs.Common.{◌∙◌, ◌≡◌, ◌⊎◌, Bool, Err, IsErrOf, IsTrue, List, None, Ok, OnErr, Option, Result, Some, inl, inr, refl, subst, ℕ}
 use Rattle.update_machine.specs.Exports.{Item}
 use Rattle.shelf.specs.Exports.{SinkState}
 use Rattle.shelf.specs.declared.output.SinkError.{SinkError}
 use Rattle.shelf.specs.declared.output.SinkError.TheVariants as sink
-use Rattle.command_inputs.specs.Exports.{Inputs, IsPlayOfCommand, command_status_after}
-use Rattle.difane_cli.specs.Exports.{IsCommandStatusAfterWork, MayWantMemory, CommandRanOut, command_asks_quiet, is_command_verdict_asked, is_command_output_made}
+use Rattle.command_inputs.specs.Exports.{Inputs, AreCommandPlayInputs, command_status_after}
+use Rattle.difane_cli.specs.Exports.{CommandStatusEndsWork, IsAfterProgramOutput, IsCommandStatusAfterWork, ProgramMayWantMemory, ProgramMemoryRanOut, program_asks_quiet, is_command_verdict_asked, is_command_output_made}
 use Rattle.command_line.specs.declared.report.Report.{Report}
 use Rattle.command_line.specs.declared.report.Report.TheVariants as told
+use Rattle.command_inputs.specs.declared.status.Status.{Status}
 use Rattle.command_inputs.specs.declared.status.Status.TheVariants as status
 use Rattle.command_line.specs.Exports.{Command}
 use Rattle.command_line.specs.Commands as asked
@@ -43,12 +44,28 @@ of_failed (Ok done) full is = absurd (cc is)
 of_failed (Err sink.Failed) full is = refl
 of_failed (Err sink.NoMemory) full is = absurd (cc is)
 
+-- ---- after a command's whole output
+
+pub output_ends : {text : List ℕ} {takes_memory : Bool} {before now : SinkState} {ended : Status}
+    → IsAfterProgramOutput text takes_memory before now ended → CommandStatusEndsWork ended before now
+output_ends wrote = record {
+  worked = rw wrote.status (after_work wrote.written None);
+  failed = λ is. wrote.after.failed (by_failed wrote.written None (rw wrote.status at is));
+  calm = λ not. wrote.after.calm (λ is. not (wrote.status ∙ of_failed wrote.written None is));
+  faults = wrote.after.faults;
+}
+
+-- memory ran out only in the output's own writes
+pub output_memory : {text : List ℕ} {takes_memory : Bool} {before now : SinkState} {ended : Status}
+    → IsAfterProgramOutput text takes_memory before now ended → ended ≡ status.NoMemory → IsTrue takes_memory
+output_memory wrote is = wrote.after.no_memory (by_memory wrote.written None (rw wrote.status at is))
+
 -- ---- where memory ran out
 
-wants_to_judge : (command : Command) (inputs : Inputs) (full : Option ℕ) → IsPlayOfCommand command inputs
-    → IsTrue (is_command_verdict_asked (command_asks_quiet inputs.report) full) → MayWantMemory (Some command)
+wants_to_judge : (command : Command) (inputs : Inputs) (full : Option ℕ) → AreCommandPlayInputs command inputs
+    → IsTrue (is_command_verdict_asked (program_asks_quiet inputs.report) full) → ProgramMayWantMemory (Some command)
 wants_to_judge (asked.Replay named) inputs None own is =
-    inl (subst (λ (report : Report). IsTrue (command_asks_quiet report)) own.report is)
+    inl (subst (λ (report : Report). IsTrue (program_asks_quiet report)) own.report is)
 wants_to_judge (asked.Replay named) inputs (Some row) own is = absurd (cc is)
 wants_to_judge (asked.Print named) inputs full own is = absurd own
 wants_to_judge (asked.Load n) inputs full own is = tt
@@ -63,8 +80,8 @@ made_whole told.Flows (Some row) is = absurd (cc is)
 made_whole told.Placement (Some row) is = absurd (cc is)
 made_whole told.Summary (Some row) is = absurd (cc is)
 
-wants_to_make : (command : Command) (inputs : Inputs) (full : Option ℕ) → IsPlayOfCommand command inputs
-    → IsTrue (is_command_output_made inputs.report full) → MayWantMemory (Some command)
+wants_to_make : (command : Command) (inputs : Inputs) (full : Option ℕ) → AreCommandPlayInputs command inputs
+    → IsTrue (is_command_output_made inputs.report full) → ProgramMayWantMemory (Some command)
 wants_to_make (asked.Replay named) inputs full own is = inr (made_whole named.report full
     (subst (λ (report : Report). IsTrue (is_command_output_made report full)) own.report is))
 wants_to_make (asked.Print named) inputs full own is = absurd own
@@ -78,17 +95,17 @@ on_err (Err e) P holds none = holds
 
 -- it ran out before the answer
 pub out_of_judging : (command : Command) (inputs : Inputs) (full : Option ℕ) (takes_memory : Bool)
-    (journal : List Item) (now : SinkState) → IsPlayOfCommand command inputs
-    → IsTrue (is_command_verdict_asked (command_asks_quiet inputs.report) full)
-    → CommandRanOut (Some command) takes_memory journal now now
+    (journal : List Item) (now : SinkState) → AreCommandPlayInputs command inputs
+    → IsTrue (is_command_verdict_asked (program_asks_quiet inputs.report) full)
+    → ProgramMemoryRanOut (Some command) takes_memory journal now now
 out_of_judging command inputs full takes_memory journal now own is =
     inr (refl, inr (wants_to_judge command inputs full own is))
 
 -- it ran out in making or in writing the text
 pub out_of_writing : (command : Command) (inputs : Inputs) (full : Option ℕ) (takes_memory : Bool)
-    (journal : List Item) (before now : SinkState) → IsPlayOfCommand command inputs
+    (journal : List Item) (before now : SinkState) → AreCommandPlayInputs command inputs
     → IsTrue takes_memory ⊎ (IsTrue (is_command_output_made inputs.report full) × (now ≡ before))
-    → CommandRanOut (Some command) takes_memory journal before now
+    → ProgramMemoryRanOut (Some command) takes_memory journal before now
 out_of_writing command inputs full takes_memory journal before now own (inl takes) = inl takes
 out_of_writing command inputs full takes_memory journal before now own (inr (made, same)) =
     inr (same, inr (wants_to_make command inputs full own made))

@@ -4,14 +4,14 @@ use Rattle.base.proofs.Exports.{⊤}
 use Rattle.controller.specs.Exports.{PlanValue}
 use Rattle.update_machine.specs.Exports.{Item, Net, Row, Setting, journal_current_mark, journal_plan_at}
 use Rattle.partition.specs.Plan.{Hosted}
-use Rattle.rebalance.specs.Proposals.{ProposesFor}
+use Rattle.rebalance.specs.Proposals.{RebalanceProposesFor}
 use Rattle.replay.specs.InForce.{IsReplayPlanInForce}
 use Rattle.shelf.specs.Exports.{Files, SinkGainedPart, IsAfterWrite, SinkState}
 use Rattle.shelf.specs.declared.output.SinkError.{SinkError}
 use Rattle.shelf.specs.declared.output.SinkError.TheVariants as sink
-use Rattle.command_line.specs.Exports.{ReplayCommand}
+use Rattle.command_line.specs.Exports.{ReplayArguments}
 use Rattle.command_line.specs.Commands as asked
-use Rattle.difane_cli.specs.Exports.{CommandStatusEndsWork, IsAfterCommandProposal, IsAfterCommandProposing, IsCommandAnswer, CommandProposalOutcome, CommandProposes, OutputWrote}
+use Rattle.difane_cli.specs.Exports.{CommandStatusEndsWork, IsAfterCommandProposal, IsAfterCommandProposing, IsCommandAnswer, CommandProposalOutcome, CommandProposes, ProgramOutputWrote}
 use Rattle.command_inputs.specs.Exports.{Inputs, command_status_after}
 use Rattle.command_inputs.specs.declared.status.Status.TheVariants as status
 use Rattle.difane_cli.proofs.ProgramStatus.{after_work, by_failed, by_memory, of_failed}
@@ -31,8 +31,8 @@ module _ (rows : List Row) (plan : List Hosted) (net : Net) (journal : List Item
   }
 
   proposes : (text : List ℕ) (IsWritten : List ℕ → Type 0)
-      → ProposesFor rows plan net journal (λ whole. text ≡ whole) → IsWritten text
-      → ProposesFor rows plan net journal IsWritten
+      → RebalanceProposesFor rows plan net journal (λ whole. text ≡ whole) → IsWritten text
+      → RebalanceProposesFor rows plan net journal IsWritten
   proposes text IsWritten is written = record {
     placement = is.placement;
     proposed = is.proposed;
@@ -40,11 +40,11 @@ module _ (rows : List Row) (plan : List Hosted) (net : Net) (journal : List Item
   }
 
   pub wrote_proposal : (text : List ℕ) (takes_memory : Bool) (before now : SinkState)
-      (result : Result (⊤) SinkError) → ProposesFor rows plan net journal (λ whole. text ≡ whole)
+      (result : Result (⊤) SinkError) → RebalanceProposesFor rows plan net journal (λ whole. text ≡ whole)
       → IsAfterWrite text takes_memory before now result → (text ≡ [] → now ≡ before)
       → IsAfterCommandProposal rows plan net journal takes_memory before now result
   wrote_proposal text takes_memory before now (Ok done) is after untouched = record {
-    whole = proposes text (λ text. OutputWrote text before now) is
+    whole = proposes text (λ text. ProgramOutputWrote text before now) is
         (record { whole = after.whole; untouched = untouched });
     part = λ same. absurd (cc same);
     some = λ same. absurd (cc same);
@@ -53,7 +53,7 @@ module _ (rows : List Row) (plan : List Hosted) (net : Net) (journal : List Item
     faults = after.faults;
   }
   wrote_proposal text takes_memory before now (Err error) is after untouched =
-      let part : ProposesFor rows plan net journal
+      let part : RebalanceProposesFor rows plan net journal
       (λ text. SinkGainedPart before.bytes text now.bytes) = proposes text _ is after.part in record {
         whole = tt;
         part = λ same. part;
@@ -100,14 +100,14 @@ module _ (rows : List Row) (plan : List Hosted) (net : Net) (journal : List Item
 
 in_force : (setting : Setting) (journal : List Item) (plan : PlanValue)
     (IsWritten : List ℕ → Type 0) → IsReplayPlanInForce setting journal plan
-    → ProposesFor plan.policy plan.hosted setting.net journal IsWritten
+    → RebalanceProposesFor plan.policy plan.hosted setting.net journal IsWritten
     → CommandProposes setting journal IsWritten
-in_force setting journal plan IsWritten is proposes = subst (λ rows. ProposesFor rows
+in_force setting journal plan IsWritten is proposes = subst (λ rows. RebalanceProposesFor rows
     (journal_plan_at setting journal (journal_current_mark journal)) setting.net journal IsWritten) is.policy
-    (subst (λ hosted. ProposesFor plan.policy hosted setting.net journal IsWritten) is.hosted
+    (subst (λ hosted. RebalanceProposesFor plan.policy hosted setting.net journal IsWritten) is.hosted
     proposes)
 
-pub whole_told : (command : ReplayCommand) (files : Option Files) (inputs : Inputs)
+pub whole_told : (command : ReplayArguments) (files : Option Files) (inputs : Inputs)
     (journal : List Item) (full : Option ℕ) (plan : PlanValue) (takes_memory : Bool)
     (before now : SinkState) (written : Result (⊤) SinkError)
     → IsCommandAnswer (asked.Replay command) files inputs journal full
@@ -123,7 +123,7 @@ whole_told command files inputs journal None plan takes_memory before now (Ok do
     after = record {
       inputs = inputs;
       played = answer;
-      proposes = in_force inputs.setting journal plan (λ text. OutputWrote text before now) is after.whole;
+      proposes = in_force inputs.setting journal plan (λ text. ProgramOutputWrote text before now) is after.whole;
     }
 whole_told command files inputs journal None plan takes_memory before now (Err sink.Failed) answer
     is after = record {
@@ -135,7 +135,7 @@ whole_told command files inputs journal None plan takes_memory before now (Err s
 whole_told command files inputs journal None plan takes_memory before now (Err sink.NoMemory) answer
     is after = by_some (after.some refl)
   where
-    by_some : (now ≡ before) ⊎ (IsTrue takes_memory × ProposesFor plan.policy plan.hosted
+    by_some : (now ≡ before) ⊎ (IsTrue takes_memory × RebalanceProposesFor plan.policy plan.hosted
         inputs.setting.net journal (λ text. SinkGainedPart before.bytes text now.bytes))
         → CommandProposalOutcome (IsCommandAnswer (asked.Replay command) files) takes_memory status.NoMemory
         journal before now

@@ -3,15 +3,15 @@ use Rattle.std.specs.Prelude.{[], ◌≡◌, ◌⊎◌, List, Ok, Option, Some, 
 use Rattle.base.specs.Exports.{ForSome}
 use Rattle.update_machine.specs.Exports.{Item, PolicyFile}
 use Rattle.shelf.specs.Exports.{Files, SinkGainedPart, SinkState}
-use Rattle.trace_audit.specs.Exports.{AreGoodTraceLines, AreTraceEndsJustified, AreTraceRun, IsFirstBad, TraceLine, lines_of}
+use Rattle.trace_audit.specs.Exports.{AreGoodAuditLines, AreTraceEndsJustified, AreAuditedTraceRun, IsFirstBad, TraceLine, lines_of}
 use Rattle.trace_audit.specs.declared.trace.Verdict.{Verdict}
 use Rattle.trace_audit.specs.declared.trace.Verdict.TheVariants.{Yes, No}
-use Rattle.command_line.specs.Exports.{AuditCommand}
+use Rattle.command_line.specs.Exports.{AuditArguments}
 use Rattle.command_line.specs.Commands as asked
 use Rattle.command_line.specs.declared.report.Report.{Report}
 use Rattle.command_line.specs.declared.report.Report.TheVariants as report
-use Rattle.command_inputs.specs.Exports.{Audit, CommandAuditInputs, Inputs, IsCommandAuditingOf, known_command_task}
-use Rattle.difane_cli.specs.Writes.{CommandUnplayed, OutputWrote}
+use Rattle.command_inputs.specs.Exports.{Audit, CommandAuditInputs, Inputs, IsAuditInputOf, known_command_input_task}
+use Rattle.difane_cli.specs.Writes.{CommandUnplayed, ProgramOutputWrote}
 use Rattle.command_inputs.specs.declared.status.Status.{Status}
 use Rattle.command_inputs.specs.declared.status.Status.TheVariants as status
 
@@ -24,28 +24,28 @@ command_audit_yes_line = codes "yes\n"
 -- they print as dropped or as out by a port got one decision before: the first match of its header
 -- under one version that was not retired when it entered
 pub record IsCommandAuditJudged (files : List PolicyFile) (lines : List TraceLine) (verdict : Verdict) : Type 0 where
-  pub good : verdict ≡ Yes → AreGoodTraceLines files lines
+  pub good : verdict ≡ Yes → AreGoodAuditLines files lines
   pub bad : (number : ℕ) → verdict ≡ No number → IsFirstBad files lines number
-  pub run : verdict ≡ Yes → AreTraceRun files lines
+  pub run : verdict ≡ Yes → AreAuditedTraceRun files lines
   pub justified : verdict ≡ Yes → AreTraceEndsJustified files lines
 
 -- there are a trace and files as the command names them, which are the known ones if these are
 -- known; this is their verdict; and the output has this relation to the line `yes`
-pub record CommandAuditEnded (command : AuditCommand) (files : Option Files) (verdict : Verdict)
+pub record CommandAuditEnded (command : AuditArguments) (files : Option Files) (verdict : Verdict)
     (IsWritten : List ℕ → Type 0) (journal : List Item) : Type 0 where
   pub auditing : CommandAuditInputs
-  pub accepted : ForSome (known_command_task files (Some (asked.Audit command)))
+  pub accepted : ForSome (known_command_input_task files (Some (asked.Audit command)))
       (λ read. read ≡ Ok (Audit auditing))
-  pub asked : IsCommandAuditingOf command auditing
+  pub asked : IsAuditInputOf command auditing
   pub judged : IsCommandAuditJudged auditing.files (lines_of auditing.trace) verdict
   pub nothing_played : journal ≡ []
   pub written : IsWritten command_audit_yes_line
 
 -- the output that each status of an audit ensures: `No` leaves it unchanged
-abbrev pub ProgramAuditOutcome : AuditCommand → Option Files → Status → List Item
+abbrev pub ProgramAuditOutcome : AuditArguments → Option Files → Status → List Item
     → (before now : SinkState) → Type 0
 ProgramAuditOutcome command files status.Ok journal before now =
-    CommandAuditEnded command files Yes (λ text. OutputWrote text before now) journal
+    CommandAuditEnded command files Yes (λ text. ProgramOutputWrote text before now) journal
 ProgramAuditOutcome command files (status.No line) journal before now =
     CommandAuditEnded command files (No line) (λ text. now ≡ before) journal
 ProgramAuditOutcome command files status.WriteFault journal before now =
@@ -65,4 +65,4 @@ CommandAuditTellsLines _ = ⊥
 -- if the lines of a journal are printed, the text is a trace each line of which is good with the
 -- files of the play: so `audit` says yes, up to the longest trace that it accepts
 abbrev pub IsCommandTraceGood : Inputs → List ℕ → Type 0
-IsCommandTraceGood inputs text = CommandAuditTellsLines inputs.report → AreGoodTraceLines inputs.setting.files (lines_of text)
+IsCommandTraceGood inputs text = CommandAuditTellsLines inputs.report → AreGoodAuditLines inputs.setting.files (lines_of text)

@@ -1,11 +1,13 @@
 -- Which status a command that began its work may end with, and which commands need memory or give
 -- the meters back.
-use Rattle.std.specs.Prelude.{[], ◌≡◌, ◌≢◌, ◌≤◌, ◌⊎◌, Bool, IsTrue, List, None, Option, Some, ⊤}
+use Rattle.std.specs.Prelude.{[], ◌≡◌, ◌≢◌, ◌≤◌, ◌⊎◌, Bool, IsTrue, List, None, Option, Result, Some, ℕ, ⊤}
 use Rattle.update_machine.specs.Exports.{Item}
-use Rattle.shelf.specs.Exports.{FaultsRose, SinkState}
+use Rattle.shelf.specs.Exports.{FaultsRose, IsAfterWrite, SinkState}
+use Rattle.shelf.specs.declared.output.SinkError.{SinkError}
 use Rattle.command_line.specs.Exports.{Command}
 use Rattle.command_line.specs.Commands as asked
 use Rattle.command_line.specs.declared.report.Report.TheVariants as report
+use Rattle.command_inputs.specs.Exports.{command_status_after}
 use Rattle.command_inputs.specs.declared.status.Status.{Status}
 use Rattle.command_inputs.specs.declared.status.Status.TheVariants as status
 use Rattle.difane_cli.specs.Run.{CommandPlayWantsMemory}
@@ -30,17 +32,17 @@ pub record CommandStatusEndsWork (ended : Status) (before now : SinkState) : Typ
 -- ---- which commands need memory, and which give the meters back
 
 -- the command may need memory after its play; only to write the lines of a journal it needs none
-abbrev pub MayWantMemory : Option Command → Type 0
-MayWantMemory (Some (asked.Replay args)) = CommandPlayWantsMemory args.report None
-MayWantMemory (Some (asked.Load n)) = ⊤
-MayWantMemory _ = ⊥
+abbrev pub ProgramMayWantMemory : Option Command → Type 0
+ProgramMayWantMemory (Some (asked.Replay args)) = CommandPlayWantsMemory args.report None
+ProgramMayWantMemory (Some (asked.Load n)) = ⊤
+ProgramMayWantMemory _ = ⊥
 
 -- memory ran out in the output's own writes, if they allocate. Or the output wasn't touched, and
 -- either the journal is empty, or the command is one that may need memory after its play
-abbrev pub CommandRanOut : Option Command → (takes_memory : Bool) → List Item → (before now : SinkState)
+abbrev pub ProgramMemoryRanOut : Option Command → (takes_memory : Bool) → List Item → (before now : SinkState)
     → Type 0
-CommandRanOut command takes_memory journal before now =
-    IsTrue takes_memory ⊎ ((now ≡ before) × ((journal ≡ []) ⊎ MayWantMemory command))
+ProgramMemoryRanOut command takes_memory journal before now =
+    IsTrue takes_memory ⊎ ((now ≡ before) × ((journal ≡ []) ⊎ ProgramMayWantMemory command))
 
 -- arguments that the grammar doesn't have, a command that plays nothing, and one that proposes a
 -- placement give the meters back unchanged
@@ -50,3 +52,11 @@ CommandGivesBackMeters (Some (asked.Print args)) = ⊤
 CommandGivesBackMeters (Some (asked.Audit args)) = ⊤
 CommandGivesBackMeters (Some (asked.Replay args)) = args.report ≡ report.Placement
 CommandGivesBackMeters _ = ⊥
+
+-- the status of a command whose whole output is this text, and the output after it was written
+pub record IsAfterProgramOutput (text : List ℕ) (takes_memory : Bool) (before now : SinkState)
+    (ended : Status) : Type 0 where
+  pub written : Result (⊤) SinkError
+  pub status : ended ≡ command_status_after written None
+  pub after : IsAfterWrite text takes_memory before now written
+  pub untouched : text ≡ [] → now ≡ before

@@ -4,22 +4,22 @@ use Rattle.std.specs.Prelude.{[], ◌++◌, All, List, None, Option, Some, flat_
 use Rattle.flow_export.specs.Counted.{IsFlowCounted, IsNewFlowMeter}
 use Rattle.flow_export.specs.Lines.{flow_lines}
 use Rattle.update_machine.specs.Exports.{Item, Net}
-use Rattle.meters.specs.Exports.{Seen, meter_flow_records_of, gone_records}
+use Rattle.meters.specs.Exports.{Seen, meter_flow_records_of, gone_meter_records}
 use Rattle.meters.specs.declared.flows.FlowRecord.{FlowRecord}
 use Rattle.net_file.specs.Exports.{port_mask}
 use Rattle.replay.specs.Leavings.{left_in}
 
 -- the records of the meters that left when the packets of this journal left the network
 abbrev pub command_gone_records_by : Net → List Item → List Seen → List FlowRecord
-command_gone_records_by net journal meters = gone_records (port_mask net.switches) (left_in journal) meters
+command_gone_records_by net journal meters = gone_meter_records (port_mask net.switches) (left_in journal) meters
 
 -- the lines of those records, and of the records of the meters that stayed
-abbrev pub command_flow_text : List FlowRecord → List Seen → List ℕ
-command_flow_text gone meters = flow_lines gone ++ flow_lines (flat_map meter_flow_records_of meters)
+abbrev pub program_flow_text : List FlowRecord → List Seen → List ℕ
+program_flow_text gone meters = flow_lines gone ++ flow_lines (flat_map meter_flow_records_of meters)
 
 -- a play that stopped full has no flow lines
 abbrev pub command_flow_text_unless_full : Option ℕ → List FlowRecord → List Seen → List ℕ
-command_flow_text_unless_full None gone meters = command_flow_text gone meters
+command_flow_text_unless_full None gone meters = program_flow_text gone meters
 command_flow_text_unless_full (Some row) gone meters = []
 
 -- ---- counts

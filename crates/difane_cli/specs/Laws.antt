@@ -1,17 +1,17 @@
 -- The laws of plays, and of the network after any steps, that the top call uses.
 use Rattle.std.specs.Prelude.{List, Option, ℕ}
-use Rattle.packet_laws.specs.Exports.{AreEntered, HoldsBetween, rows_played}
+use Rattle.packet_laws.specs.Exports.{AreEntered, PacketLawHoldsBetween, packet_law_rows_played}
 use Rattle.flow_export.specs.Counted.{FlowMeterLaws}
-use Rattle.update_machine.specs.Exports.{Event, IsMachinePlay, IsMachineQuiet, IsSetting, Item, Setting}
-use Rattle.forwarding_laws.specs.Exports.{HasForwardingComeToRest, PlaysKeepForwarding}
+use Rattle.update_machine.specs.Exports.{Event, IsMachinePlay, IsQuietMachineJournal, IsSetting, Item, Setting}
+use Rattle.forwarding_laws.specs.Exports.{HasNetworkComeToRest, PlaysKeepForwarding}
 use Rattle.trace_texts.specs.Texts.{TextsAreGood}
 
 -- what follows from a play, and what is true after steps of the network
 pub record ProgramAnswerLaws : Type 0 where
   pub entered : (setting : Setting) (events : List Event) (journal : List Item) (full : Option ℕ)
-      → IsMachinePlay setting events journal full → AreEntered (rows_played full events) journal
-  pub quiet : HoldsBetween (λ setting journal.
-      IsSetting setting → IsMachineQuiet setting journal → HasForwardingComeToRest setting journal)
+      → IsMachinePlay setting events journal full → AreEntered (packet_law_rows_played full events) journal
+  pub quiet : PacketLawHoldsBetween (λ setting journal.
+      IsSetting setting → IsQuietMachineJournal setting journal → HasNetworkComeToRest setting journal)
   pub works : PlaysKeepForwarding
   pub texts : TextsAreGood
   pub flows : FlowMeterLaws

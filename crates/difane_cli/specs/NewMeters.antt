@@ -5,9 +5,9 @@ use Rattle.flow_export.specs.Flows.{flows, headers_of}
 use Rattle.meters.specs.Exports.{Seen}
 
 -- the first argument is the word `flows`
-abbrev pub command_asks_flows : List (List ℕ) → Bool
-command_asks_flows [] = false
-command_asks_flows (word ∷ more) = bytes_eq word (codes "flows")
+abbrev pub program_call_asks_flows : List (List ℕ) → Bool
+program_call_asks_flows [] = false
+program_call_asks_flows (word ∷ more) = bytes_eq word (codes "flows")
 
 -- with this many different headers a flow meter of the program is complete
 abbrev pub program_most_headers : ℕ

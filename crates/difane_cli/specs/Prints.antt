@@ -8,10 +8,10 @@ use Rattle.switch_table.specs.Exports.{tables_of}
 use Rattle.shelf.specs.Exports.{Files, SinkGainedPart, FaultsRose, SinkState, sink_with_gained}
 use Rattle.shelf.specs.declared.output.SinkError.{SinkError}
 use Rattle.shelf.specs.declared.output.SinkError.TheVariants.{Failed, NoMemory}
-use Rattle.command_inputs.specs.Exports.{IsCommandPrintingOf, known_command_task, Print, Printing}
+use Rattle.command_inputs.specs.Exports.{IsPrintInputOf, known_command_input_task, Print, Printing}
 use Rattle.command_inputs.specs.declared.status.Status.{Status}
-use Rattle.difane_cli.specs.Writes.{OutputWrote, CommandUnplayed, CommandOutputWrotePart}
-use Rattle.command_line.specs.Exports.{PrintCommand}
+use Rattle.difane_cli.specs.Writes.{ProgramOutputWrote, CommandUnplayed, CommandOutputWrotePart}
+use Rattle.command_line.specs.Exports.{PrintArguments}
 use Rattle.command_line.specs.Commands as asked
 use Rattle.command_inputs.specs.declared.status.Status.TheVariants as status
 
@@ -25,20 +25,20 @@ command_printing_text printing = command_printed_text_by printing.switch printin
 
 -- there is a plan as the command names it, which is the known one if the task is known; the output
 -- has this relation to its text
-pub record CommandPrinted (command : PrintCommand) (files : Option Files)
+pub record CommandPrinted (command : PrintArguments) (files : Option Files)
     (IsWritten : List ℕ → Type 0) (journal : List Item) : Type 0 where
   pub printing : Printing
-  pub accepted : ForSome (known_command_task files (Some (asked.Print command)))
+  pub accepted : ForSome (known_command_input_task files (Some (asked.Print command)))
       (λ read. read ≡ Ok (Print printing))
-  pub planned : IsCommandPrintingOf command printing
+  pub planned : IsPrintInputOf command printing
   pub nothing_played : journal ≡ []
   pub written : IsWritten (command_printing_text printing)
 
 -- the output that each status of a printing command ensures; the journal is empty, so never full
-abbrev pub PrintOutcome : PrintCommand → Option Files → Status → List Item
+abbrev pub PrintOutcome : PrintArguments → Option Files → Status → List Item
     → (before now : SinkState) → Type 0
 PrintOutcome command files status.Ok journal before now =
-    CommandPrinted command files (λ text. OutputWrote text before now) journal
+    CommandPrinted command files (λ text. ProgramOutputWrote text before now) journal
 PrintOutcome command files status.WriteFault journal before now =
     CommandPrinted command files (λ text. SinkGainedPart before.bytes text now.bytes) journal
 PrintOutcome command files status.NoMemory journal before now =

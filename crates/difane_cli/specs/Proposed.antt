@@ -2,12 +2,12 @@
 use Rattle.std.specs.Prelude.{◌≡◌, ◌≢◌, ◌≤◌, ◌⊎◌, Bool, Err, IsErrOf, IsOk, IsTrue, List, None, OnOk, Option, Result, Some, ℕ, ⊤}
 use Rattle.update_machine.specs.Exports.{Item, Net, Row, Setting, journal_current_mark, journal_plan_at, policy_at}
 use Rattle.partition.specs.Plan.{Hosted}
-use Rattle.rebalance.specs.Proposals.{ProposesFor}
+use Rattle.rebalance.specs.Proposals.{RebalanceProposesFor}
 use Rattle.shelf.specs.Exports.{SinkGainedPart, FaultsRose, SinkState}
 use Rattle.shelf.specs.declared.output.SinkError.{SinkError}
 use Rattle.shelf.specs.declared.output.SinkError.TheVariants.{Failed, NoMemory}
 use Rattle.command_inputs.specs.Exports.{Inputs}
-use Rattle.difane_cli.specs.Writes.{CommandUnplayed, OutputWrote}
+use Rattle.difane_cli.specs.Writes.{CommandUnplayed, ProgramOutputWrote}
 use Rattle.command_inputs.specs.declared.status.Status.{Status}
 use Rattle.command_inputs.specs.declared.status.Status.TheVariants as status
 
@@ -16,7 +16,7 @@ use Rattle.command_inputs.specs.declared.status.Status.TheVariants as status
 -- there is a proposal for the plan that is in force after the journal, and this is true of its text
 abbrev pub CommandProposes : Setting → List Item → (List ℕ → Type 0) → Type 0
 CommandProposes setting journal IsWritten =
-    ProposesFor (policy_at setting journal (journal_current_mark journal))
+    RebalanceProposesFor (policy_at setting journal (journal_current_mark journal))
     (journal_plan_at setting journal (journal_current_mark journal)) setting.net journal IsWritten
 
 -- the output after writing a proposal: it gained all of its text, or a part of it; or memory ran
@@ -24,12 +24,12 @@ CommandProposes setting journal IsWritten =
 pub record IsAfterCommandProposal (rows : List Row) (plan : List Hosted) (net : Net)
     (journal : List Item) (takes_memory : Bool) (before now : SinkState)
     (result : Result (⊤) SinkError) : Type 0 where
-  pub whole : OnOk result (ProposesFor rows plan net journal (λ text. OutputWrote text before now))
+  pub whole : OnOk result (RebalanceProposesFor rows plan net journal (λ text. ProgramOutputWrote text before now))
   pub part : IsErrOf result Failed
-      → ProposesFor rows plan net journal (λ text. SinkGainedPart before.bytes text now.bytes)
+      → RebalanceProposesFor rows plan net journal (λ text. SinkGainedPart before.bytes text now.bytes)
   pub some : IsErrOf result NoMemory → (now ≡ before)
       ⊎ (IsTrue takes_memory
-      × ProposesFor rows plan net journal (λ text. SinkGainedPart before.bytes text now.bytes))
+      × RebalanceProposesFor rows plan net journal (λ text. SinkGainedPart before.bytes text now.bytes))
   pub calm : result ≢ Err Failed → now.faults ≡ before.faults
   pub failed : IsErrOf result Failed → FaultsRose before.faults now.faults
   pub faults : before.faults ≤ now.faults
@@ -58,12 +58,12 @@ pub record CommandPlayedUnwritten (IsCommandAnswer : Inputs → List Item → Op
   pub played : IsCommandAnswer inputs journal full
   pub untouched : now ≡ before
 
--- the journal and the output that each status ensures, where `IsCommandAnswer` says which journals answer
--- which inputs of the command, to their end or to a row at which they are full
+-- the journal and the output that each status ensures, where `IsCommandAnswer` says which journals
+-- answer which inputs of the command, to their end or to a row at which they are full
 abbrev pub CommandProposalOutcome : (IsCommandAnswer : Inputs → List Item → Option ℕ → Type 0)
     → (takes_memory : Bool) → Status → List Item → (before now : SinkState) → Type 0
 CommandProposalOutcome IsCommandAnswer takes_memory status.Ok journal before now =
-    CommandRebalances IsCommandAnswer journal (λ text. OutputWrote text before now)
+    CommandRebalances IsCommandAnswer journal (λ text. ProgramOutputWrote text before now)
 CommandProposalOutcome IsCommandAnswer takes_memory (status.Full row) journal before now =
     CommandPlayedUnwritten IsCommandAnswer (Some row) journal before now
 CommandProposalOutcome IsCommandAnswer takes_memory status.WriteFault journal before now =

@@ -5,20 +5,20 @@ use Rattle.net_file.specs.Exports.{net_of}
 use Rattle.policy_file.specs.Exports.{policy_file_of}
 use Rattle.schedule.specs.Reading.{schedule_of}
 use Rattle.shelf.specs.Exports.{Files, SinkGainedPart, SinkState, file_named}
-use Rattle.update_machine.specs.Exports.{HasCause, JournalItemsHaveCauses, IsMachinePlay, IsRun, Item}
+use Rattle.update_machine.specs.Exports.{HasMachineCause, JournalItemsHaveCauses, IsMachinePlay, IsMachineRun, Item}
 use Rattle.meters.specs.Exports.{Seen}
-use Rattle.packet_laws.specs.Exports.{AreEntered, HeldOnTheWay, StrongCause, rows_played}
+use Rattle.packet_laws.specs.Exports.{AreEntered, PacketLawsHeldThroughout, StrongCause, packet_law_rows_played}
 use Rattle.forwarding_laws.specs.Exports.{KeepsForwarding}
-use Rattle.command_inputs.specs.Exports.{Inputs, IsPlayOfCommand, known_command_task, MayPlayCommandInputs, Play}
+use Rattle.command_inputs.specs.Exports.{Inputs, AreCommandPlayInputs, known_command_input_task, MayPlayCommandInputs, Play}
 use Rattle.difane_cli.specs.FlowLines.{CommandCountsFlows, command_gone_records_by}
-use Rattle.difane_cli.specs.Texts.{play_text}
-use Rattle.difane_cli.specs.Verdict.{IsCommandQuietVerdict, command_asks_quiet, is_command_verdict_asked}
-use Rattle.command_line.specs.Exports.{Command, ReplayCommand}
+use Rattle.difane_cli.specs.Texts.{program_play_text}
+use Rattle.difane_cli.specs.Verdict.{IsCommandQuietVerdict, program_asks_quiet, is_command_verdict_asked}
+use Rattle.command_line.specs.Exports.{Command, ReplayArguments}
 use Rattle.command_line.specs.Commands as asked
 use Rattle.command_line.specs.declared.report.Report.{Report}
 use Rattle.command_line.specs.declared.report.Report.TheVariants as report
 use Rattle.command_inputs.specs.declared.status.Status.{Status}
-use Rattle.difane_cli.specs.Writes.{OutputWrote, CommandOutputWrotePart, CommandUnplayed}
+use Rattle.difane_cli.specs.Writes.{ProgramOutputWrote, CommandOutputWrotePart, CommandUnplayed}
 use Rattle.difane_cli.specs.Audits.{ProgramAuditOutcome, IsCommandTraceGood}
 use Rattle.difane_cli.specs.Prints.{PrintOutcome}
 use Rattle.difane_cli.specs.Proposed.{CommandProposalOutcome}
@@ -28,22 +28,22 @@ use Rattle.command_inputs.specs.declared.status.Status.TheVariants as status
 -- ---- plays
 
 -- the bytes of the file of this name are read as this value
-abbrev pub CommandFileStates : {V E : Type 0} → Files → (List ℕ → Result V E) → List ℕ → V → Type 0
-CommandFileStates files read name value =
+abbrev pub ProgramFileStates : {V E : Type 0} → Files → (List ℕ → Result V E) → List ℕ → V → Type 0
+ProgramFileStates files read name value =
     (bytes : List ℕ) × (file_named files name ≡ Some bytes) × (read bytes ≡ Ok value)
 
 -- the inputs are what the files state that a replay names: the network, if it names one; the
 -- events, on this network and with this many files; and the policies and changes, in their order
-pub record AreInputsStated (files : Files) (command : ReplayCommand) (inputs : Inputs) : Type 0 where
-  pub net : ForSome command.net (λ name. CommandFileStates files net_of name inputs.setting.net)
-  pub events : CommandFileStates files (schedule_of inputs.setting.net (length command.policies))
+pub record AreProgramInputsStated (files : Files) (command : ReplayArguments) (inputs : Inputs) : Type 0 where
+  pub net : ForSome command.net (λ name. ProgramFileStates files net_of name inputs.setting.net)
+  pub events : ProgramFileStates files (schedule_of inputs.setting.net (length command.policies))
       command.schedule inputs.events
-  pub policies : AllZip (CommandFileStates files policy_file_of) command.policies inputs.setting.files
+  pub policies : AllZip (ProgramFileStates files policy_file_of) command.policies inputs.setting.files
 
 -- the inputs of a replay are what its files state, if these are known
-abbrev pub AreCommandInputsStated : Option Files → Command → Inputs → Type 0
-AreCommandInputsStated files (asked.Replay args) inputs = ForSome files (λ all. AreInputsStated all args inputs)
-AreCommandInputsStated files _ inputs = ⊤
+abbrev pub AreKnownProgramInputsStated : Option Files → Command → Inputs → Type 0
+AreKnownProgramInputsStated files (asked.Replay args) inputs = ForSome files (λ all. AreProgramInputsStated all args inputs)
+AreKnownProgramInputsStated files _ inputs = ⊤
 
 -- the journal is that of the play of these inputs, to its end or to a row at which it stopped full;
 -- the inputs are those of the files and of the task, if these are known. So the journal is a run of
@@ -51,16 +51,16 @@ AreCommandInputsStated files _ inputs = ⊤
 -- The invariants were true on the way; and the network recovers, and drops nothing in a rollout
 pub record IsCommandAnswer (command : Command) (files : Option Files) (inputs : Inputs)
     (journal : List Item) (full : Option ℕ) : Type 0 where
-  pub asked : IsPlayOfCommand command inputs
-  pub stated : AreCommandInputsStated files command inputs
-  pub accepted : ForSome (known_command_task files (Some command)) (λ read. read ≡ Ok (Play inputs))
+  pub asked : AreCommandPlayInputs command inputs
+  pub stated : AreKnownProgramInputsStated files command inputs
+  pub accepted : ForSome (known_command_input_task files (Some command)) (λ read. read ≡ Ok (Play inputs))
   pub sound : MayPlayCommandInputs inputs
   pub play : IsMachinePlay inputs.setting inputs.events journal full
-  pub run : IsRun inputs.setting journal
-  pub causes : JournalItemsHaveCauses (HasCause inputs.setting) [] journal
+  pub run : IsMachineRun inputs.setting journal
+  pub causes : JournalItemsHaveCauses (HasMachineCause inputs.setting) [] journal
   pub strong : JournalItemsHaveCauses (StrongCause inputs.setting) [] journal
-  pub entered : AreEntered (rows_played full inputs.events) journal
-  pub held : HeldOnTheWay inputs.setting journal
+  pub entered : AreEntered (packet_law_rows_played full inputs.events) journal
+  pub held : PacketLawsHeldThroughout inputs.setting journal
   pub works : KeepsForwarding inputs.setting inputs.events journal full
 
 -- there are inputs such that the journal is that of their play, to its end or to a row at which it
@@ -77,10 +77,10 @@ pub record Played (command : Command) (files : Option Files) (full : Option ℕ)
   pub kept : given ≡ kept_by inputs.setting.net journal taken
   pub counted : CommandCountsFlows journal taken given
   pub answer : Option Bool
-  pub verdict : IsCommandQuietVerdict (command_asks_quiet inputs.report) inputs.setting journal full answer
-  pub written : OutputWrote (play_text inputs.report inputs.setting.net journal full
+  pub verdict : IsCommandQuietVerdict (program_asks_quiet inputs.report) inputs.setting journal full answer
+  pub written : ProgramOutputWrote (program_play_text inputs.report inputs.setting.net journal full
       (command_gone_records_by inputs.setting.net journal taken) given answer) before now
-  pub good : IsCommandTraceGood inputs (play_text inputs.report inputs.setting.net journal full
+  pub good : IsCommandTraceGood inputs (program_play_text inputs.report inputs.setting.net journal full
       (command_gone_records_by inputs.setting.net journal taken) given answer)
 
 -- the same for a play to its end or stopped full, but a write failed after a part of the text
@@ -91,8 +91,8 @@ pub record CommandPlayedCutShort (command : Command) (files : Option Files) (jou
   pub played : IsCommandAnswer command files inputs journal full
   pub kept : given ≡ kept_by inputs.setting.net journal taken
   pub answer : Option Bool
-  pub verdict : IsCommandQuietVerdict (command_asks_quiet inputs.report) inputs.setting journal full answer
-  pub written : SinkGainedPart before.bytes (play_text inputs.report inputs.setting.net journal full
+  pub verdict : IsCommandQuietVerdict (program_asks_quiet inputs.report) inputs.setting journal full answer
+  pub written : SinkGainedPart before.bytes (program_play_text inputs.report inputs.setting.net journal full
       (command_gone_records_by inputs.setting.net journal taken) given answer) now.bytes
 
 -- the summary and the flows, which a play that stopped full doesn't have, are made in memory
@@ -105,7 +105,7 @@ is_command_output_made _ (Some row) = false
 -- a play that didn't stop full needs memory after it: to see whether the network is quiet, with
 -- `--quiet`, and for what is made in memory
 abbrev pub CommandPlayWantsMemory : Report → Option ℕ → Type 0
-CommandPlayWantsMemory asked full = IsTrue (is_command_verdict_asked (command_asks_quiet asked) full) ⊎ IsTrue (is_command_output_made asked full)
+CommandPlayWantsMemory asked full = IsTrue (is_command_verdict_asked (program_asks_quiet asked) full) ⊎ IsTrue (is_command_output_made asked full)
 
 -- the same for a play to its end or one that stopped full, but memory ran out after it, if it
 -- needs any or the output's writes allocate; a part of the text was written, or none of it
@@ -118,8 +118,8 @@ pub record CommandPlayedUnfinished (command : Command) (files : Option Files) (t
   pub kept : given ≡ kept_by inputs.setting.net journal taken
   pub answer : Option Bool
   pub verdict : (answer ≡ None)
-      ⊎ IsCommandQuietVerdict (command_asks_quiet inputs.report) inputs.setting journal full answer
-  pub written : CommandOutputWrotePart (play_text inputs.report inputs.setting.net journal full
+      ⊎ IsCommandQuietVerdict (program_asks_quiet inputs.report) inputs.setting journal full answer
+  pub written : CommandOutputWrotePart (program_play_text inputs.report inputs.setting.net journal full
       (command_gone_records_by inputs.setting.net journal taken) given answer) before now
 
 -- the journal, the meters and the output that each status of a play ensures; if nothing was played,
@@ -142,9 +142,9 @@ CommandPlayOutcome command files takes_memory _ journal taken given before now =
 -- ---- all commands
 
 -- the outcome of a play by what it prints: a proposal, or anything else
-abbrev pub PlayedByCommandReport : Report → (proposes plays : Type 0) → Type 0
-PlayedByCommandReport report.Placement proposes plays = proposes
-PlayedByCommandReport _ proposes plays = plays
+abbrev pub ProgramPlayedByReport : Report → (proposes plays : Type 0) → Type 0
+ProgramPlayedByReport report.Placement proposes plays = proposes
+ProgramPlayedByReport _ proposes plays = plays
 
 -- the journal, the meters that were taken and given back, and the output that each status of a
 -- command ensures
@@ -156,7 +156,7 @@ Outcome (Some (asked.Print args)) files takes_memory status journal taken given 
 Outcome (Some (asked.Audit args)) files takes_memory status journal taken given before now =
     ProgramAuditOutcome args files status journal before now
 Outcome (Some (asked.Replay args)) files takes_memory status journal taken given before now =
-    PlayedByCommandReport args.report
+    ProgramPlayedByReport args.report
     (CommandProposalOutcome (IsCommandAnswer (asked.Replay args) files) takes_memory status journal before now)
     (CommandPlayOutcome (asked.Replay args) files takes_memory status journal taken given before now)
 Outcome (Some command) files takes_memory status journal taken given before now =

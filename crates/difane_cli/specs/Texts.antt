@@ -1,4 +1,4 @@
--- First tier. What a command writes: the text of a play, and the line of a status.
+-- First tier. What a play writes: its text, with the lines of its meters and of its verdict.
 use Rattle.std.specs.Prelude.{[], ◌++◌, ◌∷◌, Bool, List, None, Option, Some, codes, decimal, false, flat_map, length, true, ℕ}
 use Rattle.base.specs.Exports.{concat}
 use Rattle.update_machine.specs.Exports.{Item, Leaving, Net}
@@ -37,15 +37,15 @@ command_last_lines meters answer = meter_lines meters ++ command_quiet_line answ
 
 -- the text of the journal, and after its last line those of the meters and the one of the verdict;
 -- a play that stopped full has only the journal's
-abbrev pub replay_text : Net → List Item → Option ℕ → List Seen → Option Bool → List ℕ
-replay_text net journal None meters answer = journal_text net journal ++ command_last_lines meters answer
-replay_text net journal (Some row) meters answer = journal_text net journal
+abbrev pub program_replay_text : Net → List Item → Option ℕ → List Seen → Option Bool → List ℕ
+program_replay_text net journal None meters answer = journal_text net journal ++ command_last_lines meters answer
+program_replay_text net journal (Some row) meters answer = journal_text net journal
 
 -- what a play prints
-abbrev pub play_text : Report → Net → List Item → Option ℕ → List FlowRecord → List Seen
+abbrev pub program_play_text : Report → Net → List Item → Option ℕ → List FlowRecord → List Seen
     → Option Bool → List ℕ
-play_text (report.Lines quiet) net journal full gone meters answer =
-    replay_text net journal full meters answer
-play_text report.Flows net journal full gone meters answer = command_flow_text_unless_full full gone meters
-play_text report.Placement net journal full gone meters answer = []
-play_text report.Summary net journal full gone meters answer = summary_counts_text journal full
+program_play_text (report.Lines quiet) net journal full gone meters answer =
+    program_replay_text net journal full meters answer
+program_play_text report.Flows net journal full gone meters answer = command_flow_text_unless_full full gone meters
+program_play_text report.Placement net journal full gone meters answer = []
+program_play_text report.Summary net journal full gone meters answer = summary_counts_text journal full

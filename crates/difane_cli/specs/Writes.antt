@@ -4,7 +4,7 @@ use Rattle.shelf.specs.Exports.{SinkGainedPart, SinkState, sink_with_gained}
 use Rattle.update_machine.specs.Exports.{Item}
 
 -- the output gained this text; if the text is empty, the output's state is the same
-pub record OutputWrote (text : List ℕ) (before now : SinkState) : Type 0 where
+pub record ProgramOutputWrote (text : List ℕ) (before now : SinkState) : Type 0 where
   pub whole : now.bytes ≡ sink_with_gained before.bytes text
   pub untouched : text ≡ [] → now ≡ before
 

@@ -2,11 +2,12 @@
 ghost use Rattle.std.specs.Prelude.{◌≡◌};
 ghost use Rattle.command_inputs.specs.Exports.{OutputWritesLine, command_status_line};
 ghost use Rattle.command_inputs.specs.declared.status.Status.TheVariants.{Ok as DoneStatus};
+ghost use Rattle.difane_cli.specs.Ending.{IsAfterProgramOutput};
 
 use command_inputs::{Status, write_status};
 use journal::Journal;
 use meters::Meter;
-use shelf::Sink;
+use shelf::{Sink, write_whole};
 
 /// How a command ended, the journal of its play, and the meters that stayed. The journal is empty
 /// if nothing was played, or if memory ran out before the play was done.
@@ -20,7 +21,7 @@ pub struct Ended<M> {
 /// The same with boxed meters, which may be of several kinds.
 pub type Finished = Ended<Box<dyn Meter>>;
 
-/// A command that ended so: its status's line is written.
+/// Ends a command with this status: writes its line.
 pub fn end<M: Meter, E: Sink>(
     status: Status,
     journal: Journal,
@@ -39,5 +40,16 @@ pub fn end<M: Meter, E: Sink>(
         status,
         journal,
         meters,
+    }
+}
+
+/// Writes this text, which is all that a command writes, and returns the command's status.
+pub fn write_output<K: Sink>(text: &[u8], out: &mut K) -> Status
+    ensures { IsAfterProgramOutput text.now K.takes_memory (K.state out.old) (K.state out.new)
+        result }
+{
+    match write_whole(out, text) {
+        Ok(()) => Status::Ok,
+        Err(error) => Status::from(error),
     }
 }

@@ -1,6 +1,6 @@
 //! The text of flow records.
 ghost use Rattle.std.specs.Prelude.{◌≡◌, IfOk, map};
-ghost use Rattle.difane_cli.specs.FlowLines.{command_flow_text};
+ghost use Rattle.difane_cli.specs.FlowLines.{program_flow_text};
 
 use flow_export::push_flows;
 use meters::{Flows, Meter};
@@ -10,12 +10,12 @@ use std::alloc::{AllocError, Global};
 ///
 /// # Errors
 /// Only out of memory.
-pub fn command_flow_text<M: Meter>(
+pub fn program_flow_text<M: Meter>(
     alloc: Global,
     gone: &Flows,
     meters: &[M],
 ) -> Result<Vec<u8>, AllocError>
-    ensures { IfOk result (λ text. text.items ≡ command_flow_text gone.now (map M.seen meters.now)) }
+    ensures { IfOk result (λ text. text.items ≡ program_flow_text gone.now (map M.seen meters.now)) }
 {
     let mut text = String::new(alloc);
     push_flows(&mut text, gone.items())?;

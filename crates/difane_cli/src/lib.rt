@@ -35,7 +35,7 @@ mod work;
 pub use command_inputs::{Refusal, RefusedFileName, Status, Stop, write_status};
 pub use ended::{Ended, Finished};
 pub use flow_export::FlowMeter;
-pub use laws::one_switch_laws;
+pub use laws::program_one_switch_laws;
 pub use metered::{CommandEnd, run_metered};
 pub use meters::{Meter, Recorder};
 pub use top_call::run;

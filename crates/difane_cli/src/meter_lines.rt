@@ -8,31 +8,31 @@ use meters::Meter;
 use shelf::{Sink, SinkError, write_pieces};
 
 /// Writes a line for each meter that has a note, in order. Allocates nothing itself.
-pub fn write_meters<M: Meter, K: Sink>(meters: &[M], out: &mut K) -> Result<(), SinkError>
+pub fn write_program_meters<M: Meter, K: Sink>(meters: &[M], out: &mut K) -> Result<(), SinkError>
     ensures after { IsAfterWrite (meter_lines (map M.seen meters.now)) K.takes_memory
         (K.state out.old) (K.state out.new) result }
     ensures no_lines { meter_lines (map M.seen meters.now) ≡ [] → out.new ≡ out.old }
 {
     for meter in meters {
-        write_meter(meter, out)?;
+        write_program_meter_line(meter, out)?;
     }
     Ok(())
 }
 
 /// Writes the line of a meter, if it has a note.
-fn write_meter<M: Meter, K: Sink>(meter: &M, out: &mut K) -> Result<(), SinkError>
+fn write_program_meter_line<M: Meter, K: Sink>(meter: &M, out: &mut K) -> Result<(), SinkError>
     ensures after { IsAfterWrite (command_meter_line (M.seen meter.now)) K.takes_memory
         (K.state out.old) (K.state out.new) result }
     ensures no_line { command_meter_line (M.seen meter.now) ≡ [] → out.new ≡ out.old }
 {
     let notes = meter.notes();
     match notes > 0 {
-        true => write_meter_notes(meter.port(), notes, out),
+        true => write_program_meter_notes(meter.port(), notes, out),
         false => Ok(()),
     }
 }
 
-fn write_meter_notes<K: Sink>(port: u32, notes: u64, out: &mut K) -> Result<(), SinkError>
+fn write_program_meter_notes<K: Sink>(port: u32, notes: u64, out: &mut K) -> Result<(), SinkError>
     ensures { IsAfterWrite (command_notes_line port notes) K.takes_memory
         (K.state out.old) (K.state out.new) result }
 {

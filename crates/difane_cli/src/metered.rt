@@ -3,14 +3,14 @@ ghost use Rattle.std.specs.Prelude.{◌≡◌, ◌≢◌, ◌⊎◌, ◌↔◌, 
 ghost use Rattle.std.specs.List.{AllZip, range_with_len};
 ghost use Rattle.std.specs.Option.{ForSome};
 ghost use Rattle.shelf.specs.Sink.{FaultsRose};
-ghost use Rattle.shelf.specs.Shelf.{IsAfterReads};
+ghost use Rattle.shelf.specs.Shelf.{IsShelfAfterReads};
 ghost use Rattle.command_line.specs.Grammar.{command_of};
 ghost use Rattle.command_line.specs.Commands.{argument_texts};
-ghost use Rattle.command_inputs.specs.Exports.{CommandStatusAccounts, IsTaskAccepted, CommandMayFollowFault, CommandStatusNamesOneOf, NeedsReadFault, CommandReadsNothing, OutputWritesLine, known_command_task, command_most_reads, names_in, command_status_line};
-ghost use Rattle.difane_cli.specs.Exports.{CommandRanOut};
+ghost use Rattle.command_inputs.specs.Exports.{CommandStatusAccounts, IsCommandInputTaskAccepted, CommandMayFollowFault, CommandStatusNamesOneOf, NeedsReadFault, CommandReadsNothing, OutputWritesLine, known_command_input_task, command_most_reads, names_in, command_status_line};
+ghost use Rattle.difane_cli.specs.Exports.{ProgramMemoryRanOut};
 ghost use Rattle.command_inputs.specs.declared.status.Status.TheVariants as status;
 ghost use Rattle.difane_cli.specs.Metered.{MeteredCommandOutcome, CommandTellsFlows};
-ghost use Rattle.difane_cli.specs.NewMeters.{command_asks_flows, new_command_meter};
+ghost use Rattle.difane_cli.specs.NewMeters.{program_call_asks_flows, new_command_meter};
 
 use crate::top_call::run;
 use command_inputs::Status;
@@ -31,8 +31,8 @@ pub struct CommandEnd {
 const MAX_HEADERS: u32 = 4096;
 
 /// Whether the first argument asks for records of flows.
-fn command_asks_flows(words: &Vec<String>) -> bool
-    ensures { result ≡ command_asks_flows (argument_texts words.now) }
+fn program_call_asks_flows(words: &Vec<String>) -> bool
+    ensures { result ≡ program_call_asks_flows (argument_texts words.now) }
 {
     match words.first() {
         Some(word) => word.as_str() == "flows",
@@ -41,7 +41,7 @@ fn command_asks_flows(words: &Vec<String>) -> bool
 }
 
 /// What `make` returns for each port from 0 to 63, in order.
-fn meter_at_each_port<M: Drop, F: Fn(u32) -> Result<M, AllocError>>(
+fn program_meters_by_port<M: Drop, F: Fn(u32) -> Result<M, AllocError>>(
     alloc: Global,
     make: F,
 ) -> Result<Vec<M>, AllocError>
@@ -70,7 +70,7 @@ pub fn run_metered<F: Shelf, K: Sink, E: Sink>(
 ) -> Result<CommandEnd, AllocError>
     // If `flows` succeeds, it wrote the records of the packets that left in the journal, and the
     // counts of each meter that stayed are right (if no meter left, all are: `flow_laws`).
-    ensures flows { IfOk result (λ ending. IsTrue (command_asks_flows (argument_texts words.now))
+    ensures flows { IfOk result (λ ending. IsTrue (program_call_asks_flows (argument_texts words.now))
         → ending.status ≡ status.Ok
         → CommandTellsFlows (argument_texts words.now) (F.state shelf.old).files ending.journal
         (K.state out.old) (K.state out.new)) }
@@ -82,7 +82,7 @@ pub fn run_metered<F: Shelf, K: Sink, E: Sink>(
     ensures words { IfOk result (λ ending. (ending.status ≡ status.Words)
         ↔ (command_of (argument_texts words.now) ≡ None)) }
     ensures accounts { IfOk result (λ ending. ForSome
-        (known_command_task (F.state shelf.old).files (command_of (argument_texts words.now)))
+        (known_command_input_task (F.state shelf.old).files (command_of (argument_texts words.now)))
         (λ read. CommandStatusAccounts read ending.status)) }
     ensures names { IfOk result (λ ending.
         CommandStatusNamesOneOf (names_in (command_of (argument_texts words.now))) ending.status) }
@@ -97,10 +97,10 @@ pub fn run_metered<F: Shelf, K: Sink, E: Sink>(
     ensures no_write_fault { IfOk result (λ ending. ending.status ≢ status.WriteFault
         → (K.state out.new).faults ≡ (K.state out.old).faults) }
     ensures no_memory { IfOk result (λ ending. ending.status ≡ status.NoMemory
-        → CommandRanOut (command_of (argument_texts words.now)) K.takes_memory ending.journal
+        → ProgramMemoryRanOut (command_of (argument_texts words.now)) K.takes_memory ending.journal
         (K.state out.old) (K.state out.new)) }
-    ensures complete { IfOk result (λ ending. IsTaskAccepted
-        (known_command_task (F.state shelf.old).files (command_of (argument_texts words.now)))
+    ensures complete { IfOk result (λ ending. IsCommandInputTaskAccepted
+        (known_command_input_task (F.state shelf.old).files (command_of (argument_texts words.now)))
         → FaultsRose (F.state shelf.old).faults (F.state shelf.new).faults
         ⊎ FaultsRose (K.state out.old).faults (K.state out.new).faults
         ⊎ (ending.status ≡ status.Ok) ⊎ ((row : ℕ) × (ending.status ≡ status.Full row))
@@ -109,7 +109,7 @@ pub fn run_metered<F: Shelf, K: Sink, E: Sink>(
     ensures line { IfOk result (λ ending. OutputWritesLine (command_status_line ending.status) E.takes_memory
         (E.state errs.old) (E.state errs.new)) }
     ensures silent { IfOk result (λ ending. ending.status ≡ status.Ok → errs.new ≡ errs.old) }
-    ensures shelf { IfOk result (λ ending. IsAfterReads
+    ensures shelf { IfOk result (λ ending. IsShelfAfterReads
         (command_most_reads (F.state shelf.old).files (command_of (argument_texts words.now)))
         (F.state shelf.old) (F.state shelf.new)) }
     ensures unread { IfOk result (λ ending. CommandReadsNothing (command_of (argument_texts words.now))
@@ -117,8 +117,8 @@ pub fn run_metered<F: Shelf, K: Sink, E: Sink>(
     ensures untouched { OnErr result
         ((shelf.new ≡ shelf.old) × (out.new ≡ out.old) × (errs.new ≡ errs.old)) }
 {
-    let counts_flows = command_asks_flows(words);
-    let meters: Vec<Box<dyn Meter>> = meter_at_each_port(
+    let counts_flows = program_call_asks_flows(words);
+    let meters: Vec<Box<dyn Meter>> = program_meters_by_port(
         alloc,
         |port: u32| -> Result<Box<dyn Meter>, AllocError>
             ensures { IfOk result (λ one. seen one ≡ new_command_meter counts_flows port) }

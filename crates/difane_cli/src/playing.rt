@@ -4,21 +4,21 @@ ghost use Rattle.std.specs.Option.{ForSome};
 ghost use Rattle.net_file.specs.Net.{IsNet};
 ghost use Rattle.shelf.specs.Shelf.{Files};
 ghost use Rattle.shelf.specs.SinkWrites.{IsAfterWrite};
-ghost use Rattle.difane_cli.specs.Exports.{ProgramAnswerLaws, CommandStatusEndsWork, IsAfterCommandText, CommandPlayOutcome, CommandRanOut, command_flow_text_unless_full, is_command_output_made, command_last_lines, play_text, replay_text};
-ghost use Rattle.command_inputs.specs.Exports.{AreCommandInputsReady, IsPlayOfCommand, Play, task_inputs_stated, known_command_task};
+ghost use Rattle.difane_cli.specs.Exports.{ProgramAnswerLaws, CommandStatusEndsWork, IsAfterCommandText, CommandPlayOutcome, ProgramMemoryRanOut, command_flow_text_unless_full, is_command_output_made, command_last_lines, program_play_text, program_replay_text};
+ghost use Rattle.command_inputs.specs.Exports.{AreCommandInputsReady, AreCommandPlayInputs, Play, task_inputs_stated, known_command_input_task};
 ghost use Rattle.command_line.specs.Commands.{Command};
 ghost use Rattle.command_line.specs.declared.report.Report.TheVariants.{Flows, Placement, Summary};
 ghost use Rattle.journal_reports.specs.Summary.{summary_counts_text};
 ghost use Rattle.command_inputs.specs.declared.status.Status.TheVariants as status;
 
 use crate::ended::Ended;
-use crate::flow_lines::command_flow_text;
-use crate::meter_lines::write_meters;
-use crate::verdict::{command_asks_quiet, judge, write_quiet_verdict};
+use crate::flow_lines::program_flow_text;
+use crate::meter_lines::write_program_meters;
+use crate::verdict::{judge_program_quiet, program_asks_quiet, write_program_quiet_verdict};
 use command_inputs::{PlayInputs, Status};
 use command_line::Report;
 use flow_export::flow_laws;
-use forwarding_laws::{plays_keep_working, quiet_networks_have_come_to_rest};
+use forwarding_laws::{plays_keep_working, quiet_forwarding_comes_to_rest};
 use journal::Journal;
 use journal_reports::{summarize, summary_text};
 use journal_text::write_text;
@@ -43,15 +43,15 @@ pub fn play<M: Meter, K: Sink>(
     requires ready { AreCommandInputsReady inputs }
     requires tells { inputs.report ≢ Placement }
     ensures outcome { (command : Command) (files : Option Files)
-        → IsPlayOfCommand command (task_inputs_stated inputs)
-        → ForSome (known_command_task files (Some command))
+        → AreCommandPlayInputs command (task_inputs_stated inputs)
+        → ForSome (known_command_input_task files (Some command))
         (λ read. read ≡ Ok (Play (task_inputs_stated inputs)))
         → CommandPlayOutcome command files K.takes_memory result.status result.journal
         (map M.seen meters.items) (map M.seen result.meters.items)
         (K.state out.old) (K.state out.new) }
-    ensures no_memory { (command : Command) → IsPlayOfCommand command (task_inputs_stated inputs)
+    ensures no_memory { (command : Command) → AreCommandPlayInputs command (task_inputs_stated inputs)
         → result.status ≡ status.NoMemory
-        → CommandRanOut (Some command) K.takes_memory result.journal
+        → ProgramMemoryRanOut (Some command) K.takes_memory result.journal
         (K.state out.old) (K.state out.new) }
     ensures ended { CommandStatusEndsWork result.status (K.state out.old) (K.state out.new) }
 {
@@ -61,7 +61,7 @@ pub fn play<M: Meter, K: Sink>(
         world,
         report,
     } = inputs;
-    answer_laws();
+    program_answer_laws();
     let Ok(played) = replay::play(world, &events, meters, net.port_mask()) else {
         return Ended {
             status: Status::NoMemory,
@@ -69,33 +69,36 @@ pub fn play<M: Meter, K: Sink>(
             meters: Vec::new(alloc),
         };
     };
-    let Ok(answer) = judge(alloc, command_asks_quiet(report), &played, &net) else {
+    let Ok(answer) = judge_program_quiet(alloc, program_asks_quiet(report), &played, &net) else {
         return Ended {
             status: Status::NoMemory,
             journal: played.journal,
             meters: played.meters,
         };
     };
-    let written = write_report(alloc, report, &played, answer, &net, out);
+    let status = match write_report(alloc, report, &played, answer, &net, out) {
+        Ok(()) => Status::after(played.full),
+        Err(error) => Status::from(error),
+    };
     Ended {
-        status: Status::after(written, played.full),
+        status,
         journal: played.journal,
         meters: played.meters,
     }
 }
 
 /// The laws of plays, and of the network after any steps, that the top call uses.
-pub fn answer_laws()
+pub fn program_answer_laws()
     ensures { ProgramAnswerLaws }
 {
     packet_rows_are_entered();
-    quiet_networks_have_come_to_rest();
+    quiet_forwarding_comes_to_rest();
     plays_keep_working();
     texts_are_good();
     flow_laws();
 }
 
-/// Writes what a play prints.
+/// Writes the lines, the flow records or the counts of a play.
 fn write_report<M: Meter, K: Sink>(
     alloc: Global,
     report: Report,
@@ -106,21 +109,21 @@ fn write_report<M: Meter, K: Sink>(
 ) -> Result<(), SinkError>
     requires net { IsNet net.now }
     requires tells { report ≢ Placement }
-    ensures { IsAfterCommandText (play_text report net.now played.now.journal played.now.full
+    ensures { IsAfterCommandText (program_play_text report net.now played.now.journal played.now.full
         played.now.gone (map M.seen played.now.meters.items) answer)
         (is_command_output_made report played.now.full) K.takes_memory
         (K.state out.old) (K.state out.new) result }
 {
     match report {
         Report::Lines { .. } => write_played(played, answer, net, out),
-        Report::Flows => write_flows(alloc, played, out),
-        Report::Summary => write_summary(alloc, played, out),
+        Report::Flows => write_program_flows(alloc, played, out),
+        Report::Summary => write_program_summary(alloc, played, out),
         Report::Placement => unreachable!(),
     }
 }
 
 /// Writes the flow records of a play, unless it stopped full.
-fn write_flows<M: Meter, K: Sink>(
+fn write_program_flows<M: Meter, K: Sink>(
     alloc: Global,
     played: &Played<M>,
     out: &mut K,
@@ -131,7 +134,7 @@ fn write_flows<M: Meter, K: Sink>(
 {
     match played.full {
         Some(_) => Ok(()),
-        None => match command_flow_text(alloc, &played.gone, &played.meters) {
+        None => match program_flow_text(alloc, &played.gone, &played.meters) {
             Ok(text) => write_whole(out, &text),
             Err(_) => Err(SinkError::NoMemory),
         },
@@ -139,7 +142,7 @@ fn write_flows<M: Meter, K: Sink>(
 }
 
 /// Writes the eleven counts of a play, unless it stopped full.
-fn write_summary<M: Meter, K: Sink>(
+fn write_program_summary<M: Meter, K: Sink>(
     alloc: Global,
     played: &Played<M>,
     out: &mut K,
@@ -166,21 +169,21 @@ fn write_played<M: Meter, K: Sink>(
     out: &mut K,
 ) -> Result<(), SinkError>
     requires { IsNet net.now }
-    ensures after { IsAfterWrite (replay_text net.now played.now.journal played.now.full
+    ensures after { IsAfterWrite (program_replay_text net.now played.now.journal played.now.full
         (map M.seen played.now.meters.items) answer) K.takes_memory
         (K.state out.old) (K.state out.new) result }
-    ensures no_lines { replay_text net.now played.now.journal played.now.full
+    ensures no_lines { program_replay_text net.now played.now.journal played.now.full
         (map M.seen played.now.meters.items) answer ≡ [] → out.new ≡ out.old }
 {
     write_text(&played.journal, net, out)?;
     match played.full {
-        None => write_last_lines(&played.meters, answer, out),
+        None => write_program_last_lines(&played.meters, answer, out),
         Some(_) => Ok(()),
     }
 }
 
 /// Writes the lines of the meters, and then the line of the verdict.
-fn write_last_lines<M: Meter, K: Sink>(
+fn write_program_last_lines<M: Meter, K: Sink>(
     meters: &[M],
     answer: Option<bool>,
     out: &mut K,
@@ -189,6 +192,6 @@ fn write_last_lines<M: Meter, K: Sink>(
         (K.state out.old) (K.state out.new) result }
     ensures no_lines { command_last_lines (map M.seen meters.now) answer ≡ [] → out.new ≡ out.old }
 {
-    write_meters(meters, out)?;
-    write_quiet_verdict(answer, out)
+    write_program_meters(meters, out)?;
+    write_program_quiet_verdict(answer, out)
 }

@@ -5,35 +5,35 @@ ghost use Rattle.net_file.specs.Net.{IsNet};
 ghost use Rattle.partition.specs.Plan.{IsPartitionPlan};
 ghost use Rattle.shelf.specs.Shelf.{Files};
 ghost use Rattle.command_line.specs.Commands as grammar;
-ghost use Rattle.command_line.specs.Commands.{ReplayCommand};
-ghost use Rattle.command_inputs.specs.Exports.{AreCommandInputsReady, IsPlayOfCommand, Play, task_inputs_stated, known_command_task};
+ghost use Rattle.command_line.specs.Commands.{ReplayArguments};
+ghost use Rattle.command_inputs.specs.Exports.{AreCommandInputsReady, AreCommandPlayInputs, Play, task_inputs_stated, known_command_input_task};
 ghost use Rattle.difane_cli.specs.Exports.{CommandStatusEndsWork, IsAfterCommandProposing, IsCommandAnswer, CommandProposalOutcome};
 ghost use Rattle.command_inputs.specs.declared.status.Status.TheVariants as status;
 
 use crate::ended::Ended;
-use crate::playing::answer_laws;
+use crate::playing::program_answer_laws;
 use command_inputs::{PlayInputs, Status};
 use controller::Plan;
 use journal::Journal;
 use meters::Meter;
 use net_file::Net;
-use rebalance::proposal_text;
+use rebalance::rebalance_proposal_text;
 use shelf::{Sink, SinkError, write_whole};
 use std::alloc::Global;
 
 /// Plays the inputs, to their end or until the journal is full, and writes the placement that is
 /// proposed, unless it stopped full. No meter records anything, and all are given back. The
 /// outcome is stated for whatever is known of the files.
-pub fn propose<M: Meter, K: Sink>(
+pub fn run_program_proposal<M: Meter, K: Sink>(
     alloc: Global,
     inputs: PlayInputs,
     meters: Vec<M>,
     out: &mut K,
 ) -> Ended<M>
     requires { AreCommandInputsReady inputs }
-    ensures outcome { (command : ReplayCommand) (files : Option Files)
-        → IsPlayOfCommand (grammar.Replay command) (task_inputs_stated inputs)
-        → ForSome (known_command_task files (Some (grammar.Replay command)))
+    ensures outcome { (command : ReplayArguments) (files : Option Files)
+        → AreCommandPlayInputs (grammar.Replay command) (task_inputs_stated inputs)
+        → ForSome (known_command_input_task files (Some (grammar.Replay command)))
         (λ read. read ≡ Ok (Play (task_inputs_stated inputs)))
         → CommandProposalOutcome (IsCommandAnswer (grammar.Replay command) files) K.takes_memory result.status
         result.journal (K.state out.old) (K.state out.new) }
@@ -42,7 +42,7 @@ pub fn propose<M: Meter, K: Sink>(
         → IsTrue K.takes_memory ⊎ (K.state out.new ≡ K.state out.old) }
     ensures ended { CommandStatusEndsWork result.status (K.state out.old) (K.state out.new) }
 {
-    answer_laws();
+    program_answer_laws();
     let none: Vec<M> = Vec::new(alloc);
     match replay::play(inputs.world, &inputs.events, none, inputs.net.port_mask()) {
         Err(_) => Ended {
@@ -51,16 +51,19 @@ pub fn propose<M: Meter, K: Sink>(
             meters,
         },
         Ok(played) => {
-            let written = write_proposal(
+            let status = match write_program_proposal(
                 alloc,
                 played.full,
                 &played.journal,
                 &played.plan,
                 &inputs.net,
                 out,
-            );
+            ) {
+                Ok(()) => Status::after(played.full),
+                Err(error) => Status::from(error),
+            };
             Ended {
-                status: Status::after(written, played.full),
+                status,
                 journal: played.journal,
                 meters,
             }
@@ -70,7 +73,7 @@ pub fn propose<M: Meter, K: Sink>(
 
 /// Writes the proposal for the plan that a play left, by the weights of its partitions in the
 /// journal, unless the play stopped full.
-fn write_proposal<K: Sink>(
+fn write_program_proposal<K: Sink>(
     alloc: Global,
     full: Option<u32>,
     journal: &Journal,
@@ -85,7 +88,7 @@ fn write_proposal<K: Sink>(
 {
     match full {
         Some(_) => Ok(()),
-        None => match proposal_text(alloc, journal, plan, net) {
+        None => match rebalance_proposal_text(alloc, journal, plan, net) {
             Ok(text) => write_whole(out, &text),
             Err(_) => Err(SinkError::NoMemory),
         },

@@ -2,16 +2,16 @@
 ghost use Rattle.std.specs.Prelude.{◌≡◌, ◌≢◌, ◌≤◌, ◌⊎◌, ◌↔◌, ℕ, None, map};
 ghost use Rattle.std.specs.Option.{ForSome};
 ghost use Rattle.shelf.specs.Sink.{FaultsRose};
-ghost use Rattle.shelf.specs.Shelf.{IsAfterReads};
-ghost use Rattle.command_inputs.specs.Exports.{CommandReadsNothing, IsTaskAccepted, CommandMayFollowFault, CommandStatusNamesOneOf, NeedsReadFault, OutputWritesLine, CommandStatusAccounts, known_command_task, command_most_reads, names_in, command_status_line};
+ghost use Rattle.shelf.specs.Shelf.{IsShelfAfterReads};
+ghost use Rattle.command_inputs.specs.Exports.{CommandReadsNothing, IsCommandInputTaskAccepted, CommandMayFollowFault, CommandStatusNamesOneOf, NeedsReadFault, OutputWritesLine, CommandStatusAccounts, known_command_input_task, command_most_reads, names_in, command_status_line};
 ghost use Rattle.command_inputs.specs.declared.status.Status.TheVariants as status;
-ghost use Rattle.difane_cli.specs.Exports.{CommandGivesBackMeters, CommandRanOut, Outcome};
+ghost use Rattle.difane_cli.specs.Exports.{CommandGivesBackMeters, ProgramMemoryRanOut, Outcome};
 ghost use Rattle.command_line.specs.Grammar.{command_of};
 ghost use Rattle.command_line.specs.Commands.{argument_texts};
 
 use crate::ended::{Finished, end};
-use crate::work::{unplayed_meters, work};
-use command_inputs::{Status, read_task};
+use crate::work::{program_unplayed_meters, work};
+use command_inputs::{Status, read_command_task};
 use command_line::read_command;
 use journal::Journal;
 use meters::Meter;
@@ -62,7 +62,7 @@ pub fn run<F: Shelf, K: Sink, E: Sink>(
     ensures words { (result.status ≡ status.Words)
         ↔ (command_of (argument_texts words.now) ≡ None) }
     ensures accounts { ForSome
-        (known_command_task (F.state shelf.old).files (command_of (argument_texts words.now)))
+        (known_command_input_task (F.state shelf.old).files (command_of (argument_texts words.now)))
         (λ read. CommandStatusAccounts read result.status) }
     ensures read_fault { NeedsReadFault (F.state shelf.old).files result.status
         → FaultsRose (F.state shelf.old).faults (F.state shelf.new).faults }
@@ -82,13 +82,13 @@ pub fn run<F: Shelf, K: Sink, E: Sink>(
     // If memory runs out, nothing was written, unless the output's own writes allocate. And the
     // journal is empty, unless the command prints more than the lines of a play.
     ensures no_memory { result.status ≡ status.NoMemory
-        → CommandRanOut (command_of (argument_texts words.now)) K.takes_memory result.journal
+        → ProgramMemoryRanOut (command_of (argument_texts words.now)) K.takes_memory result.journal
         (K.state out.old) (K.state out.new) }
 
     // If the inputs are accepted and nothing fails, the work is done, to its end or as far as
     // there was room, or memory ran out.
-    ensures complete { IsTaskAccepted
-        (known_command_task (F.state shelf.old).files (command_of (argument_texts words.now)))
+    ensures complete { IsCommandInputTaskAccepted
+        (known_command_input_task (F.state shelf.old).files (command_of (argument_texts words.now)))
         → FaultsRose (F.state shelf.old).faults (F.state shelf.new).faults
         ⊎ FaultsRose (K.state out.old).faults (K.state out.new).faults
         ⊎ (result.status ≡ status.Ok) ⊎ ((row : ℕ) × (result.status ≡ status.Full row))
@@ -102,7 +102,7 @@ pub fn run<F: Shelf, K: Sink, E: Sink>(
     ensures silent { result.status ≡ status.Ok → errs.new ≡ errs.old }
 
     // Files are read in order, none after the first that is refused, and stay unchanged.
-    ensures shelf { IsAfterReads
+    ensures shelf { IsShelfAfterReads
         (command_most_reads (F.state shelf.old).files (command_of (argument_texts words.now)))
         (F.state shelf.old) (F.state shelf.new) }
     // If no file is read, as for a load case, the shelf is unchanged, whatever the status.
@@ -113,9 +113,9 @@ pub fn run<F: Shelf, K: Sink, E: Sink>(
     match read_command(alloc, words) {
         Err(AllocError) => end(Status::NoMemory, Journal::new(alloc), meters, errs),
         Ok(None) => end(Status::Words, Journal::new(alloc), meters, errs),
-        Ok(Some(command)) => match read_task(alloc, shelf, &command) {
+        Ok(Some(command)) => match read_command_task(alloc, shelf, &command) {
             Err(stop) => {
-                let meters = unplayed_meters(alloc, &command, meters);
+                let meters = program_unplayed_meters(alloc, &command, meters);
                 end(Status::from(stop), Journal::new(alloc), meters, errs)
             }
             Ok(task) => {

@@ -3,7 +3,7 @@ ghost use Rattle.std.specs.Prelude.{◌≡◌, [], IfOk, IfErr, IsTrue, is_some}
 ghost use Rattle.net_file.specs.Net.{IsNet};
 ghost use Rattle.shelf.specs.SinkWrites.{IsAfterWrite};
 ghost use Rattle.update_machine.specs.Setting.{Setting};
-ghost use Rattle.difane_cli.specs.Exports.{IsCommandVerdict, command_asks_quiet, is_command_verdict_asked, command_quiet_line};
+ghost use Rattle.difane_cli.specs.Exports.{IsProgramVerdictOnQuiet, program_asks_quiet, is_command_verdict_asked, command_quiet_line};
 
 use command_line::Report;
 use meters::Meter;
@@ -13,8 +13,8 @@ use shelf::{Sink, SinkError, write_whole};
 use std::alloc::{AllocError, Global};
 
 /// Whether a report says whether the network is quiet.
-pub fn command_asks_quiet(report: Report) -> bool
-    ensures { result ≡ command_asks_quiet report }
+pub fn program_asks_quiet(report: Report) -> bool
+    ensures { result ≡ program_asks_quiet report }
 {
     match report {
         Report::Lines { quiet } => quiet,
@@ -26,7 +26,7 @@ pub fn command_asks_quiet(report: Report) -> bool
 ///
 /// # Errors
 /// Only out of memory, and only if the result wouldn't be `None`.
-pub fn judge<M: Meter>(
+pub fn judge_program_quiet<M: Meter>(
     alloc: Global,
     asked: bool,
     played: &Played<M>,
@@ -36,7 +36,7 @@ pub fn judge<M: Meter>(
     ensures asked { IfOk result (λ answer. is_some answer ≡ is_command_verdict_asked asked played.now.full) }
     ensures wants { IfErr result (λ _. IsTrue (is_command_verdict_asked asked played.now.full)) }
     ensures decides { IfOk result (λ answer. (setting : Setting) → setting.net ≡ net.now
-        → IsCommandVerdict setting played.now.journal answer) }
+        → IsProgramVerdictOnQuiet setting played.now.journal answer) }
 {
     if !asked || played.full.is_some() {
         return Ok(None);
@@ -46,7 +46,10 @@ pub fn judge<M: Meter>(
 }
 
 /// Writes the line of a verdict, if there is one. Allocates nothing itself.
-pub fn write_quiet_verdict<K: Sink>(answer: Option<bool>, out: &mut K) -> Result<(), SinkError>
+pub fn write_program_quiet_verdict<K: Sink>(
+    answer: Option<bool>,
+    out: &mut K,
+) -> Result<(), SinkError>
     ensures after { IsAfterWrite (command_quiet_line answer) K.takes_memory
         (K.state out.old) (K.state out.new) result }
     ensures no_line { command_quiet_line answer ≡ [] → out.new ≡ out.old }

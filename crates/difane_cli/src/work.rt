@@ -2,19 +2,19 @@
 ghost use Rattle.std.specs.Prelude.{◌≡◌, Ok, Option, Some, Result, [], map};
 ghost use Rattle.std.specs.Option.{ForSome};
 ghost use Rattle.shelf.specs.Shelf.{Files};
-ghost use Rattle.command_inputs.specs.Exports.{IsReadyTask, IsTaskOfCommand, CommandStatusAccounts, Task as Stated, known_command_task, task_stated};
+ghost use Rattle.command_inputs.specs.Exports.{IsTaskInputReady, IsCommandInputTask, CommandStatusAccounts, Task as Stated, known_command_input_task, command_input_task_stated};
 ghost use Rattle.command_inputs.specs.declared.status.Refusal.{Refusal};
 ghost use Rattle.command_inputs.specs.declared.status.Status.TheVariants as status;
-ghost use Rattle.difane_cli.specs.Exports.{CommandGivesBackMeters, CommandRanOut, Outcome, CommandStatusEndsWork};
+ghost use Rattle.difane_cli.specs.Exports.{CommandGivesBackMeters, ProgramMemoryRanOut, Outcome, CommandStatusEndsWork};
 ghost use Rattle.command_line.specs.Named.{command_named};
 ghost use Rattle.command_line.specs.Commands as grammar;
 
-use crate::auditing::check_trace;
+use crate::auditing::program_check_trace;
 use crate::ended::Ended;
 use crate::playing::play;
 use crate::printing::print;
-use crate::proposing::propose;
-use command_inputs::{Status, Task};
+use crate::proposing::run_program_proposal;
+use command_inputs::Task;
 use command_line::{Command, Report};
 use journal::Journal;
 use meters::Meter;
@@ -23,35 +23,35 @@ use std::alloc::Global;
 
 /// Does the task and writes its result. The outcome is stated for whatever is known of the files.
 pub fn work<M: Meter, K: Sink>(alloc: Global, task: Task, meters: Vec<M>, out: &mut K) -> Ended<M>
-    requires { IsReadyTask task }
+    requires { IsTaskInputReady task }
     ensures outcome { (command : grammar.Command) (files : Option Files)
-        → IsTaskOfCommand command (task_stated task)
-        → ForSome (known_command_task files (Some command)) (λ read. read ≡ Ok (task_stated task))
+        → IsCommandInputTask command (command_input_task_stated task)
+        → ForSome (known_command_input_task files (Some command)) (λ read. read ≡ Ok (command_input_task_stated task))
         → Outcome (Some command) files K.takes_memory result.status result.journal
         (map M.seen meters.items) (map M.seen result.meters.items)
         (K.state out.old) (K.state out.new) }
-    ensures meters { (command : grammar.Command) → IsTaskOfCommand command (task_stated task)
+    ensures meters { (command : grammar.Command) → IsCommandInputTask command (command_input_task_stated task)
         → CommandGivesBackMeters (Some command) → result.meters ≡ meters }
-    ensures accounts { (read : Result Stated Refusal) → read ≡ Ok (task_stated task)
+    ensures accounts { (read : Result Stated Refusal) → read ≡ Ok (command_input_task_stated task)
         → CommandStatusAccounts read result.status }
-    ensures no_memory { (command : grammar.Command) → IsTaskOfCommand command (task_stated task)
+    ensures no_memory { (command : grammar.Command) → IsCommandInputTask command (command_input_task_stated task)
         → result.status ≡ status.NoMemory
-        → CommandRanOut (Some command) K.takes_memory result.journal
+        → ProgramMemoryRanOut (Some command) K.takes_memory result.journal
         (K.state out.old) (K.state out.new) }
     ensures ended { CommandStatusEndsWork result.status (K.state out.old) (K.state out.new) }
 {
     match task {
         Task::Play(inputs) => match inputs.report {
-            Report::Placement => propose(alloc, inputs, meters, out),
+            Report::Placement => run_program_proposal(alloc, inputs, meters, out),
             _ => play(alloc, inputs, meters, out),
         },
         Task::Print(inputs) => Ended {
-            status: Status::after(print(alloc, &inputs, out), None),
+            status: print(alloc, &inputs, out),
             journal: Journal::new(alloc),
             meters,
         },
         Task::Audit(inputs) => Ended {
-            status: check_trace(alloc, &inputs, out),
+            status: program_check_trace(alloc, &inputs, out),
             journal: Journal::new(alloc),
             meters,
         },
@@ -60,7 +60,11 @@ pub fn work<M: Meter, K: Sink>(alloc: Global, task: Task, meters: Vec<M>, out: &
 
 /// The meters that remain if nothing was played: all of them if the command gives them back,
 /// otherwise none.
-pub fn unplayed_meters<M: Meter>(alloc: Global, command: &Command<'_>, meters: Vec<M>) -> Vec<M>
+pub fn program_unplayed_meters<M: Meter>(
+    alloc: Global,
+    command: &Command<'_>,
+    meters: Vec<M>,
+) -> Vec<M>
     ensures none { ¬ CommandGivesBackMeters (Some (command_named command.now)) → result.items ≡ [] }
     ensures all { CommandGivesBackMeters (Some (command_named command.now)) → result ≡ meters }
 {

@@ -3,9 +3,9 @@ use Rattle.std.proofs.Common.{[], ◌&&◌, ◌+◌, ◌<◌, ◌==◌, ◌↔�
 use Rattle.base.proofs.Exports.{and_parts, cases_lt, get_or-map, get_or-switches, get_or_past, has-zero, has_mask, has_mask_past, length-map, length-switches, nat_tests, same_sets}
 use Rattle.failover.specs.declared.advert.Advert.{Advert}
 use Rattle.base.specs.Exports.{has, small_number_mask, number_set_where, switches}
-use Rattle.failover.specs.Exports.{IsAdvertDatabase, IsIsolated, has_link, is_isolated, is_link, known_links, route_links_at, advertised_links_of_each, neighbours_by_adverts, names_neighbour, neighbours_named}
+use Rattle.failover.specs.Exports.{IsAdvertDatabase, IsIsolated, has_route_link, is_isolated, is_route_link, known_links, route_links_at, advertised_links_of_each, neighbours_by_adverts, names_neighbour, neighbours_named_by_advert}
 use Rattle.failover.proofs.RouteLinkBalls.{and_both, false_of}
-use Rattle.failover.proofs.FailoverLinkSets.{has_link-turned}
+use Rattle.failover.proofs.FailoverLinkSets.{has_route_link-turned}
 use Rattle.failover.proofs.RouteWiderLoop.{AreBothWays}
 
 mask_where_none : {X : Type 0} (test : X → Bool) (k : ℕ) (xs : List X)
@@ -19,8 +19,8 @@ never true b c d e = rw e refl
 never false b c d e = refl
 
 strange : (neighbours down : List ℕ) (one : ℕ) → length neighbours ≤ one → (other : ℕ) →
-    is_link neighbours down one other ≡ false
-unfolding is_link
+    is_route_link neighbours down one other ≡ false
+unfolding is_route_link
 strange neighbours down one past other =
     never _ _ _ _ (ap (λ row. has row other) (get_or_past neighbours one 0 past) ∙ has-zero other)
 
@@ -49,15 +49,15 @@ row_of neighbours down one below =
     ∙ ap (route_links_at neighbours down) (get_or-switches one below)
 
 has_row : (neighbours down : List ℕ) (one other : ℕ) → one < 64 → other < 64 →
-    has (get_or (advertised_links_of_each neighbours down) one 0) other ≡ is_link neighbours down one other
+    has (get_or (advertised_links_of_each neighbours down) one 0) other ≡ is_route_link neighbours down one other
 has_row neighbours down one other one_fits other_fits = cc
-    (row_of neighbours down one one_fits, has_mask (is_link neighbours down one) other other_fits)
+    (row_of neighbours down one one_fits, has_mask (is_route_link neighbours down one) other other_fits)
 
 row_past : (neighbours down : List ℕ) (one other : ℕ) → (one < 64 → other < 64 → ⊥) →
     has (get_or (advertised_links_of_each neighbours down) one 0) other ≡ false
 row_past neighbours down one other past = elim (cases_lt one 64) [
   | inl below ↦ ap (λ row. has row other) (row_of neighbours down one below)
-      ∙ has_mask_past (is_link neighbours down one) other
+      ∙ has_mask_past (is_route_link neighbours down one) other
       (elim (cases_lt other 64) [ inl fits ↦ absurd (past below fits) | inr more ↦ more ])
   | inr more ↦ ap (λ row. has row other) (get_or_past (advertised_links_of_each neighbours down) one 0
       (omega (arith, length-link_rows neighbours down))) ∙ has-zero other
@@ -70,9 +70,9 @@ pub turned_number : (x y : ℕ) → (x == y) ≡ (y == x)
 turned_number x y = grind (arith, nat_tests)
 
 link_turned : (neighbours down : List ℕ) (one other : ℕ) →
-    is_link neighbours down one other ≡ is_link neighbours down other one
-unfolding is_link
-link_turned neighbours down one other = search (rules, turned_number, has_link-turned)
+    is_route_link neighbours down one other ≡ is_route_link neighbours down other one
+unfolding is_route_link
+link_turned neighbours down one other = search (rules, turned_number, has_route_link-turned)
 
 pub row_turned : (neighbours down : List ℕ) → AreBothWays (advertised_links_of_each neighbours down)
 row_turned neighbours down one other = elim (both_or_not one other) [
@@ -92,7 +92,7 @@ row_turned neighbours down one other = elim (both_or_not one other) [
 
 pub has_known : (adverts : List (Option Advert)) (at near : ℕ) (down : List ℕ) (one other : ℕ) →
     one < 64 → other < 64 → has (get_or (known_links adverts at near down) one 0) other ≡
-    is_link (neighbours_by_adverts adverts at near) down one other
+    is_route_link (neighbours_by_adverts adverts at near) down one other
 unfolding known_links advertised_links_of_each
 has_known adverts at near down one other = has_row (neighbours_by_adverts adverts at near) down one other
 
@@ -121,7 +121,7 @@ length-told_links : (adverts : List (Option Advert)) (at near : ℕ) →
     length (neighbours_by_adverts adverts at near) ≡ length adverts
 unfolding neighbours_by_adverts
 length-told_links adverts at near =
-    length-set (map neighbours_named adverts) at near ∙ length-map adverts neighbours_named
+    length-set (map neighbours_named_by_advert adverts) at near ∙ length-map adverts neighbours_named_by_advert
 
 -- a row without switches
 bare_row : (adverts : List (Option Advert)) (at near : ℕ) (down : List ℕ) (target : ℕ) →
@@ -129,14 +129,14 @@ bare_row : (adverts : List (Option Advert)) (at near : ℕ) (down : List ℕ) (t
     has (get_or (known_links adverts at near down) one 0) target ≡ true → ⊥) → (other : ℕ) →
     has (route_links_at (neighbours_by_adverts adverts at near) down target) other ≡ false
 bare_row adverts at near down target rows linkless other = elim (cases_lt other 64) [
-  | inl below ↦ has_mask (is_link (neighbours_by_adverts adverts at near) down target) other below
+  | inl below ↦ has_mask (is_route_link (neighbours_by_adverts adverts at near) down target) other below
       ∙ elim (cases_lt target 64) [
         | inl fits ↦ sym (has_known adverts at near down target other fits below)
             ∙ known_turned adverts at near down target other ∙ false_of _ (linkless other)
         | inr past ↦ strange (neighbours_by_adverts adverts at near) down target
             (omega (arith, length-told_links adverts at near)) other
       ]
-  | inr past ↦ has_mask_past (is_link (neighbours_by_adverts adverts at near) down target) other past
+  | inr past ↦ has_mask_past (is_route_link (neighbours_by_adverts adverts at near) down target) other past
 ]
 
 bare_known : (adverts : List (Option Advert)) (at near : ℕ) (down : List ℕ) (target one : ℕ) →
@@ -191,33 +191,33 @@ isolated_answer adverts at target near down answer rows same = rw same
 told_own : (adverts : List (Option Advert)) (at near : ℕ) → length adverts ≡ 64 → at < 64 →
     get_or (neighbours_by_adverts adverts at near) at 0 ≡ near
 unfolding neighbours_by_adverts
-told_own adverts at near rows fits = get_or-set_same (map neighbours_named adverts) at near 0
-    (omega (arith, length-map adverts neighbours_named, rows))
+told_own adverts at near rows fits = get_or-set_same (map neighbours_named_by_advert adverts) at near 0
+    (omega (arith, length-map adverts neighbours_named_by_advert, rows))
 
 told_other : (adverts : List (Option Advert)) (at near origin other : ℕ) → length adverts ≡ 64 →
     origin < 64 → origin ≢ at → has (get_or (neighbours_by_adverts adverts at near) origin 0) other ≡
     names_neighbour adverts origin other
 unfolding neighbours_by_adverts names_neighbour
 told_other adverts at near origin other rows fits apart =
-    ap (λ row. has row other) (get_or-set_other (map neighbours_named adverts) at origin near 0 apart
-    ∙ get_or-map neighbours_named adverts origin None 0 (omega (arith, rows)))
+    ap (λ row. has row other) (get_or-set_other (map neighbours_named_by_advert adverts) at origin near 0 apart
+    ∙ get_or-map neighbours_named_by_advert adverts origin None 0 (omega (arith, rows)))
 
 link_test : (neighbours down : List ℕ) (one other : ℕ) (a b : Bool) → one ≢ other →
     has (get_or neighbours one 0) other ≡ a → has (get_or neighbours other 0) one ≡ b →
-    is_link neighbours down one other ≡ (a && b && not (has_link down one other))
-unfolding is_link
+    is_route_link neighbours down one other ≡ (a && b && not (has_route_link down one other))
+unfolding is_route_link
 link_test neighbours down one other a b apart p q = rw (not_test one other apart, p, q) refl
 
 pub own_link : (adverts : List (Option Advert)) (at near : ℕ) (down : List ℕ) (other : ℕ) →
     length adverts ≡ 64 → at < 64 → other < 64 → at ≢ other →
     has (get_or (known_links adverts at near down) at 0) other ≡
-    (has near other && names_neighbour adverts other at && not (has_link down at other))
+    (has near other && names_neighbour adverts other at && not (has_route_link down at other))
 own_link adverts at near down other rows fits other_fits apart =
     search (rules, has_known, link_test, told_own, told_other)
 
 pub link_elsewhere : (adverts : List (Option Advert)) (at near : ℕ) (down : List ℕ) (one other : ℕ)
     → length adverts ≡ 64 → one < 64 → other < 64 → one ≢ other → one ≢ at → other ≢ at
     → has (get_or (known_links adverts at near down) one 0) other ≡ (names_neighbour adverts one
-    other && names_neighbour adverts other one && not (has_link down one other))
+    other && names_neighbour adverts other one && not (has_route_link down one other))
 link_elsewhere adverts at near down one other rows one_fits other_fits apart one_apart other_apart =
     search (rules, has_known, link_test, told_other)

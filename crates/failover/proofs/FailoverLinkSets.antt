@@ -2,7 +2,7 @@
 use Rattle.std.proofs.Common.{◌&&◌, ◌<◌, ◌==◌, ◌^◌, ◌||◌, ◌∙◌, ◌≡◌, ◌≢◌, ◌≤◌, ◌⊎◌, Bool, IsTrue, List, ap, arith, bit_or, eq-eqb, eqb-true, false, get_or, get_or-set_other, get_or-set_same, inl, inr, length, length-set, max, min, refl, set, sym, true, ℕ, rules}
 use Rattle.base.proofs.Exports.{and_parts, cases_eq, cases_lt, get_or-replicate, get_or_default, get_or_past, has-or, has-pow_other, has-pow_same, has-zero, length-replicate, same_lists, same_sets}
 use Rattle.base.specs.Exports.{has}
-use Rattle.failover.specs.Exports.{IsDownLinkSet, has_link, is_failover_link_of, no_links, with_link}
+use Rattle.failover.specs.Exports.{IsDownLinkSet, has_route_link, is_failover_link_of, no_links, with_link}
 use Rattle.failover.proofs.RouteLinkBalls.{and_both, or_left, apart_tests, false_of}
 
 no_row : (k : ℕ) → get_or no_links k 0 ≡ 0
@@ -32,32 +32,32 @@ unfolding with_link
 with_link_is_link_set links one other set differ one_fits other_fits =
     search (rules, length-set, gained)
 
-pub has_link-here : (links : List ℕ) (one other low high : ℕ) → low ≡ min one other →
-    high ≡ max one other → has (get_or links low 0) high ≡ has_link links one other
-unfolding has_link
-has_link-here links one other low high p q = rw (p, q) refl
+pub has_route_link-here : (links : List ℕ) (one other low high : ℕ) → low ≡ min one other →
+    high ≡ max one other → has (get_or links low 0) high ≡ has_route_link links one other
+unfolding has_route_link
+has_route_link-here links one other low high p q = rw (p, q) refl
 
 not_above : (links : List ℕ) (k x : ℕ) → IsDownLinkSet links → x ≤ k → has (get_or links k 0) x ≡ false
 not_above links k x set past = false_of _ (λ h. absurd (omega (arith, set.above k x h)))
 
 -- the row of the higher number doesn't have the lower
-has_link-either : (links : List ℕ) (one other : ℕ) → IsDownLinkSet links →
-    (has (get_or links one 0) other || has (get_or links other 0) one) ≡ has_link links one other
-has_link-either links one other set = search (rules, has_link-here)
+has_route_link-either : (links : List ℕ) (one other : ℕ) → IsDownLinkSet links →
+    (has (get_or links one 0) other || has (get_or links other 0) one) ≡ has_route_link links one other
+has_route_link-either links one other set = search (rules, has_route_link-here)
 
-pub has_link-first : (links : List ℕ) (one other : ℕ) → IsDownLinkSet links →
-    has (get_or links one 0) other ≡ true → true ≡ has_link links one other
-has_link-first links one other set there = cc (there, has_link-either links one other set)
+pub has_route_link-first : (links : List ℕ) (one other : ℕ) → IsDownLinkSet links →
+    has (get_or links one 0) other ≡ true → true ≡ has_route_link links one other
+has_route_link-first links one other set there = cc (there, has_route_link-either links one other set)
 
-pub has_link-second : (links : List ℕ) (one other : ℕ) → IsDownLinkSet links →
+pub has_route_link-second : (links : List ℕ) (one other : ℕ) → IsDownLinkSet links →
     has (get_or links one 0) other ≡ false → has (get_or links other 0) one ≡
-    has_link links one other
-has_link-second links one other set absent = cc (absent, has_link-either links one other set)
+    has_route_link links one other
+has_route_link-second links one other set absent = cc (absent, has_route_link-either links one other set)
 
-pub has_link-above : (links : List ℕ) (one other : ℕ) → IsDownLinkSet links →
-    64 ≤ max one other → false ≡ has_link links one other
-unfolding has_link
-has_link-above links one other set past = sym (false_of _
+pub has_route_link-above : (links : List ℕ) (one other : ℕ) → IsDownLinkSet links →
+    64 ≤ max one other → false ≡ has_route_link links one other
+unfolding has_route_link
+has_route_link-above links one other set past = sym (false_of _
     (λ h. absurd (omega (arith, set.switches (min one other) (max one other) h))))
 
 pub with_link-rows : (links : List ℕ) (one other low high more : ℕ) → low ≡ min one other →
@@ -68,13 +68,13 @@ with_link-rows links one other low high more p q e = rw (e, p, q) refl
 
 -- ---- the links of a set
 
-pub has_link-none : (x y : ℕ) → has_link no_links x y ≡ false
-unfolding has_link
-has_link-none x y = ap (λ row. has row (max x y)) (no_row (min x y)) ∙ has-zero (max x y)
+pub has_route_link-none : (x y : ℕ) → has_route_link no_links x y ≡ false
+unfolding has_route_link
+has_route_link-none x y = ap (λ row. has row (max x y)) (no_row (min x y)) ∙ has-zero (max x y)
 
-pub has_link-turned : (links : List ℕ) (x y : ℕ) → has_link links x y ≡ has_link links y x
-unfolding has_link
-has_link-turned links x y = search rules
+pub has_route_link-turned : (links : List ℕ) (x y : ℕ) → has_route_link links x y ≡ has_route_link links y x
+unfolding has_route_link
+has_route_link-turned links x y = search rules
 
 same_pair : (one other x y : ℕ) → min x y ≡ min one other → max x y ≡ max one other →
     is_failover_link_of one other x y ≡ true
@@ -92,26 +92,26 @@ row_gains : (row high z : ℕ) (pair : Bool) → (z ≡ high → pair ≡ true) 
 row_gains row high z pair here elsewhere =
     search (rules, cases_eq, has-pow_same, has-or, has-pow_other)
 
-pub has_link-with_link : (links : List ℕ) (one other x y : ℕ) → IsDownLinkSet links → one < 64 →
-    other < 64 → has_link (with_link links one other) x y ≡
-    (has_link links x y || is_failover_link_of one other x y)
-unfolding has_link with_link
-has_link-with_link links one other x y set one_fits other_fits =
+pub has_route_link-with_link : (links : List ℕ) (one other x y : ℕ) → IsDownLinkSet links → one < 64 →
+    other < 64 → has_route_link (with_link links one other) x y ≡
+    (has_route_link links x y || is_failover_link_of one other x y)
+unfolding has_route_link with_link
+has_route_link-with_link links one other x y set one_fits other_fits =
     search (rules, cases_eq, get_or-set_same, row_gains, other_pair, get_or-set_other)
 
-row_at : (links : List ℕ) (k x : ℕ) → k < x → has (get_or links k 0) x ≡ has_link links k x
-unfolding has_link
+row_at : (links : List ℕ) (k x : ℕ) → k < x → has (get_or links k 0) x ≡ has_route_link links k x
+unfolding has_route_link
 row_at links k x less = search rules
 
 same_rows : (a b : List ℕ) → IsDownLinkSet a → IsDownLinkSet b →
-    ((x y : ℕ) → has_link a x y ≡ has_link b x y) → (k : ℕ) → get_or a k 0 ≡ get_or b k 0
+    ((x y : ℕ) → has_route_link a x y ≡ has_route_link b x y) → (k : ℕ) → get_or a k 0 ≡ get_or b k 0
 same_rows a b one other same k = same_sets _ _ (λ x. elim (cases_lt k x) [
   | inl less ↦ row_at a k x less ∙ same k x ∙ sym (row_at b k x less)
   | inr past ↦ not_above a k x one past ∙ sym (not_above b k x other past)
 ])
 
 pub same_link_sets : (a b : List ℕ) → IsDownLinkSet a → IsDownLinkSet b →
-    ((x y : ℕ) → has_link a x y ≡ has_link b x y) → a ≡ b
+    ((x y : ℕ) → has_route_link a x y ≡ has_route_link b x y) → a ≡ b
 same_link_sets a b one other same = same_lists a b (one.masks ∙ sym other.masks)
     (λ k d below. get_or_default a k d 0 below ∙ same_rows a b one other same k
     ∙ sym (get_or_default b k d 0 (omega (arith, one.masks, other.masks))))

@@ -2,7 +2,7 @@
 use Rattle.std.proofs.Common.{[], ◌<◌, ◌∙◌, ◌∷◌, ◌≡◌, ◌≤◌, List, ap, arith, eqb-true, false, length, nat_eq, refl, subst, suc, sym, true, zero, ℕ, rules}
 use Rattle.base.proofs.Exports.{AllByRecursion, IsDistinct}
 use Rattle.base.specs.Exports.{has}
-use Rattle.failover.specs.Exports.{IsPathAtMost, IsLinksAway, LinksLeadTo, ball, route_path_after}
+use Rattle.failover.specs.Exports.{IsPathAtMost, IsRouteLinksAway, LinksLeadTo, ball, route_path_after}
 use Rattle.failover.proofs.RouteLinkBalls.{false_of, apart_tests, ball_grows, ball_gains, at_target, has_target, next_step}
 
 -- ---- the route leads to the target
@@ -13,7 +13,7 @@ length-onward links target zero at = refl
 length-onward links target (suc k) at = ap suc (length-onward links target k _)
 
 pub onward_leads : (links : List ℕ) (target k at : ℕ) → length links ≡ 64 → target < 64 → at < 64 →
-    IsLinksAway links target k at → LinksLeadTo links target at (route_path_after links target k at)
+    IsRouteLinksAway links target k at → LinksLeadTo links target at (route_path_after links target k at)
 unfolding route_path_after
 onward_leads links target zero at rows target_fits at_fits away =
     at_target links target at away.here
@@ -28,7 +28,7 @@ differ x y mask absent member =
     false_of _ (λ e. apart_tests _ (ap (has mask) (eqb-true x y e) ∙ member) absent)
 
 onward_apart : (links : List ℕ) (target k at x : ℕ) → length links ≡ 64 → target < 64 → at < 64 →
-    IsLinksAway links target k at → ((j : ℕ) → j < k → has (ball links target j) x ≡ false) →
+    IsRouteLinksAway links target k at → ((j : ℕ) → j < k → has (ball links target j) x ≡ false) →
     AllByRecursion (λ y. nat_eq x y ≡ false) (route_path_after links target k at)
 unfolding route_path_after
 onward_apart links target zero at x rows target_fits at_fits away absent = tt
@@ -40,7 +40,7 @@ onward_apart links target (suc k) at x rows target_fits at_fits away absent =
     )
 
 pub onward_distinct : (links : List ℕ) (target k at : ℕ) → length links ≡ 64 → target < 64 →
-    at < 64 → IsLinksAway links target k at → IsDistinct nat_eq (at ∷ route_path_after links target k at)
+    at < 64 → IsRouteLinksAway links target k at → IsDistinct nat_eq (at ∷ route_path_after links target k at)
 unfolding route_path_after IsDistinct
 onward_distinct links target zero at rows target_fits at_fits away = (tt, tt)
 onward_distinct links target (suc k) at rows target_fits at_fits away =
@@ -65,7 +65,7 @@ at_most_next : (x y : ℕ) (xs ys : List ℕ) → x ≤ y → (x ≡ y → IsPat
 at_most_next x y xs ys less rest = search rules
 
 pub onward_least : (links : List ℕ) (target k at : ℕ) (rest : List ℕ) → length links ≡ 64 →
-    target < 64 → at < 64 → IsLinksAway links target k at → LinksLeadTo links target at rest →
+    target < 64 → at < 64 → IsRouteLinksAway links target k at → LinksLeadTo links target at rest →
     length rest ≡ k → IsPathAtMost (route_path_after links target k at) rest
 unfolding route_path_after
 onward_least links target zero at rest rows target_fits at_fits away leads long = tt

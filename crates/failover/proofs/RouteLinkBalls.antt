@@ -1,8 +1,8 @@
 -- The switches at most k links away from a target, and the least of them that is one link nearer.
 use Rattle.std.proofs.Common.{◌&&◌, ◌<◌, ◌==◌, ◌^◌, ◌||◌, ◌∙◌, ◌≡◌, ◌≤◌, ◌⊎◌, Bool, List, arith, bit_and, false, get_or, inl, inr, length, not, refl, suc, sym, true, zero, ℕ, rules}
 use Rattle.base.proofs.Exports.{and_le_r, and_parts, cases_eq, cases_lt, has-and, has-or, has-pow_other, has-pow_same, has-zero, has_least, least_below, least_lt, mask_where_at, mask_where_lt, nat_tests, or_lt, pow_below, some_of}
-use Rattle.base.specs.Exports.{has, least_in}
-use Rattle.failover.specs.Exports.{IsLinksAway, ball, grown_ball, least_neighbour_in}
+use Rattle.base.specs.Exports.{has, least_in_number_set}
+use Rattle.failover.specs.Exports.{IsRouteLinksAway, ball, grown_ball, least_neighbour_in}
 
 -- ---- Bool
 
@@ -91,7 +91,7 @@ least_of links within at fits some =
       below = least_lt _ some small;
       joined = (and_parts _ _ both).0;
       inside = (and_parts _ _ both).1;
-      least = λ other link member. elim (cases_lt other (least_in (bit_and row within))) [
+      least = λ other link member. elim (cases_lt other (least_in_number_set (bit_and row within))) [
         | inl below ↦ apart_tests _ (rw (has-and, link, member) refl)
             (least_below _ some small other below)
         | inr above ↦ above
@@ -143,12 +143,12 @@ has_target links target = has-pow_same target
 pub record IsStep (links : List ℕ) (target k at next : ℕ) : Type 0 where
   pub below : next < 64
   pub joined : has (get_or links at 0) next ≡ true
-  pub away : IsLinksAway links target k next
+  pub away : IsRouteLinksAway links target k next
   pub least : (other : ℕ) → has (get_or links at 0) other ≡ true →
       has (ball links target k) other ≡ true → next ≤ other
 
 step_from : (links : List ℕ) (target k at next : ℕ) → at < length links →
-    IsLinksAway links target (suc k) at → IsNearer links (ball links target k) at next →
+    IsRouteLinksAway links target (suc k) at → IsNearer links (ball links target k) at next →
     IsStep links target k at next
 step_from links target k at next below away near = record {
   below = near.below;
@@ -162,7 +162,7 @@ step_from links target k at next below away near = record {
 }
 
 pub next_step : (links : List ℕ) (target k at : ℕ) → length links ≡ 64 → target < 64 → at < 64 →
-    IsLinksAway links target (suc k) at →
+    IsRouteLinksAway links target (suc k) at →
     IsStep links target k at (least_neighbour_in links (ball links target k) at)
 unfolding ball
 next_step links target k at rows target_fits at_fits away = step_from links target k at _

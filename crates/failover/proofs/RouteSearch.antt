@@ -3,7 +3,7 @@ use Rattle.std.proofs.Common.{[], ◌&&◌, ◌+◌, ◌-◌, ◌<◌, ◌==◌,
 use Rattle.base.proofs.Exports.{All-cons, All-nil, cases_lt, length-le_from_distinct_below, list_any, nat_tests}
 use Rattle.failover.specs.declared.advert.Advert.{Advert}
 use Rattle.base.specs.Exports.{has, switches}
-use Rattle.failover.specs.Exports.{IsPathAtMost, IsLinksAway, IsLeastPath, IsOutOfReach, IsPath, IsReachable, IsRoute, IsRouteList, LinksLeadTo, ball, first_route, grown_ball, known_links, ball_links_away, route_path_after, route_of, route_to}
+use Rattle.failover.specs.Exports.{IsPathAtMost, IsRouteLinksAway, IsLeastPath, IsOutOfReach, IsPath, IsReachable, IsRoute, IsRouteList, LinksLeadTo, ball, first_route, grown_ball, known_links, ball_links_away, route_path_after, route_of, route_to}
 use Rattle.failover.proofs.RouteLinkBalls.{false_of, apart_tests, or_cases}
 use Rattle.failover.proofs.RouteLeastPaths.{length-onward, onward_leads, onward_distinct, onward_least, reaches}
 
@@ -45,7 +45,7 @@ target_below links target at (next ∷ rest) fits leads =
 -- ---- what was found is the least path
 
 no_fewer : (links : List ℕ) (target k at : ℕ) (rest : List ℕ) → length links ≡ 64 → at < 64 →
-    IsLinksAway links target k at → LinksLeadTo links target at rest → k ≤ length rest
+    IsRouteLinksAway links target k at → LinksLeadTo links target at rest → k ≤ length rest
 no_fewer links target k at rest rows fits away leads = elim (cases_lt (length rest) k) [
   | inl short ↦ apart_tests _ (reaches links target at rest (length rest) rows fits leads
       (omega arith)) (away.later (length rest) short)
@@ -53,7 +53,7 @@ no_fewer links target k at rest rows fits away leads = elim (cases_lt (length re
 ]
 
 fewest_of : (links : List ℕ) (target k from : ℕ) → length links ≡ 64 → from < 64 →
-    IsLinksAway links target k from → (other : List ℕ) → IsPath links from target other →
+    IsRouteLinksAway links target k from → (other : List ℕ) → IsPath links from target other →
     k < length other
 unfolding IsPath
 fewest_of links target k from rows fits away [] path = absurd path
@@ -62,14 +62,14 @@ fewest_of links target k from rows fits away (first ∷ rest) path =
     omega (arith, no_fewer links target k from rest rows fits away leads)
 
 least_of_all : (links : List ℕ) (target k from : ℕ) → length links ≡ 64 → target < 64 → from < 64 →
-    IsLinksAway links target k from → (other : List ℕ) → IsPath links from target other →
+    IsRouteLinksAway links target k from → (other : List ℕ) → IsPath links from target other →
     length other ≡ suc k → IsPathAtMost (from ∷ route_path_after links target k from) other
 unfolding IsPath
 least_of_all links target k from rows target_fits fits away other path long =
     search (rules, onward_least)
 
 found_path : (links : List ℕ) (target k from : ℕ) → length links ≡ 64 → target < 64 → from < 64 →
-    IsLinksAway links target k from → IsPath links from target (from ∷ route_path_after links target k from)
+    IsRouteLinksAway links target k from → IsPath links from target (from ∷ route_path_after links target k from)
 unfolding IsPath
 found_path links target k from rows target_fits fits away = (
   refl,
@@ -79,7 +79,7 @@ found_path links target k from rows target_fits fits away = (
 )
 
 pub found_is_least : (links : List ℕ) (target k from : ℕ) → length links ≡ 64 → target < 64 →
-    from < 64 → IsLinksAway links target k from →
+    from < 64 → IsRouteLinksAway links target k from →
     IsLeastPath links from target (from ∷ route_path_after links target k from)
 found_is_least links target k from rows target_fits fits away =
     search (rules, length-onward, found_path, fewest_of, least_of_all)
@@ -124,7 +124,7 @@ still_out links target j from same before = λ k fits. elim (cases_lt k (suc j))
 ]
 
 -- the balls grow until they have the switch
-grows : (links : List ℕ) (target j k from : ℕ) → IsLinksAway links target (j + suc k) from →
+grows : (links : List ℕ) (target j k from : ℕ) → IsRouteLinksAway links target (j + suc k) from →
     (grown_ball links (ball links target j) == ball links target j) ≡ false
 unfolding ball
 grows links target j k from away = search (rules, false_of, eqb-true, stands_still)
@@ -153,7 +153,7 @@ turn_none : (here still : Bool) (rest : Option ℕ) → here ≡ false → rest 
 turn_none here still rest e none = search rules
 
 away_found : (most : ℕ) (links : List ℕ) (target j k from : ℕ) → k < most →
-    IsLinksAway links target (j + k) from → ball_links_away most links from (ball links target j) ≡ Some k
+    IsRouteLinksAway links target (j + k) from → ball_links_away most links from (ball links target j) ≡ Some k
 unfolding ball
 away_found zero links target j k from fits away = absurd (omega arith)
 away_found (suc most) links target j zero from fits away =
@@ -163,7 +163,7 @@ away_found (suc most) links target j (suc k) from fits away =
     ball_links_away-turn most links from (ball links target j)
     ∙ turn_on _ _ _ (away.later j (omega arith)) (grows links target j k from away)
     ∙ ap (option_map suc) (away_found most links target (suc j) k from (omega arith)
-    (subst (λ (n : ℕ). IsLinksAway links target n from) (omega arith) away))
+    (subst (λ (n : ℕ). IsRouteLinksAway links target n from) (omega arith) away))
 
 none_found : (most : ℕ) (links : List ℕ) (target j from : ℕ) → j + most ≤ 64 →
     IsOutOfReach links target from → ball_links_away most links from (ball links target j) ≡ None
@@ -199,13 +199,13 @@ guarded_false true route h = absurd (h refl)
 guarded_false false route h = refl
 
 pub route_to-away : (links : List ℕ) (from target k : ℕ) → from < 64 → target < 64 → k < 64 →
-    IsLinksAway links target k from → route_to links from target ≡
+    IsRouteLinksAway links target k from → route_to links from target ≡
     Some (from ∷ route_path_after links target k from)
 route_to-away links from target k from_fits target_fits fits away =
     route_to-guarded links from target
     ∙ guarded_true _ _ (both_below from target from_fits target_fits)
     ∙ ap (option_map (λ k. from ∷ route_path_after links target k from)) (away_found 64 links target 0 k
-    from fits (subst (λ (n : ℕ). IsLinksAway links target n from) (omega arith) away))
+    from fits (subst (λ (n : ℕ). IsRouteLinksAway links target n from) (omega arith) away))
 
 pub route_to-out : (links : List ℕ) (from target : ℕ) → from < 64 → target < 64 →
     IsOutOfReach links target from → route_to links from target ≡ None
@@ -225,11 +225,11 @@ route_to-above links from target h =
 later_or_away : (links : List ℕ) (target from k : ℕ) →
     ((j : ℕ) → j < k → has (ball links target j) from ≡ false) → (b : Bool) →
     has (ball links target k) from ≡ b →
-    IsLinksAway links target k from ⊎ ((j : ℕ) → j < suc k → has (ball links target j) from ≡ false)
+    IsRouteLinksAway links target k from ⊎ ((j : ℕ) → j < suc k → has (ball links target j) from ≡ false)
 later_or_away links target from k before b e = search rules
 
 search_up_to : (links : List ℕ) (target from k : ℕ) →
-    ((i : ℕ) × (i < k) × IsLinksAway links target i from)
+    ((i : ℕ) × (i < k) × IsRouteLinksAway links target i from)
     ⊎ ((j : ℕ) → j < k → has (ball links target j) from ≡ false)
 search_up_to links target from zero = inr (λ j less. absurd (omega arith))
 search_up_to links target from (suc k) = elim (search_up_to links target from k) [
@@ -239,7 +239,7 @@ search_up_to links target from (suc k) = elim (search_up_to links target from k)
 ]
 
 pub away_or_out : (links : List ℕ) (target from : ℕ) →
-    ((k : ℕ) × (k < 64) × IsLinksAway links target k from) ⊎ IsOutOfReach links target from
+    ((k : ℕ) × (k < 64) × IsRouteLinksAway links target k from) ⊎ IsOutOfReach links target from
 unfolding IsOutOfReach
 away_or_out links target from = search_up_to links target from 64
 

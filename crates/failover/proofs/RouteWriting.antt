@@ -2,7 +2,7 @@
 use Rattle.std.proofs.Common.{[], ◌++◌, ◌+◌, ◌-◌, ◌<◌, ◌^◌, ◌∙◌, ◌∷◌, ◌≡◌, ◌≤◌, List, Some, add-one, ap, append_assoc, arith, bit_and, drop, drop-drop, false, get_or, get_or-drop, get_or-set_other, get_or-set_same, length, length-drop, length-take, refl, replicate, set, subst, suc, sym, take, take_all, take_at, zero, ℕ, rules}
 use Rattle.base.proofs.Exports.{cases_eq, set-append_seam, take_more}
 use Rattle.base.specs.Exports.{has}
-use Rattle.failover.specs.Exports.{AreBalls, IsLinksAway, IsOutOfReach, IsRouteList, ball, grown_ball, least_neighbour_in, route_path_after, path_by_balls, route_to}
+use Rattle.failover.specs.Exports.{AreBalls, IsRouteLinksAway, IsOutOfReach, IsRouteList, ball, grown_ball, least_neighbour_in, route_path_after, path_by_balls, route_to}
 use Rattle.failover.proofs.RouteLinkBalls.{wider_meets}
 use Rattle.failover.proofs.RouteSearch.{still_out, found_is_least, path_is_route_list, route_to-away}
 
@@ -38,14 +38,14 @@ along-onward links balls target (suc k) at kept = rw (last_ball links target bal
 -- ---- what was found may be written down
 
 pub is_route_list : (links balls : List ℕ) (target k from : ℕ) → length links ≡ 64 → target < 64 →
-    from < 64 → IsLinksAway links target k from → AreBalls links target balls k →
+    from < 64 → IsRouteLinksAway links target k from → AreBalls links target balls k →
     IsRouteList (from ∷ path_by_balls links balls k from)
 is_route_list links balls target k from rows target_fits from_fits away kept =
     rw (along-onward links balls target k from kept) (path_is_route_list links from target _
     (found_is_least links target k from rows target_fits from_fits away).path)
 
 pub route_to-along : (links balls : List ℕ) (target k from : ℕ) → length links ≡ 64 → target < 64 →
-    from < 64 → IsLinksAway links target k from → AreBalls links target balls k →
+    from < 64 → IsRouteLinksAway links target k from → AreBalls links target balls k →
     route_to links from target ≡ Some (from ∷ path_by_balls links balls k from)
 route_to-along links balls target k from rows target_fits from_fits away kept =
     let few = (is_route_list links balls target k from rows target_fits from_fits away kept).few in
@@ -129,7 +129,7 @@ before_more links target k within from here absent before = search (rules, cases
 pub next_away : (links : List ℕ) (target k within from : ℕ) → from < length links →
     within ≡ ball links target k → 0 < bit_and (get_or links from 0) within →
     has within from ≡ false → ((j : ℕ) → j < k → has (ball links target j) from ≡ false) →
-    IsLinksAway links target (k + 1) from
+    IsRouteLinksAway links target (k + 1) from
 next_away links target k within from below here meets absent before =
     search (rules, next_ball, wider_meets)
 

@@ -1,11 +1,11 @@
--- The laws of adverts, of sets of links, of known links and of routes: `x_laws` of the crate
--- ensures the record of each.
+-- The laws of adverts, of sets of links, of known links and of routes: a function of `src` ensures
+-- each record.
 use Rattle.std.specs.Prelude.{◌&&◌, ◌++◌, ◌<◌, ◌||◌, ◌↔◌, ◌≡◌, ◌≢◌, IsTrue, List, Option, Some, false, length, not, option_to_list, slice_index, ℕ}
 use Rattle.failover.specs.declared.advert.Advert.{Advert}
 use Rattle.base.specs.Exports.{has}
 use Rattle.failover.specs.Adverts.{held_advert, is_news, adverts_after_hearing, after_hearing_all, no_adverts, first_of, first_adverts}
 use Rattle.failover.specs.DownSet.{is_failover_link_of, IsDownLinkSet}
-use Rattle.failover.specs.Links.{neighbours_by_adverts, is_link, known_links, has_link, no_links, with_link, LinksLeadTo, IsPath, IsReachable}
+use Rattle.failover.specs.Links.{neighbours_by_adverts, is_route_link, known_links, has_route_link, no_links, with_link, LinksLeadTo, IsPath, IsReachable}
 use Rattle.failover.specs.Paths.{IsIsolated, IsRoute}
 use Rattle.failover.specs.RouteList.{IsRouteList}
 use Rattle.failover.specs.Routes.{route_of}
@@ -36,33 +36,33 @@ pub record AdvertDatabaseLaws : Type 0 where
 
 pub record FailoverLinkSetLaws : Type 0 where
   pub none : IsDownLinkSet no_links
-  pub no_link : (x y : ℕ) → has_link no_links x y ≡ false
+  pub no_link : (x y : ℕ) → has_route_link no_links x y ≡ false
   pub kept : (links : List ℕ) (one other : ℕ) → IsDownLinkSet links → one ≢ other → one < 64 →
       other < 64 → IsDownLinkSet (with_link links one other)
   pub added : (links : List ℕ) (one other x y : ℕ) → IsDownLinkSet links → one < 64 → other < 64 →
-      has_link (with_link links one other) x y ≡ (has_link links x y || is_failover_link_of one other x y)
-  pub either_order : (links : List ℕ) (x y : ℕ) → has_link links x y ≡ has_link links y x
+      has_route_link (with_link links one other) x y ≡ (has_route_link links x y || is_failover_link_of one other x y)
+  pub either_order : (links : List ℕ) (x y : ℕ) → has_route_link links x y ≡ has_route_link links y x
   -- sets of the same links are equal
   pub same : (a b : List ℕ) → IsDownLinkSet a → IsDownLinkSet b →
-      ((x y : ℕ) → has_link a x y ≡ has_link b x y) → a ≡ b
+      ((x y : ℕ) → has_route_link a x y ≡ has_route_link b x y) → a ≡ b
 
-pub record LinksAtLaws : Type 0 where
+pub record AdvertKnownLinkLaws : Type 0 where
   -- a link is known if both ends name each other
   pub known : (adverts : List (Option Advert)) (at near : ℕ) (down : List ℕ) (one other : ℕ) →
       one < 64 → other < 64 →
       has (slice_index (known_links adverts at near down) one) other ≡
-      is_link (neighbours_by_adverts adverts at near) down one other
+      is_route_link (neighbours_by_adverts adverts at near) down one other
   -- a link of the switch itself, by its own mask and the other's advert
   pub own : (adverts : List (Option Advert)) (at near : ℕ) (down : List ℕ) (other : ℕ) →
       length adverts ≡ 64 → at < 64 → other < 64 → at ≢ other →
       has (slice_index (known_links adverts at near down) at) other ≡
-      (has near other && names_neighbour adverts other at && not (has_link down at other))
+      (has near other && names_neighbour adverts other at && not (has_route_link down at other))
   -- a link elsewhere, by both adverts
   pub elsewhere : (adverts : List (Option Advert)) (at near : ℕ) (down : List ℕ) (one other : ℕ) →
       length adverts ≡ 64 → one < 64 → other < 64 → one ≢ other → one ≢ at → other ≢ at →
       has (slice_index (known_links adverts at near down) one) other ≡
       (names_neighbour adverts one other && names_neighbour adverts other one
-      && not (has_link down one other))
+      && not (has_route_link down one other))
   pub either_end : (adverts : List (Option Advert)) (at near : ℕ) (down : List ℕ) (one other : ℕ) →
       has (slice_index (known_links adverts at near down) one) other ≡
       has (slice_index (known_links adverts at near down) other) one

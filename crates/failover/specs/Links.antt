@@ -5,8 +5,8 @@ use Rattle.base.specs.Exports.{IsDistinct, has, small_number_mask, switches}
 use Rattle.failover.specs.declared.advert.Advert.{Advert}
 
 -- the link of two switches, in either order, is in the set
-unfoldable pub has_link : List ℕ → ℕ → ℕ → Bool
-has_link links one other = has (slice_index links (min one other)) (max one other)
+unfoldable pub has_route_link : List ℕ → ℕ → ℕ → Bool
+has_route_link links one other = has (slice_index links (min one other)) (max one other)
 
 abbrev pub no_links : List ℕ
 no_links = replicate 64 0
@@ -16,23 +16,23 @@ unfoldable pub with_link : List ℕ → ℕ → ℕ → List ℕ
 with_link links one other = let low =
     min one other in slice_set links low (bit_or (slice_index links low) (2 ^ max one other))
 
-abbrev pub neighbours_named : Option Advert → ℕ
-neighbours_named None = 0
-neighbours_named (Some advert) = advert.up
+abbrev pub neighbours_named_by_advert : Option Advert → ℕ
+neighbours_named_by_advert None = 0
+neighbours_named_by_advert (Some advert) = advert.up
 
 -- the neighbours that each switch names: `at` those that it sees, every other those of its advert
 unfoldable pub neighbours_by_adverts : List (Option Advert) → ℕ → ℕ → List ℕ
-neighbours_by_adverts adverts at near = slice_set (map neighbours_named adverts) at near
+neighbours_by_adverts adverts at near = slice_set (map neighbours_named_by_advert adverts) at near
 
 -- two different switches name each other, and their link isn't in the set of those found down
-unfoldable pub is_link : List ℕ → List ℕ → ℕ → ℕ → Bool
-is_link neighbours down one other =
+unfoldable pub is_route_link : List ℕ → List ℕ → ℕ → ℕ → Bool
+is_route_link neighbours down one other =
     not (one == other) && has (slice_index neighbours one) other && has
-    (slice_index neighbours other) one && not (has_link down one other)
+    (slice_index neighbours other) one && not (has_route_link down one other)
 
 -- the switches to which this one has a link
 abbrev pub route_links_at : List ℕ → List ℕ → ℕ → ℕ
-route_links_at neighbours down one = small_number_mask (is_link neighbours down one)
+route_links_at neighbours down one = small_number_mask (is_route_link neighbours down one)
 
 -- the links that `at` knows: for each switch the switches to which it has a link
 unfoldable pub known_links : List (Option Advert) → ℕ → ℕ → List ℕ → List ℕ

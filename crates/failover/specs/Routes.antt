@@ -2,7 +2,7 @@
 -- Through a Maze", 1959), then each time to the least switch that is one link nearer.
 use Rattle.std.specs.Prelude.{[], ◌&&◌, ◌==◌, ◌^◌, ◌∷◌, List, None, Option, Some, bit_and, bit_or, false, nat_lt, not, option_map, slice_index, suc, true, zero, ℕ}
 use Rattle.failover.specs.declared.advert.Advert.{Advert}
-use Rattle.base.specs.Exports.{has, least_in, number_set_where}
+use Rattle.base.specs.Exports.{has, least_in_number_set, number_set_where}
 use Rattle.failover.specs.Links.{known_links}
 
 -- a set of switches, and those that have a link into it
@@ -16,7 +16,7 @@ ball links target (suc k) = grown_ball links (ball links target k)
 
 -- the least switch of a set to which this one has a link
 unfoldable pub least_neighbour_in : List ℕ → ℕ → ℕ → ℕ
-least_neighbour_in links within at = least_in (bit_and (slice_index links at) within)
+least_neighbour_in links within at = least_in_number_set (bit_and (slice_index links at) within)
 
 -- the switches after one that is k links away from the target
 unfoldable pub route_path_after : List ℕ → ℕ → ℕ → ℕ → List ℕ

@@ -4,7 +4,7 @@ use Rattle.base.specs.Exports.{has}
 use Rattle.failover.specs.Routes.{ball, least_neighbour_in}
 
 -- the switch is k links away from the target, and no fewer
-pub record IsLinksAway (links : List ℕ) (target k at : ℕ) : Type 0 where
+pub record IsRouteLinksAway (links : List ℕ) (target k at : ℕ) : Type 0 where
   pub here : has (ball links target k) at ≡ true
   pub later : (j : ℕ) → j < k → has (ball links target j) at ≡ false
 

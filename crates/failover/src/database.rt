@@ -1,6 +1,6 @@
 ghost use Rattle.std.specs.Prelude.{◌≡◌, ◌<◌, map, ◌↔◌, slice_set, IfSome, IsTrue};
 ghost use Rattle.std.specs.Bool.{OnTrue};
-ghost use Rattle.failover.specs.Exports.{IsIsolated, IsRoute, IsRouteList, adverts_after_hearing, first_adverts, first_of, held_advert, is_isolated, is_news, known_links, neighbours_named, no_adverts, route_of};
+ghost use Rattle.failover.specs.Exports.{IsIsolated, IsRoute, IsRouteList, adverts_after_hearing, first_adverts, first_of, held_advert, is_isolated, is_news, known_links, neighbours_named_by_advert, no_adverts, route_of};
 
 use crate::advert::Advert;
 use crate::down_set::DownSet;
@@ -61,7 +61,7 @@ impl Database {
         requires { AreAdvertsByOrigin adverts }
         ensures { result ≡ adverts }
     {
-        let named = all_neighbours_named(&adverts);
+        let named = link_state_neighbours_named(&adverts);
         Database { adverts, named }
     }
 
@@ -117,7 +117,7 @@ impl Database {
         ensures list { IfSome result IsRouteList }
     {
         let mut neighbours = self.named;
-        set_own_links(&mut neighbours, from, near);
+        set_own_link_state(&mut neighbours, from, near);
         first_route(&neighbours, down, from, targets.items())
     }
 
@@ -132,13 +132,13 @@ impl Database {
             return false;
         }
         let mut neighbours = self.named;
-        set_own_links(&mut neighbours, at, near);
+        set_own_link_state(&mut neighbours, at, near);
         is_linkless(&neighbours, down, target)
     }
 }
 
 // Replaces the neighbours that this switch named by those that it sees.
-fn set_own_links(neighbours: &mut [u64; 64], at: u32, near: u64)
+fn set_own_link_state(neighbours: &mut [u64; 64], at: u32, near: u64)
     ensures { neighbours.new ≡ slice_set neighbours.old at near }
 {
     if at < MAX_SWITCHES {
@@ -147,19 +147,19 @@ fn set_own_links(neighbours: &mut [u64; 64], at: u32, near: u64)
 }
 
 // The neighbours that each of these adverts names.
-fn all_neighbours_named(adverts: &[Option<Advert>; 64]) -> [u64; 64]
-    ensures { result ≡ map neighbours_named adverts.now }
+fn link_state_neighbours_named(adverts: &[Option<Advert>; 64]) -> [u64; 64]
+    ensures { result ≡ map neighbours_named_by_advert adverts.now }
 {
     let mut named = [0; 64];
     for origin in 0..64 {
-        named[origin] = neighbours_named(&adverts[origin]);
+        named[origin] = neighbours_named_by_advert(&adverts[origin]);
     }
     named
 }
 
 // The neighbours that an advert names, if there is one.
-fn neighbours_named(advert: &Option<Advert>) -> u64
-    ensures { result ≡ neighbours_named advert.now }
+fn neighbours_named_by_advert(advert: &Option<Advert>) -> u64
+    ensures { result ≡ neighbours_named_by_advert advert.now }
 {
     match advert {
         None => 0,

@@ -1,5 +1,5 @@
 ghost use Rattle.std.specs.Prelude.{◌≡◌, ◌≢◌, ◌<◌, ◌||◌, ℕ, false};
-ghost use Rattle.failover.specs.Exports.{has_link, is_failover_link_of, no_links, with_link};
+ghost use Rattle.failover.specs.Exports.{has_route_link, is_failover_link_of, no_links, with_link};
 
 use base::{MAX_SWITCHES, has, only_if};
 use std::marker::Model;
@@ -34,7 +34,7 @@ impl DownSet {
     /// The empty set.
     pub fn empty() -> DownSet
         ensures value { result ≡ no_links }
-        ensures links { (x y : ℕ) → has_link result x y ≡ false }
+        ensures links { (x y : ℕ) → has_route_link result x y ≡ false }
     {
         DownSet { masks: [0; 64] }
     }
@@ -46,7 +46,7 @@ impl DownSet {
         requires second { two < 64 }
         ensures value { self.new ≡ with_link self.old one two }
         ensures links { (x y : ℕ) →
-            has_link self.new x y ≡ (has_link self.old x y || is_failover_link_of one two x y) }
+            has_route_link self.new x y ≡ (has_route_link self.old x y || is_failover_link_of one two x y) }
     {
         let low = one.min(two);
         let high = one.max(two);
@@ -55,7 +55,7 @@ impl DownSet {
 
     /// Whether the link of these two switches, in either order, is in the set.
     pub fn has(&self, one: u32, two: u32) -> bool
-        ensures link { result ≡ has_link self.now one two }
+        ensures link { result ≡ has_route_link self.now one two }
         ensures set { IsDownLinkSet self.now }
     {
         let masks = &self.masks;

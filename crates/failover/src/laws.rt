@@ -1,4 +1,4 @@
-ghost use Rattle.failover.specs.Laws.{AdvertDatabaseLaws, LinksAtLaws, FailoverLinkSetLaws, RouteLaws};
+ghost use Rattle.failover.specs.Laws.{AdvertDatabaseLaws, AdvertKnownLinkLaws, FailoverLinkSetLaws, RouteLaws};
 
 /// What a database has at first, and what it has after a list of adverts: of each origin the
 /// newest, of equally new ones the first.
@@ -14,7 +14,7 @@ pub fn link_set_laws()
 /// A link is known exactly if both ends name each other and it isn't down; a target is isolated
 /// exactly if it is another switch and no known link ends at it.
 pub fn link_laws()
-    ensures { LinksAtLaws }
+    ensures { AdvertKnownLinkLaws }
 {}
 
 /// The function that computes a route returns the defined one, and there is no other; a path has

@@ -1,5 +1,5 @@
 ghost use Rattle.std.specs.Prelude.{◌≡◌, ◌<◌, ◌∷◌, IfSome, IfNone};
-ghost use Rattle.failover.specs.Exports.{AreBalls, IsLinksAway, IsBallEdge, IsOutOfReach, IsRouteList, path_by_balls, first_route, advertised_links_of_each, route_to, grown_ball};
+ghost use Rattle.failover.specs.Exports.{AreBalls, IsRouteLinksAway, IsBallEdge, IsOutOfReach, IsRouteList, path_by_balls, first_route, advertised_links_of_each, route_to, grown_ball};
 
 use crate::down_set::DownSet;
 use crate::links::links_within;
@@ -35,7 +35,7 @@ fn route_to(neighbours: &[u64; 64], down: &DownSet, from: u32, target: u32) -> O
     }
     let mut balls = [0; 64];
     let distance = distance(neighbours, down, &mut balls, from, target)?;
-    Some(walk(neighbours, down, &balls, distance, from))
+    Some(walk_failover_route(neighbours, down, &balls, distance, from))
 }
 
 // How many links `from` is away from the target; `None` if no path leads there. At each place k
@@ -49,7 +49,7 @@ fn distance(
 ) -> Option<usize>
     requires from { from < 64 }
     requires target { target < 64 }
-    ensures away { IfSome result (λ k. IsLinksAway (advertised_links_of_each neighbours.now down.now) target k from) }
+    ensures away { IfSome result (λ k. IsRouteLinksAway (advertised_links_of_each neighbours.now down.now) target k from) }
     ensures balls { IfSome result (AreBalls (advertised_links_of_each neighbours.now down.now) target balls.new) }
     ensures none { IfNone result (IsOutOfReach (advertised_links_of_each neighbours.now down.now) target from) }
 {
@@ -65,7 +65,7 @@ fn distance(
         if links_within(neighbours, down, from, ball) != 0 {
             return Some(k + 1);
         }
-        let wide = wider(neighbours, down, ball, edge);
+        let wide = widened_route_ball(neighbours, down, ball, edge);
         if wide == ball {
             return None;
         }
@@ -77,7 +77,7 @@ fn distance(
 
 // The ball, and the switches to which a switch of it has a link. Only the edge is searched, because
 // the links of all others stay within the ball.
-fn wider(neighbours: &[u64; 64], down: &DownSet, ball: u64, edge: u64) -> u64
+fn widened_route_ball(neighbours: &[u64; 64], down: &DownSet, ball: u64, edge: u64) -> u64
     requires { IsBallEdge (advertised_links_of_each neighbours.now down.now) ball edge }
     ensures { result ≡ grown_ball (advertised_links_of_each neighbours.now down.now) ball }
 {
@@ -92,7 +92,7 @@ fn wider(neighbours: &[u64; 64], down: &DownSet, ball: u64, edge: u64) -> u64
 }
 
 // The route from `from`: each time to the least switch that is one link nearer.
-fn walk(
+fn walk_failover_route(
     neighbours: &[u64; 64],
     down: &DownSet,
     balls: &[u64; 64],

@@ -6,7 +6,7 @@ use Rattle.std.specs.Str.Parse.{digits_value}
 use Rattle.std.proofs.lemmas.Bool.{and_cases, and_parts, cases_lt, both_ways, not-false, not-true}
 use Rattle.std.proofs.lemmas.List.Quantifiers.{position-Some}
 use Rattle.std.proofs.lemmas.List.Splits.{slice_split_at}
-use Rattle.five_tuple.specs.Exports.{IsByteBefore, LacksAddressByte, address_from, address_of, has_leading_zero, number_up_to, text_parts_round_byte}
+use Rattle.five_tuple.specs.Exports.{IsAddressByteBefore, LacksAddressByte, address_from_bytes, address_of, has_leading_zero, number_up_to, text_parts_round_byte}
 use Rattle.five_tuple.proofs.HeaderWrittenNumbers.{accepted, leading_zero, no_digit, other_byte, too_large}
 use Rattle.five_tuple.proofs.HeaderPartReadings.{address_reads}
 use Rattle.five_tuple.proofs.HeaderSplitParts.{digits_are_one_part, digits_lack, parts_at, parts_none}
@@ -119,7 +119,7 @@ pub byte_before : (text : List ℕ) (place number : ℕ) → place < length text
     → list_all is_ascii_digit (take place text) ≡ true → get_or text place 0 ≡ 46
     → (nat_lt 0 (length (take place text)) && not (has_leading_zero (take place text))) ≡ true
     → number ≡ digits_value 10 (take place text) → number ≤ 255
-    → IsByteBefore text number (drop (place + 1) text)
+    → IsAddressByteBefore text number (drop (place + 1) text)
 byte_before text place number within digits dot plain value small = record {
   part = take place text;
   parts = dotted text place within digits dot;
@@ -132,10 +132,10 @@ byte_before text place number within digits dot plain value small = record {
 
 -- ---- four parts
 
-no_second : (x z w : Option ℕ) → address_from x None z w ≡ None
+no_second : (x z w : Option ℕ) → address_from_bytes x None z w ≡ None
 no_second x z w = search rules
 
-no_third : (x y w : Option ℕ) → address_from x y None w ≡ None
+no_third : (x y w : Option ℕ) → address_from_bytes x y None w ≡ None
 no_third x y w = search rules
 
 -- four parts are no address where one of the first three is no number
@@ -143,23 +143,23 @@ pub lacks_first : (text : List ℕ) → LacksAddressByte text → None ≡ addre
 unfolding address_of
 lacks_first text lacks = search rules
 
-pub lacks_second : (text rest : List ℕ) (first : ℕ) → IsByteBefore text first rest
+pub lacks_second : (text rest : List ℕ) (first : ℕ) → IsAddressByteBefore text first rest
     → LacksAddressByte rest → None ≡ address_of text
 unfolding address_of
 lacks_second text rest first before lacks = search (rules, no_second)
 
-pub lacks_third : (text rest left : List ℕ) (first second : ℕ) → IsByteBefore text first rest
-    → IsByteBefore rest second left → LacksAddressByte left → None ≡ address_of text
+pub lacks_third : (text rest left : List ℕ) (first second : ℕ) → IsAddressByteBefore text first rest
+    → IsAddressByteBefore rest second left → LacksAddressByte left → None ≡ address_of text
 unfolding address_of
 lacks_third text rest left first second before then lacks = search (rules, no_third)
 
 -- the last part is read as a number
 pub four_parts : (text rest left end : List ℕ) (first second third : ℕ)
-    → IsByteBefore text first rest → IsByteBefore rest second left → IsByteBefore left third end
-    → address_of text ≡ address_from (Some first) (Some second) (Some third) (number_up_to 255 end)
+    → IsAddressByteBefore text first rest → IsAddressByteBefore rest second left → IsAddressByteBefore left third end
+    → address_of text ≡ address_from_bytes (Some first) (Some second) (Some third) (number_up_to 255 end)
 four_parts text rest left end first second third a b c =
     address_reads text a.part b.part c.part end rest left a.parts b.parts c.parts
-    ∙ ap (λ n. address_from n (number_up_to 255 b.part) (number_up_to 255 c.part)
+    ∙ ap (λ n. address_from_bytes n (number_up_to 255 b.part) (number_up_to 255 c.part)
     (number_up_to 255 end)) a.number
-    ∙ ap (λ n. address_from (Some first) n (number_up_to 255 c.part) (number_up_to 255 end))
-    b.number ∙ ap (λ n. address_from (Some first) (Some second) n (number_up_to 255 end)) c.number
+    ∙ ap (λ n. address_from_bytes (Some first) n (number_up_to 255 c.part) (number_up_to 255 end))
+    b.number ∙ ap (λ n. address_from_bytes (Some first) (Some second) n (number_up_to 255 end)) c.number

@@ -1,14 +1,14 @@
 -- What a reader of parts finds that takes them off one at a time and reads the last as a number.
 use Rattle.std.proofs.Common.{◌∷◌, ◌≡◌, List, None, Option, inl, inr, refl, sym, ℕ, rules}
-use Rattle.five_tuple.specs.Exports.{address_from, address_of, block_from, address_block_of_parts, number_up_to, text_parts_round_byte, range_from, range_of_parts}
+use Rattle.five_tuple.specs.Exports.{address_from_bytes, address_of, block_from, address_block_of_parts, number_up_to, text_parts_round_byte, range_from, range_of_parts}
 use Rattle.five_tuple.proofs.HeaderSplitParts.{last_part}
 
-no_last : (x y z : Option ℕ) → address_from x y z None ≡ None
+no_last : (x y z : Option ℕ) → address_from_bytes x y z None ≡ None
 no_last x y z = search rules
 
 pub address_reads : (text a b c d r s : List ℕ) → text_parts_round_byte 46 text ≡ a ∷ text_parts_round_byte 46 r
     → text_parts_round_byte 46 r ≡ b ∷ text_parts_round_byte 46 s → text_parts_round_byte 46 s ≡ c ∷ text_parts_round_byte 46 d
-    → address_of text ≡ address_from (number_up_to 255 a) (number_up_to 255 b) (number_up_to 255 c)
+    → address_of text ≡ address_from_bytes (number_up_to 255 a) (number_up_to 255 b) (number_up_to 255 c)
     (number_up_to 255 d)
 unfolding address_of
 address_reads text a b c d r s e f g = rw (e, f, g) (elim (last_part 46 255 d refl) [

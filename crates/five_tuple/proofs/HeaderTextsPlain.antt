@@ -6,29 +6,29 @@ use Rattle.std.proofs.lemmas.Bool.{cond_both, or_left}
 use Rattle.std.proofs.lemmas.List.Elements.{All-append, All-cons, All-weaker}
 use Rattle.std.proofs.lemmas.List.Sums.{AllPass-from_list_all}
 use Rattle.five_tuple.specs.declared.matching.Proto.{Proto}
-use Rattle.five_tuple.specs.Exports.{AddressBlock, IsAddressBlock, IsPortRange, IsProtocol, PortRangeValue, address_text, is_plain_field_char, prefix_text, proto_number_text, proto_text, range_text}
+use Rattle.five_tuple.specs.Exports.{AddressBlock, IsAddressBlock, IsPortRange, IsProtocol, PortRangeValue, address_text, is_plain_tuple_char, prefix_text, proto_number_text, proto_text, range_text}
 use Rattle.five_tuple.proofs.HeaderTextRoundTrip.{decimal_is_digits}
 
 abbrev IsPlain : List ℕ → Type 0
-IsPlain text = AllPass is_plain_field_char text
+IsPlain text = AllPass is_plain_tuple_char text
 
 -- a text whose characters are tested one by one
-plain_tested : (text : List ℕ) → list_all is_plain_field_char text ≡ true → IsPlain text
-plain_tested text tested = AllPass-from_list_all is_plain_field_char text tested
+plain_tested : (text : List ℕ) → list_all is_plain_tuple_char text ≡ true → IsPlain text
+plain_tested text tested = AllPass-from_list_all is_plain_tuple_char text tested
 
-digit_is_plain : (c : ℕ) → is_ascii_digit c ≡ true → is_plain_field_char c ≡ true
+digit_is_plain : (c : ℕ) → is_ascii_digit c ≡ true → is_plain_tuple_char c ≡ true
 digit_is_plain c digit = or_left _ _ (or_left _ _ (or_left _ _ (or_left _ _ digit)))
 
 pub plain_number : (n : ℕ) → n < 2 ^ 64 → IsPlain (decimal n)
 plain_number n fits =
-    All-weaker (λ c. is_ascii_digit c ≡ true) (λ c. is_plain_field_char c ≡ true) digit_is_plain
+    All-weaker (λ c. is_ascii_digit c ≡ true) (λ c. is_plain_tuple_char c ≡ true) digit_is_plain
     (decimal n) (AllPass-from_list_all is_ascii_digit (decimal n) (decimal_is_digits n fits))
 
 -- two texts and the byte between them
-plain_pair : (byte : ℕ) (xs ys : List ℕ) → is_plain_field_char byte ≡ true → IsPlain xs → IsPlain ys
+plain_pair : (byte : ℕ) (xs ys : List ℕ) → is_plain_tuple_char byte ≡ true → IsPlain xs → IsPlain ys
     → IsPlain (xs ++ (byte ∷ ys))
-plain_pair byte xs ys between left right = All-append (λ c. is_plain_field_char c ≡ true) xs
-    (byte ∷ ys) left (All-cons (λ c. is_plain_field_char c ≡ true) byte ys between right)
+plain_pair byte xs ys between left right = All-append (λ c. is_plain_tuple_char c ≡ true) xs
+    (byte ∷ ys) left (All-cons (λ c. is_plain_tuple_char c ≡ true) byte ys between right)
 
 pub plain_address : (a : ℕ) → a < 2 ^ 32 → IsPlain (address_text a)
 unfolding address_text

@@ -6,7 +6,7 @@ use Rattle.std.proofs.lemmas.Bool.{cases_lt}
 use Rattle.std.proofs.lemmas.Nat.{mod-pow-add}
 use Rattle.std.proofs.lemmas.Nat.Bits.{bit_at-trailing_zeros}
 use lib.Count.{count_trailing_zeros}
-use Rattle.five_tuple.specs.Exports.{Block, IsAlignedPortBlock, IsPortCover, IsPortRangeCover, IsLargestPortBlock, IsPortRange, PortRangeValue, blocks_from, cover_of, port_block_fits_at, largest_port_exponent}
+use Rattle.five_tuple.specs.Exports.{Block, IsAlignedPortBlock, IsPortCover, IsPortRangeCover, IsLargestPortBlock, IsPortRange, PortRangeValue, port_blocks_from, cover_of, port_block_fits_at, largest_port_block_exponent}
 use Rattle.five_tuple.proofs.PortCovers.{exponent_small, aligned_down, exact, disjoint, ascending, masked, few, same_cover}
 
 -- ---- the function and the relation
@@ -27,21 +27,21 @@ larger : (k first high e : ℕ) (b : Bool) → port_block_fits_at first high (su
 larger k first high e b is l = search (rules, block_test)
 
 largest_is : (k first high : ℕ) → first ≤ high
-    → IsLargestUpTo k first high (largest_port_exponent k first high)
+    → IsLargestUpTo k first high (largest_port_block_exponent k first high)
 largest_is zero first high h = search (rules, mod-one)
 largest_is (suc k) first high h = search (rules, largest_is k first high h)
 
 largest_of_all : (first high : ℕ) → first ≤ high → high < 2 ^ 16
-    → IsLargestPortBlock first high (largest_port_exponent 16 first high)
+    → IsLargestPortBlock first high (largest_port_block_exponent 16 first high)
 largest_of_all first high h bound = let l = largest_is 16 first high h in record {
   block = l.block;
   largest = λ other block. l.largest other (exponent_small first high other block bound) block;
 }
 
 covers_from : (most low high : ℕ) → high < 2 ^ 16 → high + 1 ≤ low + most
-    → IsPortCover low high (blocks_from most low high)
+    → IsPortCover low high (port_blocks_from most low high)
 covers_from zero low high bound enough = omega arith
-covers_from (suc most) low high bound enough = let e = largest_port_exponent 16 low high in
+covers_from (suc most) low high bound enough = let e = largest_port_block_exponent 16 low high in
     elim (cases_lt high low) [
       | inl past ↦ rw (lt-ltb high low past) past
       | inr within ↦ rw (le-ltb high low within) (

@@ -8,7 +8,7 @@ use Rattle.std.proofs.lemmas.List.Elements.{All-cons}
 use Rattle.std.proofs.lemmas.List.Kept.{AllPairs-cons}
 use Rattle.std.proofs.lemmas.Nat.{and_le_l, mod-mul-add, mod-pow-add, pow_below, shr_split}
 use Rattle.std.proofs.lemmas.Nat.Bits.{and_high_mask}
-use Rattle.five_tuple.specs.Exports.{ArePortBlocksApart, IsAlignedPortBlock, IsPortCover, IsLargestPortBlock, IsPortBlock, block_holds}
+use Rattle.five_tuple.specs.Exports.{AreTuplePortBlocksApart, IsAlignedPortBlock, IsPortCover, IsLargestPortBlock, IsPortBlock, block_holds}
 
 pub exponent_small : (first high e : ℕ) → IsAlignedPortBlock first high e → high < 2 ^ 16 → e ≤ 16
 exponent_small first high e b h = elim (cases_lt 16 e) [
@@ -68,16 +68,16 @@ ascending low high (b ∷ bs) (e, l, same, rest) =
     search (rules, AllPairs-cons, from_low, ascending (low + 2 ^ e) high bs rest)
 
 apart : (first high e : ℕ) → IsAlignedPortBlock first high e → high < 2 ^ 16 → (b : ℕ × ℕ)
-    → first + 2 ^ e ≤ b.0 → ArePortBlocksApart (first, 2 ^ 16 - 2 ^ e) b
+    → first + 2 ^ e ≤ b.0 → AreTuplePortBlocksApart (first, 2 ^ 16 - 2 ^ e) b
 apart first high e block h b above port p held other =
     let below = and_parts (leb first port) (ltb port (first + 2 ^ e))
     (sym (holds_is port first e block.aligned (exponent_small first high e block h) p) ∙ held) in
     omega (arith, ltb-true, eqb-true (bit_and port b.1) b.0 other, and_le_l port b.1)
 
 pub disjoint : (low high : ℕ) (xs : List (ℕ × ℕ)) → IsPortCover low high xs → high < 2 ^ 16
-    → AllPairs ArePortBlocksApart xs
+    → AllPairs AreTuplePortBlocksApart xs
 disjoint low high [] c h = λ i j d u k. absurd (omega arith)
-disjoint low high (b ∷ bs) (e, l, same, rest) h = AllPairs-cons ArePortBlocksApart b bs
+disjoint low high (b ∷ bs) (e, l, same, rest) h = AllPairs-cons AreTuplePortBlocksApart b bs
     (λ k d u. rw same (apart low high e l.block h _ (from_low (low + 2 ^ e) high bs rest k d u)))
     (disjoint (low + 2 ^ e) high bs rest h)
 

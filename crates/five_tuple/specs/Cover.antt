@@ -20,13 +20,13 @@ abbrev pub block_holds : ℕ → Block → Bool
 block_holds port block = bit_and port block.1 == block.0
 
 -- no port is in both
-abbrev pub ArePortBlocksApart : Block → Block → Type 0
-ArePortBlocksApart a b =
+abbrev pub AreTuplePortBlocksApart : Block → Block → Type 0
+AreTuplePortBlocksApart a b =
     (port : ℕ) → port < 2 ^ 16 → IsTrue (block_holds port a) → IsTrue (block_holds port b) → ⊥
 
 -- the block of 2 ^ exponent ports that begins at `first`
-abbrev pub port_block_at : ℕ → ℕ → Block
-port_block_at first exponent = (first, 2 ^ 16 - 2 ^ exponent)
+abbrev pub port_range_block_at : ℕ → ℕ → Block
+port_range_block_at first exponent = (first, 2 ^ 16 - 2 ^ exponent)
 
 -- ---- the cover of a range
 
@@ -36,22 +36,22 @@ port_block_fits_at first high exponent =
     (first % 2 ^ exponent == 0) && nat_le (first + 2 ^ exponent) (high + 1)
 
 -- the largest such exponent, of those up to this one
-abbrev pub largest_port_exponent : ℕ → ℕ → ℕ → ℕ
-largest_port_exponent zero first high = 0
-largest_port_exponent (suc exponent) first high =
-    if port_block_fits_at first high (suc exponent) then suc exponent else largest_port_exponent exponent first high
+abbrev pub largest_port_block_exponent : ℕ → ℕ → ℕ → ℕ
+largest_port_block_exponent zero first high = 0
+largest_port_block_exponent (suc exponent) first high =
+    if port_block_fits_at first high (suc exponent) then suc exponent else largest_port_block_exponent exponent first high
 
 -- at most this many blocks from `low` on, each the largest that begins where the one before it
 -- ends, until no port is left
-abbrev pub blocks_from : ℕ → ℕ → ℕ → List Block
-blocks_from zero low high = []
-blocks_from (suc most) low high =
-    if nat_lt high low then [] else (let exponent = largest_port_exponent 16 low high in
-    port_block_at low exponent ∷ blocks_from most (low + 2 ^ exponent) high)
+abbrev pub port_blocks_from : ℕ → ℕ → ℕ → List Block
+port_blocks_from zero low high = []
+port_blocks_from (suc most) low high =
+    if nat_lt high low then [] else (let exponent = largest_port_block_exponent 16 low high in
+    port_range_block_at low exponent ∷ port_blocks_from most (low + 2 ^ exponent) high)
 
 -- the blocks of a range; there are at most as many as ports
 unfoldable pub cover_of : PortRangeValue → List Block
-cover_of range = blocks_from (range.high + 1 - range.low) range.low range.high
+cover_of range = port_blocks_from (range.high + 1 - range.low) range.low range.high
 
 -- ---- the same, as a relation
 
@@ -69,5 +69,5 @@ pub record IsLargestPortBlock (first high exponent : ℕ) : Type 0 where
 abbrev pub IsPortCover : ℕ → ℕ → List Block → Type 0
 IsPortCover low high [] = high < low
 IsPortCover low high (block ∷ more) =
-    (exponent : ℕ) × IsLargestPortBlock low high exponent × (block ≡ port_block_at low exponent)
+    (exponent : ℕ) × IsLargestPortBlock low high exponent × (block ≡ port_range_block_at low exponent)
     × IsPortCover (low + 2 ^ exponent) high more

@@ -4,12 +4,12 @@ use Rattle.std.specs.Prelude.{◌<◌, ◌^◌, ◌↔◌, ◌≡◌, ◌≤◌,
 use Rattle.std.specs.List.{AllPass, list_any}
 use Rattle.five_tuple.specs.declared.header.Header.{Header}
 use Rattle.five_tuple.specs.declared.matching.Proto.{Proto}
-use Rattle.five_tuple.specs.Cover.{Block, IsPortBlock, block_holds, ArePortBlocksApart, cover_of, IsPortCover}
+use Rattle.five_tuple.specs.Cover.{Block, IsPortBlock, block_holds, AreTuplePortBlocksApart, cover_of, IsPortCover}
 use Rattle.five_tuple.specs.Header.{IsHeader, number_of, AddressBlock, PortRangeValue, range_matches}
 use Rattle.five_tuple.specs.SoundFields.{IsAddressBlock, IsPortRange, IsProtocol}
 use Rattle.five_tuple.specs.Printing.{address_text, proto_number_text}
 use Rattle.five_tuple.specs.HeaderNumbers.{header_numbered, header_eq}
-use Rattle.five_tuple.specs.RowPrinting.{is_plain_field_char, prefix_text, range_text, proto_text}
+use Rattle.five_tuple.specs.RowPrinting.{is_plain_tuple_char, prefix_text, range_text, proto_text}
 
 -- each number below 2 ^ 104 belongs to exactly one header
 pub record HeaderLaws : Type 0 where
@@ -25,7 +25,7 @@ pub record IsPortRangeCover (range : PortRangeValue) (blocks : List Block) : Typ
   -- they have exactly its ports, each in one block
   pub exact : (port : ℕ) → port < 2 ^ 16
       → list_any (block_holds port) blocks ≡ range_matches range port
-  pub disjoint : AllPairs ArePortBlocksApart blocks
+  pub disjoint : AllPairs AreTuplePortBlocksApart blocks
   pub ascending : AllPairs (λ a b. a.0 < b.0) blocks
   pub masked : All IsPortBlock blocks
   pub some : 0 < length blocks
@@ -41,10 +41,10 @@ pub record PortCoverLaws : Type 0 where
       → IsPortCover range.low range.high blocks → blocks ≡ cover_of range
 
 -- each printed form has only plain characters
-pub record PlainFieldTextLaws : Type 0 where
-  pub number : (n : ℕ) → n < 2 ^ 64 → AllPass is_plain_field_char (decimal n)
-  pub address : (a : ℕ) → a < 2 ^ 32 → AllPass is_plain_field_char (address_text a)
-  pub prefix : (p : AddressBlock) → IsAddressBlock p → AllPass is_plain_field_char (prefix_text p)
-  pub range : (r : PortRangeValue) → IsPortRange r → AllPass is_plain_field_char (range_text r)
-  pub proto_number : (n : ℕ) → n < 2 ^ 8 → AllPass is_plain_field_char (proto_number_text n)
-  pub proto : (p : Proto) → IsProtocol p → AllPass is_plain_field_char (proto_text p)
+pub record PlainTupleTextLaws : Type 0 where
+  pub number : (n : ℕ) → n < 2 ^ 64 → AllPass is_plain_tuple_char (decimal n)
+  pub address : (a : ℕ) → a < 2 ^ 32 → AllPass is_plain_tuple_char (address_text a)
+  pub prefix : (p : AddressBlock) → IsAddressBlock p → AllPass is_plain_tuple_char (prefix_text p)
+  pub range : (r : PortRangeValue) → IsPortRange r → AllPass is_plain_tuple_char (range_text r)
+  pub proto_number : (n : ℕ) → n < 2 ^ 8 → AllPass is_plain_tuple_char (proto_number_text n)
+  pub proto : (p : Proto) → IsProtocol p → AllPass is_plain_tuple_char (proto_text p)

@@ -8,8 +8,8 @@ use Rattle.five_tuple.specs.Header.{AddressBlock, PortRangeValue}
 use Rattle.five_tuple.specs.Printing.{address_text, proto_number_text}
 
 -- a digit, a lower-case letter, a dash, a dot or a slash: none of which ends or quotes a CSV field
-abbrev pub is_plain_field_char : ℕ → Bool
-is_plain_field_char c = is_ascii_digit c || is_ascii_lowercase c || c == 45 || c == 46 || c == 47
+abbrev pub is_plain_tuple_char : ℕ → Bool
+is_plain_tuple_char c = is_ascii_digit c || is_ascii_lowercase c || c == 45 || c == 46 || c == 47
 
 -- every address, or the block's address, a slash and its length (RFC 4632, section 3.1)
 unfoldable pub prefix_text : AddressBlock → List ℕ

@@ -30,12 +30,12 @@ abbrev pub text_parts_round_byte : ℕ → List ℕ → List (List ℕ)
 text_parts_round_byte byte text = slice_split (λ b. b == byte) text
 
 -- the address of four bytes, the highest first
-abbrev pub address_from : Option ℕ → Option ℕ → Option ℕ → Option ℕ → Option ℕ
-address_from (Some a) (Some b) (Some c) (Some d) = Some (a * 2 ^ 24 + b * 2 ^ 16 + c * 2 ^ 8 + d)
-address_from _ _ _ _ = None
+abbrev pub address_from_bytes : Option ℕ → Option ℕ → Option ℕ → Option ℕ → Option ℕ
+address_from_bytes (Some a) (Some b) (Some c) (Some d) = Some (a * 2 ^ 24 + b * 2 ^ 16 + c * 2 ^ 8 + d)
+address_from_bytes _ _ _ _ = None
 
 -- the text begins with this number from 0 to 255 and a dot, and `rest` follows the dot
-pub record IsByteBefore (text : List ℕ) (byte : ℕ) (rest : List ℕ) : Type 0 where
+pub record IsAddressByteBefore (text : List ℕ) (byte : ℕ) (rest : List ℕ) : Type 0 where
   pub part : List ℕ
   pub parts : text_parts_round_byte 46 text ≡ part ∷ text_parts_round_byte 46 rest
   pub number : number_up_to 255 part ≡ Some byte
@@ -48,7 +48,7 @@ LacksAddressByte text = (part next : List ℕ) (others : List (List ℕ))
 -- four parts, each a byte
 abbrev pub address_of_parts : List (List ℕ) → Option ℕ
 address_of_parts (a ∷ b ∷ c ∷ d ∷ []) =
-    address_from (number_up_to 255 a) (number_up_to 255 b) (number_up_to 255 c) (number_up_to 255 d)
+    address_from_bytes (number_up_to 255 a) (number_up_to 255 b) (number_up_to 255 c) (number_up_to 255 d)
 address_of_parts _ = None
 
 -- four numbers from 0 to 255 joined by dots, the highest byte first
@@ -70,7 +70,8 @@ address_block_of_parts (address ∷ []) = block_from (address_of address) (Some 
 address_block_of_parts (address ∷ len ∷ []) = block_from (address_of address) (number_up_to 32 len)
 address_block_of_parts _ = None
 
--- reads `any`; an address, which is a block by itself; or an address, a slash and the block's length
+-- reads `any`; an address, which is a block by itself; or an address, a slash and the block's
+-- length
 unfoldable pub prefix_of : List ℕ → Option AddressBlock
 prefix_of text =
     if bytes_eq text (codes "any") then Some (address_block_round 0 0) else

@@ -28,12 +28,12 @@ mod write;
 
 pub use header::{Fields, Header, header_laws};
 pub use matching::{PortRange, Prefix, Proto};
-pub use port_blocks::{Blocks, PortBlock, count_port_blocks, cover, cover_laws};
+pub use port_blocks::{Blocks, PortBlock, count_tuple_port_blocks, cover, tuple_port_cover_laws};
 pub use read::{
-    read_address, read_fields, read_number, read_port, read_prefix, read_proto, read_proto_number,
-    read_range,
+    read_address, read_number, read_port, read_prefix, read_proto, read_proto_number, read_range,
+    read_tuple_fields,
 };
 pub use write::{
-    Address, Protocol, printed_fields_are_plain, printed_fields_are_read_back, write_address,
+    Address, Protocol, tuple_fields_print_plain, tuple_fields_read_back, write_address,
     write_prefix, write_proto, write_range,
 };

@@ -10,7 +10,7 @@ pub type PortBlock = (u16, u16);
 
 /// The exponent of the largest power of two whose aligned block begins at `first` and ends at or
 /// below `high`.
-fn largest_port_block(first: u32, high: u32) -> u32
+fn largest_tuple_port_block(first: u32, high: u32) -> u32
     requires ordered { first ≤ high }
     requires high { high < 2 ^ 16 }
     ensures largest { IsLargestPortBlock first high result }
@@ -44,7 +44,7 @@ impl Iterator for Blocks {
         if self.next > self.high {
             return None;
         }
-        let size: u32 = 1 << largest_port_block(self.next, self.high);
+        let size: u32 = 1 << largest_tuple_port_block(self.next, self.high);
         let block = (self.next as u16, (65_536 - size) as u16);
         self.next += size;
         Some(block)
@@ -77,10 +77,10 @@ pub fn cover(alloc: Global, range: &PortRange) -> Result<Vec<PortBlock>, AllocEr
     ensures cover { IfOk result (λ v. v.items ≡ cover_of range.now) }
     ensures blocks { IfOk result (λ v. IsPortRangeCover range.now v.items) }
 {
-    collect_port_blocks(alloc, range)
+    collect_tuple_port_blocks(alloc, range)
 }
 
-fn collect_port_blocks(alloc: Global, range: &PortRange) -> Result<Vec<PortBlock>, AllocError>
+fn collect_tuple_port_blocks(alloc: Global, range: &PortRange) -> Result<Vec<PortBlock>, AllocError>
     ensures blocks { IfOk result (λ v. v.items ≡ cover_of range.now) }
     ensures sound { IsPortRange range.now }
 {
@@ -88,7 +88,7 @@ fn collect_port_blocks(alloc: Global, range: &PortRange) -> Result<Vec<PortBlock
 }
 
 /// The number of blocks that `cover` lists, without making a list.
-pub fn count_port_blocks(range: &PortRange) -> u32
+pub fn count_tuple_port_blocks(range: &PortRange) -> u32
     ensures count { result ≡ length (cover_of range.now) }
     ensures few { result ≤ 30 }
 {
@@ -97,6 +97,6 @@ pub fn count_port_blocks(range: &PortRange) -> u32
 
 /// The blocks of a range are exactly its ports, and each is the largest that begins at the first
 /// port not yet covered.
-pub fn cover_laws()
+pub fn tuple_port_cover_laws()
     ensures { PortCoverLaws }
 {}

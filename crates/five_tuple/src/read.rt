@@ -1,5 +1,5 @@
 ghost use Rattle.std.specs.Prelude.{◌≡◌, ◌≤◌, ◌<◌, ◌^◌, ◌∷◌, [], ◌==◌, ◌&&◌, nat_lt, not, length, IfSome, MatchOption, position};
-ghost use Rattle.five_tuple.specs.Exports.{IsAddressBlock, IsByteBefore, IsPortRange, IsProtocol, LacksAddressByte, address_of, tuple_fields_from, has_leading_zero, number_up_to, tuple_fields_of, text_parts_round_byte, prefix_of, proto_number_of, proto_of, range_from, range_of};
+ghost use Rattle.five_tuple.specs.Exports.{IsAddressBlock, IsAddressByteBefore, IsPortRange, IsProtocol, LacksAddressByte, address_of, tuple_fields_from, has_leading_zero, number_up_to, tuple_fields_of, text_parts_round_byte, prefix_of, proto_number_of, proto_of, range_from, range_of};
 
 use crate::header::Fields;
 use crate::matching::{PortRange, Prefix, Proto};
@@ -40,7 +40,7 @@ fn has_leading_zero(text: &[u8]) -> bool
 }
 
 /// The place of the first `byte`; `None` if there is none.
-fn place_of(text: &[u8], byte: u8) -> Option<usize>
+fn place_in_tuple_text(text: &[u8], byte: u8) -> Option<usize>
     ensures { result ≡ position (λ b. b == byte) text.now }
 {
     text.iter().position(|b| *b == byte)
@@ -52,11 +52,11 @@ fn cut(text: &[u8], byte: u8) -> Option<(&[u8], &[u8])>
         (text_parts_round_byte byte text.now ≡ text.now ∷ [])
         (λ r. text_parts_round_byte byte text.now ≡ r.0.now ∷ text_parts_round_byte byte r.1.now) }
 {
-    let at = place_of(text, byte)?;
+    let at = place_in_tuple_text(text, byte)?;
     Some((&text[..at], &text[at + 1..]))
 }
 
-fn read_byte(text: &[u8]) -> Option<u8>
+fn read_tuple_byte(text: &[u8]) -> Option<u8>
     ensures { result ≡ number_up_to 255 text.now }
 {
     let number = read_number(text, 255)?;
@@ -73,7 +73,7 @@ pub fn read_port(text: &[u8]) -> Option<u16>
 }
 
 /// Whether there are digits, without a leading zero.
-fn are_plain_digits(digits: &[u8]) -> bool
+fn are_tuple_field_digits(digits: &[u8]) -> bool
     ensures { result ≡ (nat_lt 0 (length digits.now) && not (has_leading_zero digits.now)) }
 {
     !digits.is_empty() && !has_leading_zero(digits)
@@ -82,7 +82,7 @@ fn are_plain_digits(digits: &[u8]) -> bool
 /// The number from 0 to 255 before the first dot, and what follows the dot; `None` if there is no
 /// dot, or no such number before it.
 fn address_byte_before_dot(text: &[u8]) -> Option<(u8, &[u8])>
-    ensures { MatchOption result (LacksAddressByte text.now) (λ r. IsByteBefore text.now r.0 r.1.now) }
+    ensures { MatchOption result (LacksAddressByte text.now) (λ r. IsAddressByteBefore text.now r.0 r.1.now) }
 {
     let mut number: u32 = 0;
     for (place, byte) in text.iter().enumerate() {
@@ -90,7 +90,7 @@ fn address_byte_before_dot(text: &[u8]) -> Option<(u8, &[u8])>
             if *byte != b'.' {
                 return None;
             }
-            if !are_plain_digits(&text[..place]) {
+            if !are_tuple_field_digits(&text[..place]) {
                 return None;
             }
             return Some((number as u8, &text[place + 1..]));
@@ -110,7 +110,7 @@ pub fn read_address(text: &[u8]) -> Option<u32>
     let (first, rest) = address_byte_before_dot(text)?;
     let (second, rest) = address_byte_before_dot(rest)?;
     let (third, rest) = address_byte_before_dot(rest)?;
-    let fourth = read_byte(rest)?;
+    let fourth = read_tuple_byte(rest)?;
     Some(u32::from_be_bytes([first, second, third, fourth]))
 }
 
@@ -190,7 +190,7 @@ pub fn read_proto_number(text: &[u8]) -> Option<u8>
     if text == b"udp".as_slice() {
         return Some(17);
     }
-    read_byte(text)
+    read_tuple_byte(text)
 }
 
 /// Any protocol, written `any`, or one by its name or number; `None` for any other text.
@@ -209,7 +209,7 @@ pub fn read_proto(text: &[u8]) -> Option<Proto>
 /// The fields of a packet, each from its text; `None` if one of them can't be read.
 ///
 /// The addresses have no length, and the protocol isn't `any`.
-pub fn read_fields(
+pub fn read_tuple_fields(
     src: &[u8],
     dst: &[u8],
     sport: &[u8],

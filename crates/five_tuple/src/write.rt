@@ -2,7 +2,7 @@
 
 ghost use Rattle.std.specs.Prelude.{ℕ, ◌≡◌, ◌≤◌, ◌<◌, ◌^◌, Some, decimal, IfOk};
 ghost use Rattle.five_tuple.specs.declared.matching.Proto.{Proto};
-ghost use Rattle.five_tuple.specs.Exports.{AddressBlock, IsAddressBlock, IsPortRange, IsProtocol, PlainFieldTextLaws, PortRangeValue, address_of, address_text, fields_text, number_up_to, prefix_of, prefix_text, proto_number_of, proto_number_text, proto_of, proto_text, range_of, range_text};
+ghost use Rattle.five_tuple.specs.Exports.{AddressBlock, IsAddressBlock, IsPortRange, IsProtocol, PlainTupleTextLaws, PortRangeValue, address_of, address_text, fields_text, number_up_to, prefix_of, prefix_text, proto_number_of, proto_number_text, proto_of, proto_text, range_of, range_text};
 
 use crate::header::Fields;
 use crate::matching::{PortRange, Prefix, Proto};
@@ -148,7 +148,7 @@ pub fn write_proto(alloc: Global, proto: &Proto) -> Result<Vec<u8>, AllocError>
 }
 
 /// Each printed form is read back to what it prints: a law about the texts only.
-pub fn printed_fields_are_read_back()
+pub fn tuple_fields_read_back()
     ensures number { (most n : ℕ) → n ≤ most → n < 2 ^ 64 → number_up_to most (decimal n) ≡ Some n }
     ensures address { (a : ℕ) → a < 2 ^ 32 → address_of (address_text a) ≡ Some a }
     ensures prefix { (p : AddressBlock) → IsAddressBlock p → prefix_of (prefix_text p) ≡ Some p }
@@ -159,6 +159,6 @@ pub fn printed_fields_are_read_back()
 
 /// Each printed form has only digits, lower-case letters, dots, slashes and dashes: a field of a
 /// CSV file that needs no quotes.
-pub fn printed_fields_are_plain()
-    ensures { PlainFieldTextLaws }
+pub fn tuple_fields_print_plain()
+    ensures { PlainTupleTextLaws }
 {}

@@ -5,10 +5,10 @@ use Rattle.base.proofs.Exports.{All-append, All-cons, All-filter, All-head, All-
 use Rattle.five_tuple.specs.Exports.{header_eq}
 use Rattle.five_tuple.specs.declared.header.Header.{Header}
 use Rattle.base.specs.Exports.{has}
-use Rattle.meters.specs.Exports.{PortLeavings, Seen, meter_flow_records_of, meters_gone_after, gone_records, has_ended, is_meter_ended_within, kept_meters, meter_leaves_with, leaving_records, meter_port_leavings, meter_with_leavings, meters_after}
+use Rattle.meters.specs.Exports.{PortLeavings, Seen, meter_flow_records_of, meters_gone_after, gone_meter_records, has_ended, is_meter_ended_within, kept_meters, meter_leaves_with, leaving_records, meter_port_leavings, meter_with_leavings, meters_after}
 use Rattle.meters.proofs.MetersKept.{kept-append, kept-nothing, kept-one, kept_on}
 use Rattle.policy_rules.specs.declared.packet.Leaving.{Leaving}
-use Rattle.flow_export.specs.Counted.{FlowMeterLaws, IsFlowCounted, IsNewFlowMeter, NoFlowMeterLeaves, flow_left_with}
+use Rattle.flow_export.specs.Counted.{FlowMeterLaws, IsFlowCounted, IsNewFlowMeter, NoFlowMeterLeaves, flow_packet_count}
 use Rattle.flow_export.specs.Flows.{headers_of, flow_packets_of}
 
 -- ---- a meter that stays
@@ -23,10 +23,10 @@ one_more port h one rest count true is =
 one_more port h one rest count false is = omega (arith, is)
 
 packets_are : (port : ℕ) (h : Header) (left : PortLeavings)
-    → flow_packets_of (meter_port_leavings port left) h ≡ flow_left_with left port h
+    → flow_packets_of (meter_port_leavings port left) h ≡ flow_packet_count left port h
 packets_are port h [] = refl
 packets_are port h (one ∷ left) = one_more port h one (filter (λ o. o.0 == port) left)
-    (flow_left_with left port h) (one.0 == port) (packets_are port h left) ∙ sym (sum_by-cons
+    (flow_packet_count left port h) (one.0 == port) (packets_are port h left) ∙ sym (sum_by-cons
     (λ (two : ℕ × Leaving). cond ((two.0 == port) && header_eq two.1.header h) 1 0) one left)
 
 all_counted : (port : ℕ) (left : PortLeavings) (headers : List Header)
@@ -133,7 +133,7 @@ module _ (most ports : ℕ) (left : PortLeavings) (meters : List Seen) where
       (All-filter (λ meter. has ports meter.port) (IsNewFlowMeter most) meters new)
 
   counted : All (IsNewFlowMeter most) meters → NoFlowMeterLeaves ports left meters → All (IsFlowCounted left)
-      (gone_records ports left meters ++ flat_map meter_flow_records_of (kept_meters ports left meters))
+      (gone_meter_records ports left meters ++ flat_map meter_flow_records_of (kept_meters ports left meters))
   counted new none = rw (none_gone left own (none ∙ ap length (kept-nothing own))) (stayed new)
 
 pub laws_hold : FlowMeterLaws

@@ -7,7 +7,7 @@ use Rattle.five_tuple.specs.declared.header.Header.{Header}
 use Rattle.indexmap.specs.IndexMap.{insert_entry}
 use Rattle.meters.specs.declared.flows.FlowRecord.{FlowRecord}
 use Rattle.policy_rules.specs.declared.packet.Leaving.{Leaving}
-use Rattle.flow_export.specs.Counts.{count_of_header, flow_packet_counts}
+use Rattle.flow_export.specs.Counts.{flow_count_of_header, flow_packet_counts}
 use Rattle.flow_export.specs.Flows.{flows, headers_of, flow_packets_of}
 
 -- ---- equal headers
@@ -211,7 +211,7 @@ no_packets (one ∷ held) h none =
     sum_by-cons (λ (two : Leaving). cond (header_eq two.header h) 1 0) one held
     ∙ ap (λ b. cond b 1 0 + flow_packets_of held h) (apart h one.header parts.0) ∙ omega (arith, rest)
 
-pub count_is : (h : Header) (held : List Leaving) → count_of_header h (flow_packet_counts held) ≡ flow_packets_of held h
+pub count_is : (h : Header) (held : List Leaving) → flow_count_of_header h (flow_packet_counts held) ≡ flow_packets_of held h
 count_is h held =
     looked_up h (flow_packets_of held) (headers_of held) ∙ found (is_among h (headers_of held)) refl
   where
@@ -220,11 +220,11 @@ count_is h held =
     found false none = sym (no_packets held h none)
 
 -- no header has more packets than there are leavings
-pub count_few : (h : Header) (held : List Leaving) → count_of_header h (flow_packet_counts held) ≤ length held
+pub count_few : (h : Header) (held : List Leaving) → flow_count_of_header h (flow_packet_counts held) ≤ length held
 count_few h held = rw count_is (count_by-le-length (λ (one : Leaving). header_eq one.header h) held)
 
 pub counts_on : (held : List Leaving) (one : Leaving)
-    → insert_entry header_eq (flow_packet_counts held) one.header (count_of_header one.header (flow_packet_counts held) + 1)
+    → insert_entry header_eq (flow_packet_counts held) one.header (flow_count_of_header one.header (flow_packet_counts held) + 1)
     ≡ flow_packet_counts (held ++ one ∷ [])
 counts_on held one =
     let h = one.header in
@@ -254,7 +254,7 @@ records_are port held = recorded port (flow_packets_of held) (headers_of held)
 
 pub counts_after : (old new : List (Header × ℕ)) (held more : List Leaving) (one : Leaving)
     → old ≡ flow_packet_counts held
-    → new ≡ insert_entry header_eq old one.header (count_of_header one.header old + 1)
+    → new ≡ insert_entry header_eq old one.header (flow_count_of_header one.header old + 1)
     → more ≡ held ++ one ∷ [] → new ≡ flow_packet_counts more
 counts_after old new held more one old_is new_is more_is =
     cc (new_is, old_is, counts_on held one, more_is)

@@ -2,7 +2,7 @@
 use Rattle.std.specs.Prelude.{[], ◌&&◌, ◌++◌, ◌==◌, ◌≡◌, All, List, count_by, flat_map, length, ℕ}
 use Rattle.five_tuple.specs.Exports.{header_eq}
 use Rattle.five_tuple.specs.declared.header.Header.{Header}
-use Rattle.meters.specs.Exports.{PortLeavings, Seen, meter_flow_records_of, gone_records, kept_meters}
+use Rattle.meters.specs.Exports.{PortLeavings, Seen, meter_flow_records_of, gone_meter_records, kept_meters}
 use Rattle.meters.specs.declared.flows.FlowRecord.{FlowRecord}
 use Rattle.flow_export.specs.Flows.{IsFlowMeter}
 
@@ -12,12 +12,12 @@ pub record IsNewFlowMeter (most : ℕ) (meter : Seen) : Type 0 where
   pub empty : meter.held ≡ []
 
 -- how many packets left by the port with the header
-abbrev pub flow_left_with : PortLeavings → ℕ → Header → ℕ
-flow_left_with left port header = count_by (λ one. (one.0 == port) && header_eq one.1.header header) left
+abbrev pub flow_packet_count : PortLeavings → ℕ → Header → ℕ
+flow_packet_count left port header = count_by (λ one. (one.0 == port) && header_eq one.1.header header) left
 
 -- the record counts all packets that left by its port with its header
 abbrev pub IsFlowCounted : PortLeavings → FlowRecord → Type 0
-IsFlowCounted left flow = flow.packets ≡ flow_left_with left flow.port flow.header
+IsFlowCounted left flow = flow.packets ≡ flow_packet_count left flow.port flow.header
 
 -- none of the meters in a network with these ports leaves
 abbrev pub NoFlowMeterLeaves : ℕ → PortLeavings → List Seen → Type 0
@@ -31,4 +31,4 @@ pub record FlowMeterLaws : Type 0 where
       → All (IsFlowCounted left) (flat_map meter_flow_records_of (kept_meters ports left meters))
   pub counted : (most ports : ℕ) (left : PortLeavings) (meters : List Seen)
       → All (IsNewFlowMeter most) meters → NoFlowMeterLeaves ports left meters → All (IsFlowCounted left)
-      (gone_records ports left meters ++ flat_map meter_flow_records_of (kept_meters ports left meters))
+      (gone_meter_records ports left meters ++ flat_map meter_flow_records_of (kept_meters ports left meters))

@@ -11,5 +11,5 @@ abbrev pub flow_packet_counts : List Leaving → List (Header × ℕ)
 flow_packet_counts held = map (λ header. (header, flow_packets_of held header)) (headers_of held)
 
 -- the count of a header, or 0 if it has none
-abbrev pub count_of_header : Header → List (Header × ℕ) → ℕ
-count_of_header header counts = unwrap_or (lookup (header_eq header) counts) 0
+abbrev pub flow_count_of_header : Header → List (Header × ℕ) → ℕ
+flow_count_of_header header counts = unwrap_or (lookup (header_eq header) counts) 0

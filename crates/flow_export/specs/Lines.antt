@@ -4,9 +4,9 @@ use Rattle.five_tuple.specs.Exports.{fields_text}
 use Rattle.meters.specs.declared.flows.FlowRecord.{FlowRecord}
 
 -- the line of a record, with its line feed
-abbrev pub flow_line : FlowRecord → List ℕ
-flow_line flow = codes "flow port " ++ decimal flow.port ++ codes " "
+abbrev pub exported_flow_line : FlowRecord → List ℕ
+exported_flow_line flow = codes "flow port " ++ decimal flow.port ++ codes " "
     ++ fields_text flow.header.fields ++ codes " packets " ++ decimal flow.packets ++ codes "\n"
 
 abbrev pub flow_lines : List FlowRecord → List ℕ
-flow_lines records = flat_map flow_line records
+flow_lines records = flat_map exported_flow_line records

@@ -1,6 +1,6 @@
 ghost use Rattle.std.specs.Prelude.{◌≡◌, ◌+◌, ◌<◌, ◌≤◌, ◌^◌, [], ◌∷◌, ◌++◌, length, nat_le, OnErr, OnOk};
 ghost use Rattle.five_tuple.specs.HeaderNumbers.{header_eq};
-ghost use Rattle.flow_export.specs.Counts.{count_of_header};
+ghost use Rattle.flow_export.specs.Counts.{flow_count_of_header};
 ghost use Rattle.flow_export.specs.Flows.{IsFlowMeter, flows, headers_of};
 ghost use Rattle.indexmap.specs.IndexMap.{insert_entry};
 
@@ -105,9 +105,9 @@ impl Meter for FlowMeter {
 
 /// Counts one more packet of this header.
 fn count(counts: &mut IndexMap<Header, u64>, header: Header) -> Result<(), AllocError>
-    requires { count_of_header header counts.old.entries + 1 < 2 ^ 64 }
+    requires { flow_count_of_header header counts.old.entries + 1 < 2 ^ 64 }
     ensures counted { OnOk result (counts.new.entries ≡ insert_entry header_eq counts.old.entries
-        header (count_of_header header counts.old.entries + 1)) }
+        header (flow_count_of_header header counts.old.entries + 1)) }
     ensures unchanged { OnErr result (counts.new.entries ≡ counts.old.entries) }
 {
     let packets = counts.get(&header).copied().unwrap_or(0);

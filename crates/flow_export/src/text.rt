@@ -1,7 +1,7 @@
 //! The text of flow records.
 ghost use Rattle.std.specs.Prelude.{◌≡◌, ◌++◌, OnOk};
 ghost use Rattle.std.specs.String.{string_bytes};
-ghost use Rattle.flow_export.specs.Lines.{flow_line, flow_lines};
+ghost use Rattle.flow_export.specs.Lines.{exported_flow_line, flow_lines};
 
 use meters::FlowRecord;
 use std::alloc::AllocError;
@@ -23,7 +23,7 @@ pub fn push_flows(text: &mut String, records: &[FlowRecord]) -> Result<(), Alloc
 
 // Adds the line of a record.
 fn push_flow(text: &mut String, record: &FlowRecord) -> Result<(), AllocError>
-    ensures { OnOk result (string_bytes text.new ≡ string_bytes text.old ++ flow_line record.now) }
+    ensures { OnOk result (string_bytes text.new ≡ string_bytes text.old ++ exported_flow_line record.now) }
 {
     let FlowRecord {
         port,

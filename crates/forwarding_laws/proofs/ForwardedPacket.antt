@@ -3,16 +3,16 @@
 use Rattle.std.proofs.Common.{[], ◌++◌, ◌+◌, ◌-◌, ◌<◌, ◌==◌, ◌∙◌, ◌∷◌, ◌≡◌, ◌≤◌, ◌⊎◌, Contains, IsTrue, List, None, Option, Some, ap, append_assoc, arith, eq-eqb, false, find, inl, inr, length, option_map, refl, subst, sym, take, true, ℕ}
 use Rattle.base.proofs.Exports.{All-contains, find_none, get_or-range_with_len, length-range_with_len, range_with_len}
 use Rattle.five_tuple.specs.Exports.{IsHeader}
-use Rattle.update_machine.specs.Exports.{AreAllMachineEventSteps, Decision, JournalItemsHaveCauses, Header, Hop, IsMachineQuiet, IsSetting, Item, Packet, Row, Setting, Step, StepOfRow, journal_after_steps, count_of, journal_decision_of, item_gives_header, journal_packet_header, is_packet, is_up, journal_items_then, lookup_items, journal_next_hop, journal_next_packet, next_travelling, packet_items, journal_packets, piece, policy_at, serves, switches_of, travels, journal_version_count}
+use Rattle.update_machine.specs.Exports.{AreAllMachineEventSteps, Decision, JournalItemsHaveCauses, Header, Hop, IsQuietMachineJournal, IsSetting, Item, Packet, Row, Setting, Step, StepOfRow, journal_after_steps, count_of, journal_decision_of, machine_item_gives_header, journal_packet_header, is_packet, is_up, journal_items_then, machine_lookup_items, journal_next_hop, journal_next_packet, next_travelling, machine_packet_items, journal_packets, piece, policy_at, serves, setting_switches_of, travels, journal_version_count}
 use Rattle.policy_rules.specs.Exports.{IsFirstMatch, scan}
 use Rattle.policy_rules.proofs.PolicyRulesCallerLemmas.{first_match-scan}
 use Rattle.steps.specs.Exports.{HasSwitch}
 use Rattle.update_machine.proofs.Exports.{count_of_append, last_given_append, switch_keeps}
-use Rattle.convergence_laws.proofs.Exports.{Behind, Both, HoldsAtEnds, NamesOwn, fact_on, have_both, have_rest, moves, stays_itself, stays_on}
-use Rattle.convergence_laws.specs.Exports.{GetStuckApart, HasConverged, HasConvergedOnVersion}
-use Rattle.packet_laws.specs.Exports.{AllPacketFactsKept, HoldsBetween, IsUnknownPacket, StrongCause, hit_in, packet_steps_played, packet_facts_of}
+use Rattle.convergence_laws.proofs.Exports.{Behind, Both, ControlLawHoldsAtEnds, NamesOwn, fact_on, have_both, have_rest, moves, stays_itself, stays_on}
+use Rattle.convergence_laws.specs.Exports.{ConvergedGetStuckApart, HasConverged, IsNetworkUpdateConverged}
+use Rattle.packet_laws.specs.Exports.{AllPacketFactsKept, PacketLawHoldsBetween, IsUnknownPacket, StrongCause, hit_in, packet_steps_played, packet_facts_of}
 use Rattle.packet_laws.proofs.Exports.{IsSettled, IsWayItem, Past, all_kept, all_right, between, decision_out, found_in, kept_before, numbered, packet_more, piece_settled, standing_more, strongly_caused, travels_more, ways_of_all}
-use Rattle.forwarding_laws.specs.Exports.{ForwardingFindsNoTarget, HasForwardingComeToRest, IsForwardedByNewest, QuietForwards}
+use Rattle.forwarding_laws.specs.Exports.{ForwardingFindsNoTarget, HasNetworkComeToRest, IsForwardedByNewest, ForwardsWhenQuiet}
 use Rattle.forwarding_laws.proofs.ForwardingFollowed.{Fate, Follows, IsEnded, IsFollowed, follows_on, mark_more, step_more, undecided_by}
 use Rattle.forwarding_laws.proofs.RecoverySecondRounds.{MarksStay, Passes, hop_passes, marks_stay, packet_passes}
 use Rattle.net_file.specs.Exports.{IsNet}
@@ -54,10 +54,10 @@ none_travels now i none above below = All-contains (λ k. travels now k ≡ fals
     (in_range 1 (count_of is_packet now) i above (omega (arith, below)))
 
 header_by : (before : List Item) (next : Item) (i : ℕ) (header : Header)
-    → item_gives_header i next ≡ Some header → journal_packet_header (before ++ next ∷ []) i ≡ Some header
+    → machine_item_gives_header i next ≡ Some header → journal_packet_header (before ++ next ∷ []) i ≡ Some header
 unfolding journal_packet_header
 header_by before next i header gives =
-    cc (last_given_append (item_gives_header i) before (next ∷ []), gives)
+    cc (last_given_append (machine_item_gives_header i) before (next ∷ []), gives)
 
 number_more : (before : List Item) (i s : ℕ) (header : Header)
     → journal_next_packet (before ++ Item.Entered i s header ∷ []) ≡ journal_next_packet before + 1
@@ -65,10 +65,10 @@ unfolding journal_next_packet
 number_more before i s header =
     rw (count_of_append is_packet before (Item.Entered i s header ∷ [])) (omega arith)
 
-serves_there : (setting : Setting) (journal : List Item) (s : ℕ) → HasConvergedOnVersion setting journal
+serves_there : (setting : Setting) (journal : List Item) (s : ℕ) → IsNetworkUpdateConverged setting journal
     → HasSwitch setting.net s → IsTrue (is_up journal s) → IsTrue (serves journal s)
 serves_there setting journal s updated there up =
-    All-contains (λ k. IsTrue (is_up journal k) → IsTrue (serves journal k)) (switches_of setting) s
+    All-contains (λ k. IsTrue (is_up journal k) → IsTrue (serves journal k)) (setting_switches_of setting) s
     updated.serving (in_range 0 (length setting.net.switches) s (omega arith) (omega arith)) up
 
 -- ---- as it enters
@@ -90,7 +90,7 @@ module _ (setting : Setting) (journal : List Item) (row s : ℕ) (header : Heade
   begun = here ++ entering ∷ []
 
   abbrev lookups : List Item
-  lookups = lookup_items setting i s begun
+  lookups = machine_lookup_items setting i s begun
 
   own : (i == i) ≡ true
   own = eq-eqb i i refl
@@ -132,13 +132,13 @@ module _ (setting : Setting) (journal : List Item) (row s : ℕ) (header : Heade
 
   written : IsTrue (serves journal s)
       → piece setting journal row (Packet s header) ≡ coming ∷ entering ∷ lookups
-  unfolding piece packet_items
+  unfolding piece machine_packet_items
   written serving =
       let still : serves here s ≡ true =
       (switch_keeps setting s journal (coming ∷ []) (refl, tt)).serving ∙ serving in
       ap (λ b. coming ∷ (elim b [
         | false ↦ Item.Closed i s ∷ []
-        | true ↦ journal_items_then (entering ∷ []) (lookup_items setting i s) here
+        | true ↦ journal_items_then (entering ∷ []) (machine_lookup_items setting i s) here
       ])) still
 
   joined : begun ++ lookups ≡ journal ++ (coming ∷ entering ∷ lookups)
@@ -146,7 +146,7 @@ module _ (setting : Setting) (journal : List Item) (row s : ℕ) (header : Heade
       ∙ append_assoc journal (coming ∷ []) (entering ∷ lookups)
 
   -- behind its step
-  followed_in : IsSetting setting → HasConverged setting journal → HasConvergedOnVersion setting journal
+  followed_in : IsSetting setting → HasConverged setting journal → IsNetworkUpdateConverged setting journal
       → IsSettled setting journal → HasSwitch setting.net s → IsHeader header
       → IsTrue (is_up journal s)
       → Follows setting journal s i header (journal ++ piece setting journal row (Packet s header))
@@ -179,7 +179,7 @@ record IsDrained (setting : Setting) (journal : List Item) (s i : ℕ) (header :
 
 drained : (setting : Setting) (journal : List Item) (s i : ℕ) (header : Header) (later : ℕ)
     (before : List Item) (hops : List StepOfRow) → IsSetting setting
-    → HasConverged setting journal → HasConvergedOnVersion setting journal
+    → HasConverged setting journal → IsNetworkUpdateConverged setting journal
     → AreAllMachineEventSteps setting journal_next_hop later before hops → IsSettled setting before
     → Follows setting journal s i header before
     → IsDrained setting journal s i header (journal_after_steps setting before hops)
@@ -234,8 +234,8 @@ ended_so setting journal s i header after is drained = by drained.follows.fate w
   by (inr ended) = elim ended.how [ inl decided ↦ inl (forwarded decided) | inr finds ↦ inr finds ]
 
 pub forwards : (setting : Setting) (journal : List Item) → IsSetting setting
-    → IsSettled setting journal → HasConverged setting journal → HasConvergedOnVersion setting journal
-    → QuietForwards setting journal
+    → IsSettled setting journal → HasConverged setting journal → IsNetworkUpdateConverged setting journal
+    → ForwardsWhenQuiet setting journal
 forwards setting journal is settled converged updated row later s header hops there sound up all =
     let entered : List Item = journal ++ piece setting journal row (Packet s header) in
     ended_so setting journal s (journal_next_packet journal) header (journal_after_steps setting entered hops) is
@@ -246,7 +246,7 @@ forwards setting journal is settled converged updated row later s header hops th
 -- ---- what holds of quiet journals between steps, by the laws that say it one by one
 
 -- what holds where steps end holds between them
-ends_between : (Holds : Setting → List Item → Type 0) → HoldsAtEnds Holds → HoldsBetween Holds
+ends_between : (Holds : Setting → List Item → Type 0) → ControlLawHoldsAtEnds Holds → PacketLawHoldsBetween Holds
 ends_between Holds law = record {
   reached = λ setting journal at. rw at.written (law.stepped setting at.steps);
   answered = λ setting events journal own answers. law.answered setting events journal answers;
@@ -258,7 +258,7 @@ ends_between Holds law = record {
 -- and so does what follows from two of them
 both_between : (One Other Holds : Setting → List Item → Type 0)
     → ((setting : Setting) (journal : List Item) → One setting journal → Other setting journal
-    → Holds setting journal) → HoldsBetween One → HoldsBetween Other → HoldsBetween Holds
+    → Holds setting journal) → PacketLawHoldsBetween One → PacketLawHoldsBetween Other → PacketLawHoldsBetween Holds
 both_between One Other Holds follow one other = record {
   reached = λ setting journal at. follow setting journal (one.reached setting journal at)
       (other.reached setting journal at);
@@ -277,47 +277,47 @@ both_between One Other Holds follow one other = record {
 
 abbrev ForwardsBy : Setting → List Item → Type 0
 ForwardsBy setting journal = IsSetting setting → HasConverged setting journal
-    → HasConvergedOnVersion setting journal → QuietForwards setting journal
+    → IsNetworkUpdateConverged setting journal → ForwardsWhenQuiet setting journal
 
-pub converged_forward : HoldsBetween ForwardsBy
+pub converged_forward : PacketLawHoldsBetween ForwardsBy
 converged_forward = between (λ setting journal. HasConverged setting journal
-    → HasConvergedOnVersion setting journal → QuietForwards setting journal) (λ setting journal is settled
+    → IsNetworkUpdateConverged setting journal → ForwardsWhenQuiet setting journal) (λ setting journal is settled
     converged updated. forwards setting journal is settled converged updated)
 
 -- ---- quiet journals
 
 abbrev Converges : Setting → List Item → Type 0
 Converges setting journal =
-    IsNet setting.net → IsMachineQuiet setting journal → HasConverged setting journal
+    IsNet setting.net → IsQuietMachineJournal setting journal → HasConverged setting journal
 
 abbrev Updates : Setting → List Item → Type 0
-Updates setting journal = IsMachineQuiet setting journal → HasConvergedOnVersion setting journal
+Updates setting journal = IsQuietMachineJournal setting journal → IsNetworkUpdateConverged setting journal
 
 abbrev Parts : Setting → List Item → Type 0
-Parts setting journal = IsNet setting.net → IsMachineQuiet setting journal → GetStuckApart setting journal
+Parts setting journal = IsNet setting.net → IsQuietMachineJournal setting journal → ConvergedGetStuckApart setting journal
 
 abbrev Forwards : Setting → List Item → Type 0
-Forwards setting journal = IsSetting setting → IsMachineQuiet setting journal → QuietForwards setting journal
+Forwards setting journal = IsSetting setting → IsQuietMachineJournal setting journal → ForwardsWhenQuiet setting journal
 
 abbrev Rests : Setting → List Item → Type 0
-Rests setting journal = IsSetting setting → IsMachineQuiet setting journal → HasForwardingComeToRest setting journal
+Rests setting journal = IsSetting setting → IsQuietMachineJournal setting journal → HasNetworkComeToRest setting journal
 
 abbrev Known : Setting → List Item → Type 0
 Known setting journal = Converges setting journal × Updates setting journal
 
-known_between : HoldsAtEnds Converges → HoldsAtEnds Updates → HoldsBetween Known
+known_between : ControlLawHoldsAtEnds Converges → ControlLawHoldsAtEnds Updates → PacketLawHoldsBetween Known
 known_between converge update =
     both_between Converges Updates Known (λ setting journal converges updates. (converges, updates))
     (ends_between Converges converge) (ends_between Updates update)
 
-pub quiet_forwards : HoldsAtEnds Converges → HoldsAtEnds Updates → HoldsBetween ForwardsBy
-    → HoldsBetween Forwards
+pub quiet_forwards : ControlLawHoldsAtEnds Converges → ControlLawHoldsAtEnds Updates → PacketLawHoldsBetween ForwardsBy
+    → PacketLawHoldsBetween Forwards
 quiet_forwards converge update forward = both_between ForwardsBy Known Forwards
     (λ setting journal forwards known is quiet. forwards is (known.0 is.net quiet) (known.1 quiet))
     forward (known_between converge update)
 
-pub comes_to_rest : HoldsAtEnds Converges → HoldsAtEnds Parts → HoldsAtEnds Updates
-    → HoldsBetween Forwards → HoldsBetween Rests
+pub comes_to_rest : ControlLawHoldsAtEnds Converges → ControlLawHoldsAtEnds Parts → ControlLawHoldsAtEnds Updates
+    → PacketLawHoldsBetween Forwards → PacketLawHoldsBetween Rests
 comes_to_rest converge part update forward =
     both_between Known (λ setting journal. Parts setting journal × Forwards setting journal) Rests
     (λ setting journal known others is quiet. record {

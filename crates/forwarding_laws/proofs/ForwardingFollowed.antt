@@ -2,30 +2,30 @@
 use Rattle.std.proofs.Common.{[], if◌then◌else◌, ◌++◌, ◌<◌, ◌==◌, ◌∙◌, ◌∷◌, ◌≡◌, ◌⊎◌, All, Bool, IsFalse, IsTrue, List, None, Some, ap, arith, eq-eqb, eqb-true, false, find, inl, inr, ne_eqb, option_map, refl, subst, sym, true, unwrap_or, ℕ}
 use Rattle.base.proofs.Exports.{Contains-append_left, Contains-push, option_or, some_same}
 use Rattle.base.specs.Exports.{has}
-use Rattle.update_machine.specs.Exports.{Action, Cause, Crash, Decision, Exit, Header, IsSetting, Item, Leaving, Leg, Lose, Seek, Setting, Step, journal_decision_of, item_gives_decision, item_gives_header, item_gives_standing, item_gives_step, item_gives_travelling, journal_packet_header, journal_next_packet, journal_plan_at, journal_present_step, journal_retired_mark, journal_route_from, standing, targets_of, travels, journal_version_count}
+use Rattle.update_machine.specs.Exports.{Action, Cause, Crash, Decision, Exit, Header, IsSetting, Item, Leaving, Leg, Lose, Seek, Setting, Step, journal_decision_of, machine_item_gives_decision, machine_item_gives_header, machine_item_gives_standing, machine_item_gives_step, machine_item_gives_travelling, journal_packet_header, journal_next_packet, journal_plan_at, journal_present_step, journal_retired_mark, journal_route_from, standing, journal_leg_targets, travels, journal_version_count}
 use Rattle.net_file.specs.Exports.{IsNet}
 use Rattle.policy_rules.specs.Exports.{Hosted, is_in_policy_partition}
 use Rattle.update_machine.proofs.Exports.{folded_append, last_given_append}
 use Rattle.convergence_laws.proofs.Exports.{AreKept, Behind, Both, StaysSo, moves, reach_more, stays_on}
-use Rattle.convergence_laws.specs.Exports.{AreUnusableLinks, HasConverged, HasConvergedOnVersion, Reaches}
+use Rattle.convergence_laws.specs.Exports.{AreConvergenceUnusableLinks, HasConverged, IsNetworkUpdateConverged, Reaches}
 use Rattle.packet_laws.specs.Exports.{AllPacketFactsKept, FurtherCause, HasPacketItemCause, PacketSeeksRightly, StrongCause, changes_packet_entry_mark, entry_mark}
 use Rattle.packet_laws.proofs.Exports.{Before, IsWayItem, Past, here_known, known_before, knows, packet_more, standing_more, stands_known, travels_more}
-use Rattle.forwarding_laws.specs.Exports.{ForwardedEndsBy, ForwardingFindsNoTarget, IsStuckApart}
+use Rattle.forwarding_laws.specs.Exports.{ForwardedEndsBy, ForwardingFindsNoTarget, IsForwardingStuckApart}
 use Rattle.forwarding_laws.proofs.RecoverySecondRounds.{MarksStay, Passes, apart_from, marks_stay, passes_walks}
 
 -- ---- what one more item says about it
 
 -- an item that doesn't decide it
-pub undecided_by : (before : List Item) (next : Item) (i : ℕ) → item_gives_decision i next ≡ None
+pub undecided_by : (before : List Item) (next : Item) (i : ℕ) → machine_item_gives_decision i next ≡ None
     → journal_decision_of (before ++ next ∷ []) i ≡ journal_decision_of before i
 unfolding journal_decision_of
 undecided_by before next i decides =
-    cc (last_given_append (item_gives_decision i) before (next ∷ []), decides)
+    cc (last_given_append (machine_item_gives_decision i) before (next ∷ []), decides)
 
 pub step_more : (before : List Item) (next : Item)
-    → journal_present_step (before ++ next ∷ []) ≡ option_or (item_gives_step next) (journal_present_step before)
+    → journal_present_step (before ++ next ∷ []) ≡ option_or (machine_item_gives_step next) (journal_present_step before)
 unfolding journal_present_step
-step_more before next = last_given_append item_gives_step before (next ∷ [])
+step_more before next = last_given_append machine_item_gives_step before (next ∷ [])
 
 pub mark_more : (before : List Item) (next : Item) (i : ℕ)
     → entry_mark (before ++ next ∷ []) i ≡ changes_packet_entry_mark i before (entry_mark before i) next
@@ -77,9 +77,9 @@ module _ (setting : Setting) (journal : List Item) (s i : ℕ) (header : Header)
   header_on : (next : Item) → HasPacketItemCause setting before next
       → journal_packet_header (before ++ next ∷ []) i ≡ Some header
   unfolding journal_packet_header
-  header_on next way = last_given_append (item_gives_header i) before (next ∷ []) ∙ by next way where
+  header_on next way = last_given_append (machine_item_gives_header i) before (next ∷ []) ∙ by next way where
     by : (next : Item) → HasPacketItemCause setting before next
-        → option_or (item_gives_header i next) (journal_packet_header before i) ≡ Some header
+        → option_or (machine_item_gives_header i next) (journal_packet_header before i) ≡ Some header
     by (Item.Entered packet t other) way = cc
         (comes_other packet i (journal_next_packet before) way.0.number follows.number, follows.entered)
     by next way = follows.entered
@@ -97,7 +97,7 @@ module _ (setting : Setting) (journal : List Item) (s i : ℕ) (header : Header)
       → journal_present_step (before ++ next ∷ []) ≡ Some step → IsTrue (moves step)
   step_on next passes step present = by next passes (sym (step_more before next) ∙ present) where
     by : (next : Item) → Passes setting before next
-        → option_or (item_gives_step next) (journal_present_step before) ≡ Some step → IsTrue (moves step)
+        → option_or (machine_item_gives_step next) (journal_present_step before) ≡ Some step → IsTrue (moves step)
     by (Item.Row row taken) passes is = subst (λ x. IsTrue (moves x)) (cc is) passes
     by next passes is = follows.step step is
 
@@ -107,7 +107,7 @@ module _ (setting : Setting) (journal : List Item) (s i : ℕ) (header : Header)
       → standing (before ++ next ∷ []) i ≡ Some t → Reaches setting journal s t
   at_on known next way t stands = by next way (sym (standing_more before next i) ∙ stands) where
     by : (next : Item) → HasPacketItemCause setting before next
-        → option_or (item_gives_standing i next) (standing before i) ≡ Some t
+        → option_or (machine_item_gives_standing i next) (standing before i) ≡ Some t
         → Reaches setting journal s t
     by (Item.Entered packet u other) way is = follows.at t
         (sym (ap (λ b. option_or (if b then Some u else None) (standing before i))
@@ -128,7 +128,7 @@ module _ (setting : Setting) (journal : List Item) (s i : ℕ) (header : Header)
 
   -- ---- its version
 
-  newest : HasConvergedOnVersion setting journal → (version : ℕ) → PacketSeeksRightly before i version
+  newest : IsNetworkUpdateConverged setting journal → (version : ℕ) → PacketSeeksRightly before i version
       → version ≡ journal_version_count journal
   newest updated version rightly = omega (
     arith,
@@ -140,15 +140,15 @@ module _ (setting : Setting) (journal : List Item) (s i : ℕ) (header : Header)
     updated.retired,
   )
 
-  version_on : HasConvergedOnVersion setting journal → (next : Item) → FurtherCause setting before next
+  version_on : IsNetworkUpdateConverged setting journal → (next : Item) → FurtherCause setting before next
       → (decision : Decision) → journal_decision_of (before ++ next ∷ []) i ≡ Some decision
       → decision.version ≡ journal_version_count journal
   unfolding journal_decision_of
   version_on updated next further decision decided =
-      by next further (sym (last_given_append (item_gives_decision i) before (next ∷ [])) ∙ decided)
+      by next further (sym (last_given_append (machine_item_gives_decision i) before (next ∷ [])) ∙ decided)
     where
       by : (next : Item) → FurtherCause setting before next
-          → option_or (item_gives_decision i next) (journal_decision_of before i) ≡ Some decision
+          → option_or (machine_item_gives_decision i next) (journal_decision_of before i) ≡ Some decision
           → decision.version ≡ journal_version_count journal
       by (Item.Decided packet version rule act how) further is = by_name (packet == i) refl is where
         new : Decision
@@ -217,14 +217,14 @@ module _ (setting : Setting) (journal : List Item) (s i : ℕ) (header : Header)
     by (inr ended) = inr (record { ended = same_travels ∙ ended.ended; how = how_on ended.how })
 
   -- the decision and the travelling of the packet, as most items leave them
-  pass_on : (next : Item) → item_gives_travelling i next ≡ None → item_gives_decision i next ≡ None
+  pass_on : (next : Item) → machine_item_gives_travelling i next ≡ None → machine_item_gives_decision i next ≡ None
       → Fate setting journal s i header (before ++ next ∷ [])
   pass_on next travelling decides = fate_on next
       (travels_more before next i ∙ ap (λ o. unwrap_or o (travels before i)) travelling)
       (undecided_by before next i decides)
 
   -- the packet doesn't travel behind an item that ends it, which decides nothing
-  ended_by : (next : Item) → item_gives_travelling i next ≡ Some false → item_gives_decision i next ≡ None
+  ended_by : (next : Item) → machine_item_gives_travelling i next ≡ Some false → machine_item_gives_decision i next ≡ None
       → IsFalse (travels (before ++ next ∷ []) i)
       × (journal_decision_of (before ++ next ∷ []) i ≡ journal_decision_of before i)
   ended_by next ends decides = (
@@ -281,17 +281,17 @@ module _ (setting : Setting) (journal : List Item) (s i : ℕ) (header : Header)
   stuck_apart : IsNet setting.net → HasConverged setting journal → Before setting before → (t : ℕ)
       (cause : Cause) (leg : Leg) (down : List ℕ)
       → StrongCause setting before (Item.Stuck i t cause leg down)
-      → All (λ target. Reaches setting journal s target → ⊥) (targets_of setting journal leg)
+      → All (λ target. Reaches setting journal s target → ⊥) (journal_leg_targets setting journal leg)
   stuck_apart net converged known t cause leg down strong =
       let here = here_known setting before i t (knows setting before i known) strong.0.at in
-      let targets : List ℕ = targets_of setting journal leg in
+      let targets : List ℕ = journal_leg_targets setting journal leg in
       apart_from setting journal net s t targets (follows.at t strong.1.stuck.stands)
       (converged.stuck t targets down (omega (arith, here.at, here.under.now))
-      (subst (AreUnusableLinks setting journal) (sym strong.1.found) follows.stays.found)
+      (subst (AreConvergenceUnusableLinks setting journal) (sym strong.1.found) follows.stays.found)
       (sym (follows.stays.routes t targets down) ∙ ap (λ all. journal_route_from setting before t all down)
       (sym (follows.stays.targets leg)) ∙ strong.1.no_route))
 
-  stuck : IsNet setting.net → HasConverged setting journal → HasConvergedOnVersion setting journal
+  stuck : IsNet setting.net → HasConverged setting journal → IsNetworkUpdateConverged setting journal
       → Before setting before → (t : ℕ) (cause : Cause) (leg : Leg) (down : List ℕ)
       → StrongCause setting before (Item.Stuck i t cause leg down)
       → Fate setting journal s i header (before ++ Item.Stuck i t cause leg down ∷ [])
@@ -305,7 +305,7 @@ module _ (setting : Setting) (journal : List Item) (s i : ℕ) (header : Header)
       by_leg : (leg : Leg) → StrongCause setting before (Item.Stuck i t cause leg down)
           → (let after = before ++ Item.Stuck i t cause leg down ∷ [] in
           journal_decision_of after i ≡ journal_decision_of before i
-          → All (λ target. Reaches setting journal s target → ⊥) (targets_of setting journal leg)
+          → All (λ target. Reaches setting journal s target → ⊥) (journal_leg_targets setting journal leg)
           → IsEnded setting journal s i after ⊎ ForwardingFindsNoTarget setting journal after i s header)
       by_leg (Exit port) strong same apart =
           let decision : Decision = strong.1.stuck.own_leg.0 in
@@ -337,7 +337,7 @@ module _ (setting : Setting) (journal : List Item) (s i : ℕ) (header : Header)
                 (find (λ (p : Hosted). is_in_policy_partition h p.0) (journal_plan_at setting before version)))
                 (sym (some_same (journal_packet_header before i) found.0 header found.1 follows.entered))
                 ∙ found.2;
-            stuck = subst (λ v. IsStuckApart setting journal (before ++ next ∷ []) i s
+            stuck = subst (λ v. IsForwardingStuckApart setting journal (before ++ next ∷ []) i s
                 (Seek v partition)) current (record {
                   switch = t;
                   cause = cause;
@@ -359,7 +359,7 @@ module _ (setting : Setting) (journal : List Item) (s i : ℕ) (header : Header)
     by true same = let is : packet ≡ i = eqb-true packet i same in
         subst (λ k. Fate setting journal s i header (before ++ next k ∷ [])) (sym is) (own is)
 
-  fate_next : IsNet setting.net → HasConverged setting journal → HasConvergedOnVersion setting journal
+  fate_next : IsNet setting.net → HasConverged setting journal → IsNetworkUpdateConverged setting journal
       → Before setting before → (next : Item) → StrongCause setting before next
       → Fate setting journal s i header (before ++ next ∷ [])
   fate_next net converged updated known (Item.Entered packet t other) strong =
@@ -388,7 +388,7 @@ module _ (setting : Setting) (journal : List Item) (s i : ℕ) (header : Header)
 
 -- each item of packets keeps it
 pub follows_on : (setting : Setting) (journal : List Item) (s i : ℕ) (header : Header)
-    → IsSetting setting → HasConverged setting journal → HasConvergedOnVersion setting journal
+    → IsSetting setting → HasConverged setting journal → IsNetworkUpdateConverged setting journal
     → AreKept (IsFollowed setting) (Follows setting journal s i header)
 follows_on setting journal s i header is converged updated before next cause follows =
     let known = known_before setting is before next cause.second.first in

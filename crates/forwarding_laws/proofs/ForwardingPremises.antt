@@ -3,11 +3,11 @@
 use Rattle.std.proofs.Common.{[], ◌&&◌, ◌++◌, ◌+◌, ◌==◌, ◌||◌, ◌∙◌, ◌∷◌, ◌≡◌, ◌⊎◌, Bool, Contains, IsTrue, List, None, Ok, Option, Some, ap, append-nil, arith, codes, drop, false, inl, inr, map, not, option_map, refl, suc, sym, take, true, true≢false, zero, ℕ}
 use Rattle.base.proofs.Exports.{All-cons, All-from_recursion, All-nil, and_parts}
 use Rattle.failover.specs.Exports.{no_links, with_link}
-use Rattle.update_machine.specs.Exports.{Advertise, Answers, AreAllMachineEventSteps, AreJournalMessagesReceived, AreMachineSteps, Body, Confirm, Crash, Deliver, Event, Flush, Forget, JournalItemsHaveCauses, Hop, Installed, IsMachineQuiet, IsJournalMessageReceived, IsJournalMessageReplaced, Item, LinkDown, LinkUp, Lose, Message, NoAuthority, One, Packet, Place, MachineMessageReplaces, Resend, Restart, Seek, Setting, Step, StepOfRow, Update, journal_after_steps, is_machine_later_body, is_up, is_waited_for, journal_next_delivery, next_waiting, piece, was_delivered}
+use Rattle.update_machine.specs.Exports.{Advertise, Answers, AreAllMachineEventSteps, AreMachineMessagesReceived, AreMachineSteps, Body, Confirm, Crash, Deliver, Event, Flush, Forget, JournalItemsHaveCauses, Hop, Installed, IsQuietMachineJournal, IsJournalMessageReceived, IsJournalMessageReplaced, Item, LinkDown, LinkUp, Lose, Message, NoAuthority, One, Packet, Place, MachineMessageReplaces, Resend, Restart, Seek, Setting, Step, StepOfRow, Update, journal_after_steps, is_machine_later_body, is_up, is_waited_for, journal_next_delivery, next_waiting, piece, was_delivered}
 use Rattle.steps.specs.Exports.{HasSwitch}
 use Rattle.update_machine.proofs.Exports.{advert, at, by_action, left_by, network, one, open_net, out_or_drop, plan_p, plan_q, switch, to, to_controller}
-use Rattle.convergence_laws.specs.Exports.{HasConvergedOnVersion}
-use Rattle.forwarding_laws.specs.Exports.{RolloutAccountsForAll, RecoveryAsksEach, DropsNothing, EndsInRecovery, RolloutEndsRightly, RolloutFailsNothing, RolloutHasItem, HoldNewestAlone, NoneIsStuck, NothingFailsInRollout}
+use Rattle.convergence_laws.specs.Exports.{IsNetworkUpdateConverged}
+use Rattle.forwarding_laws.specs.Exports.{RolloutAccountsForAll, ForwardingRecoveryAsksEach, ForwardingDropsNothing, EndsInRecovery, RolloutEndsRightly, RolloutFailsNothing, RolloutHasItem, HoldNewestAlone, NoneIsStuck, NothingFailsInRollout}
 use Rattle.forwarding_laws.proofs.RecoveredNetworks.{recovered_updated}
 
 -- ---- schedules of single steps, and such that end in a flush
@@ -101,7 +101,7 @@ without_resends = record {
   written = refl;
 }
 
-not_without_resends : HasConvergedOnVersion open_net tables_lost_journal → ⊥
+not_without_resends : IsNetworkUpdateConverged open_net tables_lost_journal → ⊥
 unfolding left_by
 not_without_resends updated = not_current updated.current
 
@@ -119,7 +119,7 @@ without_flush = record {
   written = refl;
 }
 
-not_without_flush : HasConvergedOnVersion open_net undelivered_journal → ⊥
+not_without_flush : IsNetworkUpdateConverged open_net undelivered_journal → ⊥
 unfolding left_by
 not_without_flush updated = not_current updated.current
 
@@ -145,13 +145,13 @@ without_confirms = record {
   written = refl;
 }
 
-not_without_confirms : HasConvergedOnVersion open_net unconfirmed_journal → ⊥
+not_without_confirms : IsNetworkUpdateConverged open_net unconfirmed_journal → ⊥
 unfolding left_by
 not_without_confirms updated = not_current updated.current
 
 -- ---- recovered, and not quiet
 
-asks_both : (step : ℕ → Step) → RecoveryAsksEach open_net.net step (One (step 0) ∷ One (step 1) ∷ [])
+asks_both : (step : ℕ → Step) → ForwardingRecoveryAsksEach open_net.net step (One (step 0) ∷ One (step 1) ∷ [])
 asks_both step = record {
   only = All-cons is_one (One (step 0)) (One (step 1) ∷ []) (0, refl)
       (All-cons is_one (One (step 1)) [] (1, refl) (All-nil is_one));
@@ -239,7 +239,7 @@ with_advert_lost = record {
   written = refl;
 }
 
-recovered_without_advert : HasConvergedOnVersion open_net advert_lost_journal
+recovered_without_advert : IsNetworkUpdateConverged open_net advert_lost_journal
 recovered_without_advert =
     recovered_updated open_net (map One advert_lost ++ Flush ∷ []) advert_lost_journal
     (in_recovery (take 4 advert_lost)) with_advert_lost
@@ -267,7 +267,7 @@ advert_passes boot seq up later replaces = both (is_to_b later.to) (is_advert_of
     by_body (Advertise advert) (inr later) = (and_parts (advert.origin == 0) _ later).0
     by_body _ (inr later) = absurd (true≢false (sym later))
 
-not_quiet_without_advert : IsMachineQuiet open_net advert_lost_journal → ⊥
+not_quiet_without_advert : IsQuietMachineJournal open_net advert_lost_journal → ⊥
 unfolding left_by
 not_quiet_without_advert quiet = unreceived (λ later. is_to_b later.to && is_advert_of_a later.body)
     1 (to 1 (advert 0 1 3 2)) (advert_passes 1 3 2) (drop 5 advert_lost_journal) refl refl
@@ -295,12 +295,12 @@ with_origin_gone = record {
   written = refl;
 }
 
-recovered_without_origin : HasConvergedOnVersion open_net origin_gone_journal
+recovered_without_origin : IsNetworkUpdateConverged open_net origin_gone_journal
 recovered_without_origin =
     recovered_updated open_net (map One origin_gone ++ Flush ∷ []) origin_gone_journal
     (in_recovery (take 4 origin_gone)) with_origin_gone
 
-not_quiet_without_origin : IsMachineQuiet open_net origin_gone_journal → ⊥
+not_quiet_without_origin : IsQuietMachineJournal open_net origin_gone_journal → ⊥
 unfolding left_by
 not_quiet_without_origin quiet = unreceived (λ later. is_to_b later.to && is_advert_of_a later.body)
     1 (to 1 (advert 0 1 3 2)) (advert_passes 1 3 2) (drop 5 origin_gone_journal) refl refl
@@ -328,7 +328,7 @@ with_answer_lost = record {
   written = refl;
 }
 
-recovered_without_answer : HasConvergedOnVersion open_net answer_lost_journal
+recovered_without_answer : IsNetworkUpdateConverged open_net answer_lost_journal
 recovered_without_answer =
     recovered_updated open_net (map One answer_lost ++ Flush ∷ []) answer_lost_journal
     (in_recovery (take 5 answer_lost)) with_answer_lost
@@ -354,7 +354,7 @@ answer_passes boot version later replaces =
     by_body (Installed s of earlier) (inr later) = absurd (true≢false (sym later))
     by_body _ (inr later) = absurd (true≢false (sym later))
 
-not_quiet_without_answer : IsMachineQuiet open_net answer_lost_journal → ⊥
+not_quiet_without_answer : IsQuietMachineJournal open_net answer_lost_journal → ⊥
 unfolding left_by
 not_quiet_without_answer quiet =
     unreceived (λ later. is_to_controller later.to && is_answer_of_a later.body) 4
@@ -404,7 +404,7 @@ all_delivered (Item.Sent number message ∷ after) = was_delivered after number 
 all_delivered (_ ∷ after) = all_delivered after
 
 all_received : (setting : Setting) (journal items : List Item) → IsTrue (all_delivered items)
-    → AreJournalMessagesReceived setting journal items
+    → AreMachineMessagesReceived setting journal items
 all_received setting journal [] all = tt
 all_received setting journal (Item.Sent number message ∷ after) all = (
   λ s there m. inl (and_parts (was_delivered after number) _ all).0,
@@ -412,7 +412,7 @@ all_received setting journal (Item.Sent number message ∷ after) all = (
 )
 all_received setting journal (_ ∷ after) all = all_received setting journal after all
 
-quiet_after_one_round : IsMachineQuiet open_net joining_journal
+quiet_after_one_round : IsQuietMachineJournal open_net joining_journal
 unfolding left_by
 quiet_after_one_round = record {
   switches = All-from_recursion
@@ -440,7 +440,7 @@ with_crash = record {
   written = refl;
 }
 
-not_with_crash : JournalItemsHaveCauses (DropsNothing open_net) [] crashed_journal → ⊥
+not_with_crash : JournalItemsHaveCauses (ForwardingDropsNothing open_net) [] crashed_journal → ⊥
 unfolding left_by
 not_with_crash have = not_lost have.1.1.1.1.1.0
 

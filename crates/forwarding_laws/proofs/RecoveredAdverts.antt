@@ -2,14 +2,14 @@
 -- it learnt then, and all of that was delivered.
 use Rattle.std.proofs.Common.{[], ◌++◌, ◌+◌, ◌-◌, ◌<◌, ◌==◌, ◌∙◌, ◌∷◌, ◌≡◌, ◌≢◌, ◌≤◌, Bool, IsFalse, IsTrue, List, None, Some, ap, append-nil, append_assoc, arith, false, filter, flat_map, if◌then◌else◌, inl, inr, length, map, nat_lt, not, refl, subst, sym, true, ℕ}
 use Rattle.base.proofs.Exports.{nat_tests}
-use Rattle.update_machine.specs.Exports.{Advert, Advertise, JournalItemsHaveCauses, Item, Message, Resend, Setting, StepOfRow, acked_stamp, advert_to, journal_after_steps, journal_boot_of, machine_collect_for, journal_current_mark, has_acked, heard, journal_held_adverts, machine_hello_of, journal_install_for, is_member, is_over, is_up, near, journal_next_message, journal_open_for, open_version, journal_other_advert, own_advert, piece, resend_items, journal_resent_by_controller, journal_resent_by_switch, journal_resent_to_member, journal_retired_mark, machine_sends_or_nothing, journal_stamp_for, setting_switches_in, switches_of, journal_unacked_installs, journal_version_count, journal_versions_from_current}
+use Rattle.update_machine.specs.Exports.{Advert, Advertise, JournalItemsHaveCauses, Item, Message, Resend, Setting, StepOfRow, acked_stamp, machine_advert_to, journal_after_steps, journal_boot_of, machine_collect_for, journal_current_mark, has_acked, heard, journal_held_adverts, machine_hello_of, journal_install_for, is_member, is_over, is_up, near, journal_next_message, journal_open_for, open_version, machine_advert_of_other, own_advert, piece, machine_resend_items, journal_resent_by_controller, journal_resent_by_switch, journal_resent_to_member, journal_retired_mark, machine_sends_or_nothing, journal_stamp_for, setting_switches_in, setting_switches_of, journal_unacked_installs, journal_version_count, journal_versions_from_current}
 use Rattle.control_laws.proofs.Exports.{behind_piece, ends_serve, later_versions, resends_any, same_seq}
 use Rattle.convergence_laws.proofs.Exports.{AreSpread, HasNews, IsGivenNew, IsHad, IsIn, IsStill, IsToldTo, Leaves, Spread, TellsOwn, as_new_itself, ends_there, had_back, heard_in_boot, held_in, in_filter, in_filter_map, in_flat_map, in_left, in_map, in_range, in_right, newest_held, next_grows, own_held, sends_tell, spread_agree, stills_leave, told_stills}
 use Rattle.forwarding_laws.proofs.RecoveryDeliveries.{IsFlushed, IsSince, sends_since, since_delivered}
 use Rattle.base.specs.Exports.{has}
 use Rattle.net_file.specs.Exports.{IsNet}
 use Rattle.steps.specs.Exports.{HasSwitch}
-use Rattle.convergence_laws.specs.Exports.{IsAsNew, NeighboursAgree}
+use Rattle.convergence_laws.specs.Exports.{IsConvergenceAdvertAsNew, NeighboursAgree}
 use Rattle.update_machine.proofs.Exports.{have_append}
 use Rattle.forwarding_laws.proofs.RecoveryRows.{AreEach, IsAmong}
 
@@ -20,7 +20,7 @@ use Rattle.forwarding_laws.proofs.RecoveryRows.{AreEach, IsAmong}
 -- what it sends where it is up
 abbrev sent_by : Setting → List Item → ℕ → List Message
 sent_by setting here s = machine_hello_of here s
-    ∷ flat_map (λ neighbour. map (advert_to neighbour) (journal_held_adverts setting here s))
+    ∷ flat_map (λ neighbour. map (machine_advert_to neighbour) (journal_held_adverts setting here s))
     (setting_switches_in setting (near setting here s))
 
 pub hello_resent : (setting : Setting) (here : List Item) (s : ℕ) → IsTrue (is_up here s)
@@ -33,15 +33,15 @@ hello_resent setting here s up = subst (λ b. IsIn (machine_hello_of here s) (el
 pub advert_resent : (setting : Setting) (here : List Item) (s neighbour : ℕ) (advert : Advert)
     → IsTrue (is_up here s) → IsIn neighbour (setting_switches_in setting (near setting here s))
     → IsIn advert (journal_held_adverts setting here s)
-    → IsIn (advert_to neighbour advert) (journal_resent_by_switch setting here s)
+    → IsIn (machine_advert_to neighbour advert) (journal_resent_by_switch setting here s)
 advert_resent setting here s neighbour advert up linked held =
-    subst (λ b. IsIn (advert_to neighbour advert) (elim b [
+    subst (λ b. IsIn (machine_advert_to neighbour advert) (elim b [
       | false ↦ []
       | true ↦ sent_by setting here s
     ])) (sym up)
-    (inr (in_flat_map (λ to. map (advert_to to) (journal_held_adverts setting here s)) neighbour
-    (advert_to neighbour advert) (setting_switches_in setting (near setting here s)) linked
-    (in_map (advert_to neighbour) advert (journal_held_adverts setting here s) held)))
+    (inr (in_flat_map (λ to. map (machine_advert_to to) (journal_held_adverts setting here s)) neighbour
+    (machine_advert_to neighbour advert) (setting_switches_in setting (near setting here s)) linked
+    (in_map (machine_advert_to neighbour) advert (journal_held_adverts setting here s) held)))
 
 -- ---- by the controller
 
@@ -147,8 +147,8 @@ resent setting here s = journal_resent_by_switch setting here s ++ journal_resen
 
 resend_sends : (since : ℕ) (setting : Setting) (here : List Item) (s : ℕ) (message : Message)
     → since ≤ journal_next_message here → IsIn message (resent setting here s)
-    → IsSince since (here ++ resend_items setting s here) message
-unfolding resend_items
+    → IsSince since (here ++ machine_resend_items setting s here) message
+unfolding machine_resend_items
 resend_sends since setting here s message late is =
     by_messages (journal_resent_by_switch setting here s ++ journal_resent_by_controller setting here s) is
   where
@@ -186,8 +186,8 @@ still_rest : (setting : Setting) (at : List Item) (row s : ℕ)
     → Stilly (at ++ Item.Row row (Resend s) ∷ []) (at ++ piece setting at row (Resend s))
 unfolding piece
 still_rest setting at row s = let here : List Item = at ++ Item.Row row (Resend s) ∷ [] in record {
-  items = resend_items setting s here;
-  is = sym (append_assoc at (Item.Row row (Resend s) ∷ []) (resend_items setting s here));
+  items = machine_resend_items setting s here;
+  is = sym (append_assoc at (Item.Row row (Resend s) ∷ []) (machine_resend_items setting s here));
   have = resends_any IsStill (λ now n message. tt) setting s here tt;
 }
 
@@ -240,13 +240,13 @@ asked_still setting s before (next ∷ steps) are is = elim is [
 
 resend_tells : {since : ℕ} (setting : Setting) (here : List Item) (s neighbour : ℕ)
     (advert : Advert) → since ≤ journal_next_message here
-    → IsIn (advert_to neighbour advert) (resent setting here s)
-    → IsToldTo since (here ++ resend_items setting s here) neighbour advert
-unfolding resend_items
+    → IsIn (machine_advert_to neighbour advert) (resent setting here s)
+    → IsToldTo since (here ++ machine_resend_items setting s here) neighbour advert
+unfolding machine_resend_items
 resend_tells {since = since} setting here s neighbour advert late is =
     by_messages (journal_resent_by_switch setting here s ++ journal_resent_by_controller setting here s) is
   where
-    by_messages : (messages : List Message) → IsIn (advert_to neighbour advert) messages
+    by_messages : (messages : List Message) → IsIn (machine_advert_to neighbour advert) messages
         → IsToldTo since (here ++ machine_sends_or_nothing here messages) neighbour advert
     by_messages [] is = absurd is
     by_messages (first ∷ messages) is = sends_tell here (first ∷ messages) neighbour advert late is
@@ -254,7 +254,7 @@ resend_tells {since = since} setting here s neighbour advert late is =
 -- what the switch holds as it is asked
 record IsHeldAsNew (setting : Setting) (here : List Item) (s : ℕ) (than : Advert) : Type 0 where
   advert : Advert
-  as_new : IsAsNew advert than
+  as_new : IsConvergenceAdvertAsNew advert than
   held : IsIn advert (journal_held_adverts setting here s)
 
 pub resends_spread : (setting : Setting) (before : List Item) (steps : List StepOfRow)
@@ -306,7 +306,7 @@ resends_spread setting before steps net are each tells =
             let told = tells.tells s neighbour linked in
             let seq = same_seq setting after here s (left.advert s) in record {
               advert = own_advert setting here s;
-              as_new = subst (IsAsNew (own_advert setting here s)) (sym own)
+              as_new = subst (IsConvergenceAdvertAsNew (own_advert setting here s)) (sym own)
                   (as_new_itself (own_advert setting here s));
               held = held_in setting here s s (own_advert setting here s) small
                   (own_held setting here s small (omega (arith, told, seq)));
@@ -317,7 +317,7 @@ resends_spread setting before steps net are each tells =
           held = held_in setting here s a.origin found.advert of.small found.held;
         }
 
-      sent : IsIn (advert_to neighbour best.advert) (resent setting here s)
+      sent : IsIn (machine_advert_to neighbour best.advert) (resent setting here s)
       sent =
           let up : IsTrue (is_up here s) = sym (left.up s)
           ∙ (tells.known.serving s).up (ends_serve setting after s neighbour linked).0 in
@@ -326,7 +326,7 @@ resends_spread setting before steps net are each tells =
           let fits = (ends_there setting after s neighbour net linked).other in
           in_left _ (journal_resent_by_switch setting here s) (journal_resent_by_controller setting here s)
           (advert_resent setting here s neighbour best.advert up
-          (in_filter (has (near setting here s)) neighbour (switches_of setting) (in_range neighbour
+          (in_filter (has (near setting here s)) neighbour (setting_switches_of setting) (in_range neighbour
           0 (length setting.net.switches) (omega arith) (omega (arith, fits))) near_here) best.held)
 
       told : IsToldTo (journal_next_message before) behind neighbour best.advert
@@ -343,10 +343,10 @@ told_given : (setting : Setting) (before journal : List Item) → IsFlushed sett
 told_given setting before journal are s b up other told = record {
   advert = b;
   as_new = as_new_itself b;
-  given = inr (in_filter_map (journal_other_advert s) (Advertise b) b (heard journal s)
+  given = inr (in_filter_map (machine_advert_of_other s) (Advertise b) b (heard journal s)
       (heard_in_boot journal s told.number (journal_boot_of journal s) (Advertise b) are.traced told.is up
       refl refl (since_delivered setting before journal are told.number (journal_boot_of journal s)
-      (advert_to s b) told.late told.is)) (ap (λ c. if c then None else Some b) apart));
+      (machine_advert_to s b) told.late told.is)) (ap (λ c. if c then None else Some b) apart));
 } where
   apart : (b.origin == s) ≡ false
   apart = grind (arith, nat_tests)

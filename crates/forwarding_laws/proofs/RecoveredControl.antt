@@ -2,10 +2,10 @@
 use Rattle.std.proofs.Common.{[], ◌<◌, ◌∙◌, ◌≡◌, ◌≤◌, ◌⊎◌, All, Bool, IsFalse, IsTrue, List, None, Some, ap, arith, eq-eqb, false, inl, inr, length, refl, subst, sym, true, ℕ}
 use Rattle.base.proofs.Exports.{cases_lt}
 use Rattle.ctrl_msg.specs.Exports.{body_boot, to_controller}
-use Rattle.update_machine.specs.Exports.{Body, JournalItemsHaveCauses, Hello, Install, Installed, Item, Message, OpenAt, Setting, Stamp, Stamped, Tables, acked_stamp, journal_boot_of, controller_heard, journal_current_mark, has_acked, journal_body_for_boot, is_member, is_over, is_up, journal_known_boot, message_of, journal_next_message, open_version, opened_at, journal_resent_by_controller, journal_resent_by_switch, sendings, serves, switches_of, journal_tables_at, machine_message_to_switch, touched_by, journal_version_count, was_delivered}
+use Rattle.update_machine.specs.Exports.{Body, JournalItemsHaveCauses, Hello, Install, Installed, Item, Message, OpenAt, Setting, Stamp, Stamped, Tables, acked_stamp, journal_boot_of, journal_controller_heard, journal_current_mark, has_acked, is_journal_body_for_boot, is_member, is_over, is_up, journal_known_boot, journal_message_of, journal_next_message, open_version, journal_opened_at, journal_resent_by_controller, journal_resent_by_switch, sendings, serves, setting_switches_of, journal_tables_at, machine_message_to_switch, machine_touched_by, journal_version_count, was_delivered}
 use Rattle.ternary.specs.Exports.{WordValue}
 use Rattle.update_machine.proofs.Exports.{start_laws}
-use Rattle.control_laws.specs.Exports.{HasControlItemCause, stamp_message_to}
+use Rattle.control_laws.specs.Exports.{HasControlItemCause, control_stamp_message_to}
 use Rattle.control_laws.proofs.Exports.{AreKept, OpeningsStand, acked_stamp_opened, acknowledged, bounded, by_number, fact_on, member_of, opened_in, opened_is, opened_on, openings_at_first, openings_on}
 use Rattle.convergence_laws.proofs.Exports.{AreReady, IsCaughtUp, IsIn, IsInOrder, IsTraced, TablesSent, caused_recorded, caused_traced, each_in, first_acked, hello_known, in_left, in_right, installed_acked, items_caused, opened_stamps, some_opening, stamped_acked}
 use Rattle.forwarding_laws.proofs.RecoveryCalmItems.{Calmly, Stays, acked_grows, calm_causes, stamp_grows, stays}
@@ -41,13 +41,13 @@ record Moment (setting : Setting) (before journal : List Item) (s : ℕ) : Type 
 -- a stamp was sent only to a switch that had been opened in that boot
 record StampsFollow (journal : List Item) : Type 0 where
   each : (n s boot version : ℕ) (touched : List WordValue)
-      → message_of journal n ≡ Some (stamp_message_to s boot version touched)
+      → journal_message_of journal n ≡ Some (control_stamp_message_to s boot version touched)
       → (opened : ℕ) × (opened_in journal s boot ≡ Some opened)
 
 stamps_follow_on : (setting : Setting) → AreKept (HasControlItemCause setting) StampsFollow
 stamps_follow_on setting now next cause follow = record {
   each = λ n s boot version touched is.
-      elim (by_number now next n (stamp_message_to s boot version touched) is) [
+      elim (by_number now next n (control_stamp_message_to s boot version touched) is) [
         | inl new ↦ let right = subst (HasControlItemCause setting now) new cause in
             let opening = some_opening now s right.member in (
               opening.0,
@@ -64,7 +64,7 @@ stamps_follow : (setting : Setting) (journal : List Item)
 stamps_follow setting journal causes = fact_on (HasControlItemCause setting) StampsFollow
     (stamps_follow_on setting) [] journal causes (record {
       each = λ n s boot version touched is.
-          let none : None ≡ Some (stamp_message_to s boot version touched) =
+          let none : None ≡ Some (control_stamp_message_to s boot version touched) =
           rw (start_laws.message n).message at is in absurd cc;
     })
 
@@ -93,11 +93,11 @@ module _ (setting : Setting) (before journal : List Item)
       (record { number = sent.number; message = machine_message_to_switch s body; boot = sent.boot })
       (sendings journal) are.flushed.traced.each sent.is).message) up own
     where
-      own : IsTrue (journal_body_for_boot (journal_boot_of journal s) body)
+      own : IsTrue (is_journal_body_for_boot (journal_boot_of journal s) body)
       own = rw of (eq-eqb (journal_boot_of journal s) (journal_boot_of journal s) refl)
 
   told : (body : Body) → IsSince since journal (to_controller body)
-      → IsIn body (controller_heard journal)
+      → IsIn body (journal_controller_heard journal)
   told body sent = since_told setting before journal are.flushed body sent
 
   -- ---- boots
@@ -144,7 +144,7 @@ module _ (setting : Setting) (before journal : List Item)
       }
 
   -- a message of the known boot that was sent before shows that this boot was known
-  known_before : (s n : ℕ) (body : Body) → message_of before n ≡ Some (machine_message_to_switch s body)
+  known_before : (s n : ℕ) (body : Body) → journal_message_of before n ≡ Some (machine_message_to_switch s body)
       → body_boot body ≡ Some (journal_known_boot journal s) → journal_known_boot journal s ≤ journal_known_boot before s
   known_before s n body sent of = rw of at
       (are.flushed.first.known.boots.sent n (machine_message_to_switch s body) sent)
@@ -207,7 +207,7 @@ module _ (setting : Setting) (before journal : List Item)
   -- at the moment at which it is asked a switch is a member that was opened before
   member_then : (s version : ℕ) → (at : Moment setting before journal s)
       → opened_in before s (journal_known_boot journal s) ≡ Some version
-      → (opened_at at.asked.here s ≡ Some version) × IsTrue (is_member at.asked.here s)
+      → (journal_opened_at at.asked.here s ≡ Some version) × IsTrue (is_member at.asked.here s)
   member_then s version at opened =
       let here = at.asked.here in
       let now = opened_is here s ∙ ap (opened_in here s) (sym at.known)
@@ -231,7 +231,7 @@ module _ (setting : Setting) (before journal : List Item)
         ]
       ]
     where
-      opening : (version : ℕ) × (opened_at journal s ≡ Some version)
+      opening : (version : ℕ) × (journal_opened_at journal s ≡ Some version)
       opening = some_opening journal s member
 
       again : IsEarlier before (machine_message_to_switch s (OpenAt (journal_known_boot journal s) opening.0))
@@ -253,7 +253,7 @@ module _ (setting : Setting) (before journal : List Item)
 
   stamp_known : (s version : ℕ) (touched : List WordValue) → s < length setting.net.switches
       → IsTrue (is_up journal s)
-      → IsSince since journal (stamp_message_to s (journal_known_boot journal s) version touched)
+      → IsSince since journal (control_stamp_message_to s (journal_known_boot journal s) version touched)
       → version ≤ acked_stamp journal s
   stamp_known s version touched there up sent = stamped_acked journal s version
       (told (Stamped s (journal_known_boot journal s) version) (answered s
@@ -261,7 +261,7 @@ module _ (setting : Setting) (before journal : List Item)
 
   stamp_again : (s n : ℕ) (touched : List WordValue) → s < length setting.net.switches
       → IsTrue (is_up journal s)
-      → message_of before n ≡ Some (stamp_message_to s (journal_known_boot journal s) (journal_current_mark journal) touched)
+      → journal_message_of before n ≡ Some (control_stamp_message_to s (journal_known_boot journal s) (journal_current_mark journal) touched)
       → journal_current_mark journal ≤ acked_stamp journal s
   stamp_again s n touched there up early =
       by_stamp (cases_lt (acked_stamp here s) (journal_current_mark here))
@@ -280,7 +280,7 @@ module _ (setting : Setting) (before journal : List Item)
       opened = (stamps_follow setting before caused).each n s (journal_known_boot journal s)
           (journal_current_mark journal) touched early
 
-      then : (opened_at here s ≡ Some opened.0) × IsTrue (is_member here s)
+      then : (journal_opened_at here s ≡ Some opened.0) × IsTrue (is_member here s)
       then = member_then s opened.0 at opened.1
 
       -- the mark was there then
@@ -301,10 +301,10 @@ module _ (setting : Setting) (before journal : List Item)
           let sent = at.asked.sends _ (in_right _ (journal_resent_by_switch setting here s)
           (journal_resent_by_controller setting here s)
           (stamp_resent setting here s at.not_over then.1 behind)) in
-          let known = stamp_known s (journal_current_mark here) (touched_by setting here (journal_current_mark here))
+          let known = stamp_known s (journal_current_mark here) (machine_touched_by setting here (journal_current_mark here))
           there up
-          (subst (λ b. IsSince since journal (stamp_message_to s b (journal_current_mark here)
-          (touched_by setting here (journal_current_mark here)))) (sym at.known) sent) in
+          (subst (λ b. IsSince since journal (control_stamp_message_to s b (journal_current_mark here)
+          (machine_touched_by setting here (journal_current_mark here)))) (sym at.known) sent) in
           omega (arith, known, mark)
       by_stamp (inr above) =
           let known = stamp_grows setting here journal s (journal_current_mark here) opened.0 at.asked.rest
@@ -322,7 +322,7 @@ module _ (setting : Setting) (before journal : List Item)
         ]
   ]
 
-  pub recovered_caught : All (IsConfirmed before) (switches_of setting) → IsCaughtUp setting journal
+  pub recovered_caught : All (IsConfirmed before) (setting_switches_of setting) → IsCaughtUp setting journal
   recovered_caught confirmed = record {
     switches = all_confirmed_on setting before journal calm confirmed;
     known = known_own;

@@ -1,15 +1,15 @@
 -- Recovery, of each journal that answers a schedule that ends in it.
 use Rattle.std.proofs.Common.{[], ◌++◌, ◌∙◌, ◌∷◌, ◌≡◌, ◌≤◌, ◌⊎◌, Bool, IsTrue, List, None, Option, Some, arith, false, inl, inr, option_map, refl, subst, suc, sym, true, zero, ℕ}
-use Rattle.update_machine.specs.Exports.{Answers, AreAllMachineEventSteps, Deliver, Event, Flush, JournalItemsHaveCauses, IsSetting, Item, Message, Resend, Setting, Step, StepOfRow, MachineTakesNextNumber, journal_after_steps, is_forgotten_in_journal, message_of, journal_next_delivery, journal_next_message, next_waiting, piece, was_delivered}
+use Rattle.update_machine.specs.Exports.{Answers, AreAllMachineEventSteps, Deliver, Event, Flush, JournalItemsHaveCauses, IsSetting, Item, Message, Resend, Setting, Step, StepOfRow, MachineTakesNextNumber, journal_after_steps, is_forgotten_in_journal, journal_message_of, journal_next_delivery, journal_next_message, next_waiting, piece, was_delivered}
 use Rattle.net_file.specs.Exports.{IsNet}
 use Rattle.steps.specs.Exports.{HasSwitch}
 use Rattle.update_machine.proofs.Exports.{AreOf, after_append, start_laws}
-use Rattle.control_laws.specs.Exports.{AreNetworkEvents, HoldsAtEnds}
+use Rattle.control_laws.specs.Exports.{AreNetworkEvents, ControlLawHoldsAtEnds}
 use Rattle.control_laws.proofs.Exports.{AreKept, by_number, fact_on, steps_have}
-use Rattle.convergence_laws.specs.Exports.{GetStuckApart, HasConverged, HasConvergedOnVersion, NeighboursAgree}
+use Rattle.convergence_laws.specs.Exports.{ConvergedGetStuckApart, HasConverged, IsNetworkUpdateConverged, NeighboursAgree}
 use Rattle.convergence_laws.proofs.Exports.{AreReady, AreTraced, IsInOrder, all_end, caught_updated, caused_traced, ends_spread, ends_tell, flush_ends, next_first, next_grows, none_waits, pieces_in_order, sent_delivered, steps_ready, steps_spread}
-use Rattle.packet_laws.specs.Exports.{HoldsBetween}
-use Rattle.forwarding_laws.specs.Exports.{RecoveryDeliversAll, EndsInRecovery, HasRecovered, QuietForwards}
+use Rattle.packet_laws.specs.Exports.{PacketLawHoldsBetween}
+use Rattle.forwarding_laws.specs.Exports.{ForwardingRecoveryDeliversAll, EndsInRecovery, HasRecovered, ForwardsWhenQuiet}
 use Rattle.forwarding_laws.proofs.RecoveredAdverts.{piece_resends, recovered_agree, resends_spread}
 use Rattle.forwarding_laws.proofs.RecoveryCalmItems.{Calmly, IsCalmStep, calm_rest, calm_row, calm_steps, calm_through, stays}
 use Rattle.forwarding_laws.proofs.RecoveredControl.{IsAsked, IsRecovered, recovered_caught}
@@ -149,7 +149,7 @@ module _ (setting : Setting) (journal : List Item) (ends : EndsCalmly setting jo
     delivers = delivers;
   }
 
-  pub ends_updated : HasConvergedOnVersion setting journal
+  pub ends_updated : IsNetworkUpdateConverged setting journal
   ends_updated = caught_updated setting journal ends_recovered.ready
       (recovered_caught setting confirmed journal ends_recovered ends.switches)
 
@@ -162,7 +162,7 @@ recovered_neighbours setting events journal net ends answers =
     ends_agree setting journal (ends_calmly setting events journal ends answers) net
 
 pub recovered_updated : (setting : Setting) (events : List Event) (journal : List Item)
-    → EndsInRecovery setting.net events → Answers setting events journal → HasConvergedOnVersion setting journal
+    → EndsInRecovery setting.net events → Answers setting events journal → IsNetworkUpdateConverged setting journal
 recovered_updated setting events journal ends answers =
     ends_updated setting journal (ends_calmly setting events journal ends answers)
 
@@ -174,9 +174,9 @@ Agrees Holds setting journal =
 
 abbrev pub ForwardsBy : Setting → List Item → Type 0
 ForwardsBy setting journal = IsSetting setting → HasConverged setting journal
-    → HasConvergedOnVersion setting journal → QuietForwards setting journal
+    → IsNetworkUpdateConverged setting journal → ForwardsWhenQuiet setting journal
 
-pub recovered_converged : HoldsAtEnds (Agrees HasConverged)
+pub recovered_converged : ControlLawHoldsAtEnds (Agrees HasConverged)
     → ((setting : Setting) (events : List Event) (journal : List Item) → IsNet setting.net
     → EndsInRecovery setting.net events → Answers setting events journal
     → NeighboursAgree setting journal)
@@ -187,8 +187,8 @@ recovered_converged converge agree setting events journal net ends answers =
     converge.answered setting events journal answers net
     (agree setting events journal net ends answers)
 
-pub calm_recovers : HoldsAtEnds (Agrees HasConverged) → HoldsAtEnds (Agrees GetStuckApart)
-    → HoldsBetween ForwardsBy → (setting : Setting) (events : List Event) (journal : List Item)
+pub calm_recovers : ControlLawHoldsAtEnds (Agrees HasConverged) → ControlLawHoldsAtEnds (Agrees ConvergedGetStuckApart)
+    → PacketLawHoldsBetween ForwardsBy → (setting : Setting) (events : List Event) (journal : List Item)
     → IsSetting setting → AreNetworkEvents setting events → Answers setting events journal
     → EndsCalmly setting journal → HasRecovered setting journal
 calm_recovers converge part forward setting events journal is own answers ends = record {
@@ -204,8 +204,8 @@ calm_recovers converge part forward setting events journal is own answers ends =
   converged : HasConverged setting journal
   converged = converge.answered setting events journal answers is.net agree
 
-pub recovers : HoldsAtEnds (Agrees HasConverged) → HoldsAtEnds (Agrees GetStuckApart)
-    → HoldsBetween ForwardsBy → (setting : Setting) (events : List Event) (journal : List Item)
+pub recovers : ControlLawHoldsAtEnds (Agrees HasConverged) → ControlLawHoldsAtEnds (Agrees ConvergedGetStuckApart)
+    → PacketLawHoldsBetween ForwardsBy → (setting : Setting) (events : List Event) (journal : List Item)
     → IsSetting setting → AreNetworkEvents setting events → EndsInRecovery setting.net events
     → Answers setting events journal → HasRecovered setting journal
 recovers converge part forward setting events journal is own ends answers =
@@ -217,28 +217,28 @@ recovers converge part forward setting events journal is own ends answers =
 -- messages are numbered from 1
 first_numbers : (setting : Setting) (journal : List Item)
     → JournalItemsHaveCauses (IsInOrder setting) [] journal → (n : ℕ) (message : Message)
-    → message_of journal n ≡ Some message → 1 ≤ n
+    → journal_message_of journal n ≡ Some message → 1 ≤ n
 first_numbers setting journal causes zero message sent =
-    absurd (cc (sym (fact_on (IsInOrder setting) (λ now. message_of now 0 ≡ None) next_none []
+    absurd (cc (sym (fact_on (IsInOrder setting) (λ now. journal_message_of now 0 ≡ None) next_none []
     journal causes (start_laws.message 0).message) ∙ sent))
   where
-    next_none : AreKept (IsInOrder setting) (λ now. message_of now 0 ≡ None)
-    next_none now next both none = elim (cases_none (message_of (now ++ next ∷ []) 0) refl) [
+    next_none : AreKept (IsInOrder setting) (λ now. journal_message_of now 0 ≡ None)
+    next_none now next both none = elim (cases_none (journal_message_of (now ++ next ∷ []) 0) refl) [
       | inl is ↦ is
       | inr found ↦ elim (by_number now next 0 found.0 found.1) [
         | inl new ↦ absurd (omega (arith, subst (MachineTakesNextNumber now) new both.second.first, next_first))
         | inr old ↦ let clash : None ≡ Some found.0 = sym none ∙ old in absurd cc
       ]
     ] where
-      cases_none : (o : Option Message) → message_of (now ++ next ∷ []) 0 ≡ o
-          → (message_of (now ++ next ∷ []) 0 ≡ None)
-          ⊎ ((message : Message) × (message_of (now ++ next ∷ []) 0 ≡ Some message))
+      cases_none : (o : Option Message) → journal_message_of (now ++ next ∷ []) 0 ≡ o
+          → (journal_message_of (now ++ next ∷ []) 0 ≡ None)
+          ⊎ ((message : Message) × (journal_message_of (now ++ next ∷ []) 0 ≡ Some message))
       cases_none None e = inl e
       cases_none (Some message) e = inr (message, e)
 first_numbers setting journal causes (suc n) message sent = omega arith
 
 one_of : (journal : List Item) (n : ℕ) (message : Message) → AreTraced journal
-    → next_waiting journal ≡ None → 1 ≤ n → message_of journal n ≡ Some message
+    → next_waiting journal ≡ None → 1 ≤ n → journal_message_of journal n ≡ Some message
     → IsTrue (was_delivered journal n) ⊎ IsTrue (is_forgotten_in_journal journal n)
 one_of journal n message traced waiting first sent = by_forgotten (is_forgotten_in_journal journal n) refl
   where
@@ -249,7 +249,7 @@ one_of journal n message traced waiting first sent = by_forgotten (is_forgotten_
         (traced.sent n message sent))
 
 pub flushed_all : (setting : Setting) (events : List Event) (journal : List Item)
-    → Answers setting (events ++ Flush ∷ []) journal → RecoveryDeliversAll journal
+    → Answers setting (events ++ Flush ∷ []) journal → ForwardingRecoveryDeliversAll journal
 flushed_all setting events journal answers n message sent =
     one_of journal n message (caused_traced setting journal causes) waiting
     (first_numbers setting journal causes n message sent) sent

@@ -3,7 +3,7 @@
 -- only grows.
 use Rattle.std.proofs.Common.{[], if◌then◌else◌, ◌++◌, ◌<◌, ◌==◌, ◌∙◌, ◌∷◌, ◌≡◌, ◌≤◌, Bool, IsFalse, IsTrue, List, None, Some, ap, append-nil, append_assoc, arith, false, refl, subst, sym, true, unwrap_or, ℕ}
 use Rattle.base.proofs.Exports.{nat_tests, option_or, ⊤}
-use Rattle.update_machine.specs.Exports.{Body, Confirm, Deliver, JournalItemsHaveCauses, Item, Message, Resend, Setting, Step, StepOfRow, MachineTakesNextNumber, acked_stamp, journal_after_steps, journal_boot_of, journal_current_mark, machine_first_open, gives_waited_for, has_acked, is_forgotten_in_journal, is_up, is_waited_for, journal_known_boot, journal_link_changes, message_of, journal_next_message, machine_open_sent, opened_at, piece, journal_retired_mark, send_items, serves, step_items, journal_switch_items, journal_version_count}
+use Rattle.update_machine.specs.Exports.{Body, Confirm, Deliver, JournalItemsHaveCauses, Item, Message, Resend, Setting, Step, StepOfRow, MachineTakesNextNumber, acked_stamp, journal_after_steps, journal_boot_of, journal_current_mark, machine_first_open, gives_journal_waited_for, has_acked, is_forgotten_in_journal, is_up, is_waited_for, journal_known_boot, journal_link_changes, journal_message_of, journal_next_message, machine_open_sent, journal_opened_at, piece, journal_retired_mark, send_items, serves, machine_step_items, journal_switch_items, journal_version_count}
 use Rattle.update_machine.proofs.Exports.{AreOf, have_append, have_first, next_rises}
 use Rattle.control_laws.proofs.Exports.{AreKept, Both, IsControl, acked_more, acked_stamp_rises, boot_more, confirm_control, controller_control, count_more, current_rises, deliver_has, fact_on, have_both, have_weaker, known_rises, last_more, message_more, opened_at_more, opened_in, opened_on, resends_any, retired_rises, sends_any, serving_more, switch_cases, up_more}
 use Rattle.convergence_laws.proofs.Exports.{IsInOrder, forgotten_more, pieces_in_order}
@@ -50,7 +50,7 @@ switch_calm setting before s body now = switch_cases (JournalItemsHaveCauses IsC
     tt
 
 step_calm : (setting : Setting) (before : List Item) (step : Step) (here : List Item)
-    → IsCalmStep step → JournalItemsHaveCauses IsCalm here (step_items setting before step here)
+    → IsCalmStep step → JournalItemsHaveCauses IsCalm here (machine_step_items setting before step here)
 step_calm setting before (Confirm s) here is =
     have_weaker IsControl IsCalm control_is_calm _ _ (confirm_control setting s here)
 step_calm setting before (Resend s) here is =
@@ -103,8 +103,8 @@ pub calm_rest : (setting : Setting) (before : List Item) (row : ℕ) (step : Ste
 unfolding piece
 calm_rest setting before row step is =
     let here : List Item = before ++ Item.Row row step ∷ [] in record {
-      items = step_items setting before step here;
-      is = sym (append_assoc before (Item.Row row step ∷ []) (step_items setting before step here));
+      items = machine_step_items setting before step here;
+      is = sym (append_assoc before (Item.Row row step ∷ []) (machine_step_items setting before step here));
       have = have_both IsCalm (IsInOrder setting) here _ (step_calm setting before step here is)
           (pieces_in_order setting before row step).1;
     }
@@ -138,19 +138,19 @@ pub record Stays (before after : List Item) : Type 0 where
   pub numbers : journal_next_message before ≤ journal_next_message after
   pub opened : (s boot version : ℕ) → opened_in before s boot ≡ Some version
       → opened_in after s boot ≡ Some version
-  pub messages : (n : ℕ) → n < journal_next_message before → message_of after n ≡ message_of before n
+  pub messages : (n : ℕ) → n < journal_next_message before → journal_message_of after n ≡ journal_message_of before n
 
 pub next_confirmed : (before : List Item) (next : Item) (s : ℕ) → IsCalm before next
     → IsFalse (is_waited_for before s) → IsFalse (is_waited_for (before ++ next ∷ []) s)
 next_confirmed before (Item.Down t) s calm none = absurd calm
 next_confirmed before (Item.OverNow t) s calm none =
-    rw (last_more (gives_waited_for s) before (Item.OverNow t) false) (by_test (t == s) none)
+    rw (last_more (gives_journal_waited_for s) before (Item.OverNow t) false) (by_test (t == s) none)
   where
     by_test : (b : Bool) → IsFalse (is_waited_for before s)
         → IsFalse (unwrap_or (if b then Some false else None) (is_waited_for before s))
     by_test true none = refl
     by_test false none = none
-next_confirmed before next s calm none = rw (last_more (gives_waited_for s) before next false) none
+next_confirmed before next s calm none = rw (last_more (gives_journal_waited_for s) before next false) none
 
 next_serving : (before : List Item) (next : Item) (s : ℕ) → IsCalm before next
     → IsTrue (serves before s) → IsTrue (serves (before ++ next ∷ []) s)
@@ -166,7 +166,7 @@ next_serving before (Item.Opened t version) s calm serving =
 next_serving before next s calm serving = rw (serving_more before next s) serving
 
 next_message_same : (before : List Item) (next : Item) (n : ℕ) → MachineTakesNextNumber before next
-    → n < journal_next_message before → message_of (before ++ next ∷ []) n ≡ message_of before n
+    → n < journal_next_message before → journal_message_of (before ++ next ∷ []) n ≡ journal_message_of before n
 next_message_same before (Item.Sent number message) n takes below =
     let apart : (number == n) ≡ false = grind (arith, nat_tests) in
     rw (message_more before (Item.Sent number message) n, apart) refl
@@ -283,12 +283,12 @@ acked_grows setting before after s version = while_known setting before after s
 
 -- a switch that was opened is known to stamp with no lower version
 record StampsAbove (s bound version : ℕ) (now : List Item) : Type 0 where
-  opened : opened_at now s ≡ Some version
+  opened : journal_opened_at now s ≡ Some version
   above : bound ≤ acked_stamp now s
 
 pub stamp_grows : (setting : Setting) (before after : List Item) (s bound version : ℕ)
     → Calmly setting before after → journal_known_boot after s ≡ journal_known_boot before s
-    → opened_at before s ≡ Some version → bound ≤ acked_stamp before s → bound ≤ acked_stamp after s
+    → journal_opened_at before s ≡ Some version → bound ≤ acked_stamp before s → bound ≤ acked_stamp after s
 stamp_grows setting before after s bound version calm same opened above =
     (while_known setting before after s (StampsAbove s bound version)
     (λ now next still stamps. let now_opened = opened_at_more now next s still

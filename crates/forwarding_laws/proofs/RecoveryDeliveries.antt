@@ -1,7 +1,7 @@
 -- What was delivered within calm steps was delivered by one of them; so a switch answered it then.
 use Rattle.std.proofs.Common.{[], ◌++◌, ◌+◌, ◌<◌, ◌==◌, ◌||◌, ◌∙◌, ◌∷◌, ◌≡◌, ◌≤◌, ◌⊎◌, Bool, IfSome, IsFalse, IsTrue, List, None, Some, ap, append-nil, append_assoc, arith, eq-eqb, eqb-true, false, inl, inr, refl, subst, sym, true, ℕ}
 use Rattle.base.proofs.Exports.{IfSome_then, cases_lt}
-use Rattle.update_machine.specs.Exports.{Body, Confirm, Deliver, JournalItemsHaveCauses, Install, Installed, Item, Message, OpenAt, Resend, Setting, Stamp, Stamped, Step, StepOfRow, journal_after_steps, journal_body_to_switch, journal_receiver_boot_at, journal_boot_of, controller_heard, deliver_items, machine_delivery_items, is_deliverable, journal_body_for_boot, is_forgotten_in_journal, is_up, journal_items_then, message_of, journal_next_message, next_waiting, nothing, piece, send_items, sendings, machine_sent_items_from, serves, journal_switch_items, machine_message_to_switch, was_delivered}
+use Rattle.update_machine.specs.Exports.{Body, Confirm, Deliver, JournalItemsHaveCauses, Install, Installed, Item, Message, OpenAt, Resend, Setting, Stamp, Stamped, Step, StepOfRow, journal_after_steps, journal_body_to_switch, journal_receiver_boot_at, journal_boot_of, journal_controller_heard, deliver_items, machine_delivery_items, is_deliverable, is_journal_body_for_boot, is_forgotten_in_journal, is_up, journal_items_then, journal_message_of, journal_next_message, next_waiting, nothing, piece, send_items, sendings, machine_sent_items_from, serves, journal_switch_items, machine_message_to_switch, was_delivered}
 use Rattle.ctrl_msg.specs.Exports.{to_controller}
 use Rattle.convergence_laws.proofs.Exports.{AreTraced, IsIn, IsInOrder, IsPlain, IsSent, IsTraced, Plain, answer_of, caused_traced, deliverable_sent, delivered_more, delivery_is, delivery_plain, each_in, in_right, is_plain, next_grows, one_delivered, opens, sendings_more, sendings_on, sent_by, step_plain}
 use Rattle.forwarding_laws.proofs.RecoveryCalmItems.{Calmly, IsCalmStep, Stays, calm_causes, calm_piece, calm_steps, calm_through, stays}
@@ -63,7 +63,7 @@ sends_since since journal messages message late is =
 -- a message of the journal before
 pub record IsEarlier (before : List Item) (message : Message) : Type 0 where
   pub number : ℕ
-  pub sent : message_of before number ≡ Some message
+  pub sent : journal_message_of before number ≡ Some message
 
 pub since_or_earlier : (setting : Setting) (before journal : List Item) (message : Message)
     → Calmly setting before journal → AreTraced journal → IsSent journal message
@@ -115,7 +115,7 @@ since_delivered setting before journal are number boot message late is =
 -- so the controller heard what was sent to it
 pub since_told : (setting : Setting) (before journal : List Item) → IsFlushed setting before journal
     → (body : Body) → IsSince (journal_next_message before) journal (to_controller body)
-    → IsIn body (controller_heard journal)
+    → IsIn body (journal_controller_heard journal)
 since_told setting before journal are body sent = (each_in (IsTraced journal)
     (record { number = sent.number; message = to_controller body; boot = sent.boot })
     (sendings journal) are.traced.each sent.is).course (since_delivered setting before journal are
@@ -264,8 +264,8 @@ switch_since setting since before s _ now late same = tt
 -- the message of this number, which was sent to a switch that is up in the boot that it is for
 pub delivered_answered : (setting : Setting) (before after : List Item) (n s : ℕ) (body : Body)
     → JournalItemsHaveCauses (IsInOrder setting) [] before → IsDeliveredIn setting before after n
-    → message_of after n ≡ Some (machine_message_to_switch s body) → IsTrue (is_up after s)
-    → IsTrue (journal_body_for_boot (journal_boot_of after s) body)
+    → journal_message_of after n ≡ Some (machine_message_to_switch s body) → IsTrue (is_up after s)
+    → IsTrue (is_journal_body_for_boot (journal_boot_of after s) body)
     → IsAnsweredSince (journal_next_message before) after s body
 unfolding deliver_items
 delivered_answered setting before after n s body causes is sent up own =
@@ -289,7 +289,7 @@ delivered_answered setting before after n s body causes is sent up own =
     left = stays setting at after
         (calm_through setting at then after (calm_piece setting at is.row (Deliver n) tt) is.rest)
 
-    sent_at : message_of at n ≡ Some (machine_message_to_switch s body)
+    sent_at : journal_message_of at n ≡ Some (machine_message_to_switch s body)
     sent_at =
         let found = deliverable_sent at n is.may in
         let below : n < journal_next_message at =
@@ -301,8 +301,8 @@ delivered_answered setting before after n s body causes is sent up own =
     said =
         let sent_here = sent_at in
         let same : (s == s) ≡ true = eq-eqb s s refl in
-        let for_it : journal_body_for_boot (journal_boot_of at s) body ≡ true =
-        ap (λ b. journal_body_for_boot b body) (sym (left.boot s)) ∙ own in
+        let for_it : is_journal_body_for_boot (journal_boot_of at s) body ≡ true =
+        ap (λ b. is_journal_body_for_boot b body) (sym (left.boot s)) ∙ own in
         rw (sent_here, same, sym (left.up s) ∙ up, for_it, journal_body_to_switch) refl
 
     late : journal_next_message before ≤ journal_next_message now

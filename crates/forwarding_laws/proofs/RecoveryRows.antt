@@ -3,12 +3,12 @@
 -- that waits.
 use Rattle.std.proofs.Common.{[], ◌++◌, ◌+◌, ◌||◌, ◌∙◌, ◌∷◌, ◌≡◌, ◌⊎◌, All, Bool, Contains, IsFalse, IsTrue, List, ap, append-nil, append_assoc, arith, eq-eqb, false, inl, inr, length, not, refl, subst, sym, true, ℕ}
 use Rattle.base.proofs.Exports.{All-from_recursion, AllByRecursion, recursion_from_All}
-use Rattle.update_machine.specs.Exports.{Answers, AreAllMachineEventSteps, AreMachineSteps, Confirm, Event, Flush, Item, One, Resend, Setting, Step, StepOfRow, journal_after_steps, confirm_items, gives_waited_for, is_up, is_waited_for, journal_items_then, journal_next_delivery, nothing, piece, settling, switches_of}
+use Rattle.update_machine.specs.Exports.{Answers, AreAllMachineEventSteps, AreMachineSteps, Confirm, Event, Flush, Item, One, Resend, Setting, Step, StepOfRow, journal_after_steps, confirm_items, gives_journal_waited_for, is_up, is_waited_for, journal_items_then, journal_next_delivery, nothing, piece, settling, setting_switches_of}
 use Rattle.steps.specs.Exports.{HasSwitch}
 use Rattle.update_machine.proofs.Exports.{AreOf, after_append}
 use Rattle.control_laws.proofs.Exports.{IsControl, behind_piece, each_range, each_weaker, fact_on, have_weaker, last_more, settling_control, up_more}
 use Rattle.convergence_laws.proofs.Exports.{IsIn, in_at}
-use Rattle.forwarding_laws.specs.Exports.{RecoveryAsksEach, EndsInRecovery}
+use Rattle.forwarding_laws.specs.Exports.{ForwardingRecoveryAsksEach, EndsInRecovery}
 use Rattle.forwarding_laws.proofs.RecoveryCalmItems.{Calmly, IsCalm, IsCalmStep, Stays, calm_piece, calm_steps, calm_through, control_is_calm, next_confirmed, stays}
 
 -- ---- the steps of rows, and of those behind them
@@ -168,7 +168,7 @@ confirm_ends setting at row s =
     now = here ++ next ∷ []
 
     over_now : is_waited_for now s ≡ false
-    over_now = rw (last_more (gives_waited_for s) here next false, eq-eqb s s refl) refl
+    over_now = rw (last_more (gives_journal_waited_for s) here next false, eq-eqb s s refl) refl
 
     settled : is_waited_for (now ++ settling setting now) s ≡ false
     settled = fact_on IsCalm (λ j. IsFalse (is_waited_for j s))
@@ -203,24 +203,24 @@ pub record EndsCalmly (setting : Setting) (journal : List Item) : Type 0 where
   pub row : ℕ
   pub written : journal ≡ journal_after_steps setting (journal_after_steps setting (journal_after_steps setting [] first)
       resends) flush
-  pub switches : All (IsConfirmed (journal_after_steps setting [] first)) (switches_of setting)
+  pub switches : All (IsConfirmed (journal_after_steps setting [] first)) (setting_switches_of setting)
   pub asked : AreEach Resend resends
   pub each : (s : ℕ) → HasSwitch setting.net s → IsAmong (Resend s) resends
   pub all : AreAllMachineEventSteps setting journal_next_delivery row
       (journal_after_steps setting (journal_after_steps setting [] first) resends) flush
 
 pub all_confirmed_on : (setting : Setting) (before after : List Item) → Calmly setting before after
-    → All (IsConfirmed before) (switches_of setting) → All (IsConfirmed after) (switches_of setting)
+    → All (IsConfirmed before) (setting_switches_of setting) → All (IsConfirmed after) (setting_switches_of setting)
 all_confirmed_on setting before after calm all = All-from_recursion (IsConfirmed after)
-    (switches_of setting) (each_weaker (IsConfirmed before) (IsConfirmed after)
-    (λ s is. confirmed_on before after s (stays setting before after calm) is) (switches_of setting)
-    (recursion_from_All (IsConfirmed before) (switches_of setting) all))
+    (setting_switches_of setting) (each_weaker (IsConfirmed before) (IsConfirmed after)
+    (λ s is. confirmed_on before after s (stays setting before after calm) is) (setting_switches_of setting)
+    (recursion_from_All (IsConfirmed before) (setting_switches_of setting) all))
 
 all_confirmed : (setting : Setting) (before : List Item) (steps : List StepOfRow)
     → AreEach Confirm steps → ((s : ℕ) → HasSwitch setting.net s → IsAmong (Confirm s) steps)
-    → All (IsConfirmed (journal_after_steps setting before steps)) (switches_of setting)
+    → All (IsConfirmed (journal_after_steps setting before steps)) (setting_switches_of setting)
 all_confirmed setting before steps are each =
-    All-from_recursion (IsConfirmed (journal_after_steps setting before steps)) (switches_of setting)
+    All-from_recursion (IsConfirmed (journal_after_steps setting before steps)) (setting_switches_of setting)
     (each_range (IsConfirmed (journal_after_steps setting before steps)) 0 (length setting.net.switches)
     (λ s above below. let taken = among_taken setting (Confirm s) before steps
     (each_calm Confirm (λ t. tt) steps are) (each s (omega (arith, below))) in
@@ -238,9 +238,9 @@ flush_alone setting row before steps are = subst (AreAllMachineEventSteps settin
 
 -- the journal of rows that leave each switch up, or not waited for, resends of each, and a flush
 pub ends_by : (setting : Setting) (rows resends : List Event) (journal : List Item)
-    → RecoveryAsksEach setting.net Resend resends → Answers setting (rows ++ resends ++ Flush ∷ []) journal
+    → ForwardingRecoveryAsksEach setting.net Resend resends → Answers setting (rows ++ resends ++ Flush ∷ []) journal
     → ((steps : List StepOfRow) → AreMachineSteps setting 1 rows [] steps
-    → All (IsConfirmed (journal_after_steps setting [] steps)) (switches_of setting))
+    → All (IsConfirmed (journal_after_steps setting [] steps)) (setting_switches_of setting))
     → (ends : EndsCalmly setting journal) × AreMachineSteps setting 1 rows [] ends.first
 ends_by setting rows resends journal asks answers confirms = (
   record {
@@ -272,8 +272,8 @@ ends_by setting rows resends journal asks answers confirms = (
 
 -- rows that confirm each switch leave it so
 confirms_leave : (setting : Setting) (front confirms : List Event) (steps : List StepOfRow)
-    → RecoveryAsksEach setting.net Confirm confirms → AreMachineSteps setting 1 (front ++ confirms) [] steps
-    → All (IsConfirmed (journal_after_steps setting [] steps)) (switches_of setting)
+    → ForwardingRecoveryAsksEach setting.net Confirm confirms → AreMachineSteps setting 1 (front ++ confirms) [] steps
+    → All (IsConfirmed (journal_after_steps setting [] steps)) (setting_switches_of setting)
 confirms_leave setting front confirms steps asks are =
     rw (ap (journal_after_steps setting []) parts.is ∙ after_append setting [] parts.mine parts.rest)
     (all_confirmed setting (journal_after_steps setting [] parts.mine) parts.rest (singles_each setting

@@ -2,16 +2,16 @@
 -- retired, and so holds the tables of the newest version alone.
 use Rattle.std.proofs.Common.{[], ◌&&◌, ◌++◌, ◌<◌, ◌==◌, ◌||◌, ◌∙◌, ◌∷◌, ◌≡◌, ◌≢◌, ◌≤◌, ◌⊎◌, All, Bool, IsFalse, IsTrue, List, None, Option, Some, ap, arith, eq-eqb, false, inl, inr, length, ne_eqb, not, refl, rules, subst, sym, true, ℕ}
 use Rattle.base.proofs.Exports.{⊤, All-from_recursion, All-weaker, cases_eq, list_any, nat_tests, recursion_from_All}
-use Rattle.update_machine.specs.Exports.{Answers, AreMachineSteps, JournalBeginsAnswer, Body, CacheEntry, Collect, Drain, Event, JournalItemsHaveCauses, Header, Hop, IsMachinePlay, IsSetting, Item, Packet, Sending, Setting, StepOfRow, journal_after_steps, journal_boot_of, journal_cache_of, journal_collects_version, concerns_controller, item_concerns_policies, journal_current_mark, heard, holds_version, installs_version, is_first_boot_in_journal, is_member, is_machine_opening_body, is_over, is_up, journal_known_boot, journal_next_message, journal_next_packet, piece, journal_plan_at, policy_at, journal_resent_by_controller, journal_resent_by_switch, journal_retired_mark, sendings, serves, journal_stamp_of, switches_of, machine_message_to_switch, journal_version_count}
+use Rattle.update_machine.specs.Exports.{Answers, AreMachineSteps, JournalBeginsAnswer, Body, CacheEntry, Collect, Drain, Event, JournalItemsHaveCauses, Header, Hop, IsMachinePlay, IsSetting, Item, Packet, Sending, Setting, StepOfRow, journal_after_steps, journal_boot_of, journal_cache_of, is_collect_message_of_version, concerns_controller, item_concerns_policies, journal_current_mark, heard, holds_version, installs_version, is_first_boot_in_journal, is_member, is_machine_opening_body, is_over, is_up, journal_known_boot, journal_next_message, journal_next_packet, piece, journal_plan_at, policy_at, journal_resent_by_controller, journal_resent_by_switch, journal_retired_mark, sendings, serves, journal_stamp_of, setting_switches_of, machine_message_to_switch, journal_version_count}
 use Rattle.update_machine.proofs.Exports.{controller_keeps, policies_keep}
 use Rattle.convergence_laws.proofs.Exports.{AreKept, Both, IsIn, IsTraced, IsWork, Walks, all_in, caused_traced, each_in, each_of_in, have_both, have_weaker, heard_in_boot, hop_work, in_range, in_right, items_caused, moves, near_back, own_boot, packet_works, piece_has, rule_cases}
 use Rattle.packet_laws.proofs.Exports.{IsNoRow, no_rows, play_begins}
 use Rattle.net_file.specs.Exports.{IsNet}
-use Rattle.convergence_laws.specs.Exports.{GetStuckApart, HasConverged, HasConvergedOnVersion, LeadsOverUsableNeighbours, Reaches}
-use Rattle.control_laws.specs.Exports.{AreNetworkEvents, HasControlItemCause, HoldsAtEnds, HoldsReached}
+use Rattle.convergence_laws.specs.Exports.{ConvergedGetStuckApart, HasConverged, IsNetworkUpdateConverged, ConvergenceLeadsOverUsableNeighbours, Reaches}
+use Rattle.control_laws.specs.Exports.{AreNetworkEvents, HasControlItemCause, ControlLawHoldsAtEnds, ControlLawHoldsReached}
 use Rattle.control_laws.proofs.Exports.{IsServing, member_of, pieces_have, serving_hold, steps_have, tables_planned}
-use Rattle.packet_laws.specs.Exports.{HoldsBetween, IsRightEntry, PacketRulesAreRight}
-use Rattle.forwarding_laws.specs.Exports.{RolloutAccountsForAll, AllAccountedOrCutOff, ForwardingCachesNewestAlone, DropsNothing, EndsInDrain, EndsInRecovery, EndsInTwoRecoveryRounds, HasRecovered, HoldNewestAlone, IsConnectedNetwork, RecoveryLeavesNothingOld, NoneIsStuck, NothingFailsInRollout, PlaysKeepForwarding}
+use Rattle.packet_laws.specs.Exports.{PacketLawHoldsBetween, IsRightPacketCacheEntry, PacketRulesAreRight}
+use Rattle.forwarding_laws.specs.Exports.{RolloutAccountsForAll, AllAccountedOrCutOff, ForwardingCachesNewestAlone, ForwardingDropsNothing, EndsInForwardingDrain, EndsInRecovery, ForwardingEndsInTwoRounds, HasRecovered, HoldNewestAlone, IsConnectedForwardingNetwork, RecoveryLeavesNothingOld, NoneIsStuck, NothingFailsInRollout, PlaysKeepForwarding}
 use Rattle.forwarding_laws.proofs.RolloutDrains.{caches_above}
 use Rattle.forwarding_laws.proofs.RecoveryCalmItems.{Stays, calm_causes, stays}
 use Rattle.forwarding_laws.proofs.RecoveredControl.{IsAsked, IsRecovered}
@@ -24,22 +24,22 @@ use Rattle.forwarding_laws.proofs.RecoveryRows.{EndsCalmly, IsConfirmed, all_con
 -- changes
 
 -- items of packets that enter and move
-abbrev pub Comes : Setting → List Item → Item → Type 0
-Comes setting before (Item.Entered packet s header) = ⊤
-Comes setting before next = IsWork setting before next
+abbrev pub RefinedPacketComes : Setting → List Item → Item → Type 0
+RefinedPacketComes setting before (Item.Entered packet s header) = ⊤
+RefinedPacketComes setting before next = IsWork setting before next
 
 -- and the rows of their steps
 abbrev pub Passes : Setting → List Item → Item → Type 0
 Passes setting before (Item.Row row step) = IsTrue (moves step)
-Passes setting before next = Comes setting before next
+Passes setting before next = RefinedPacketComes setting before next
 
 work_comes : (setting : Setting) (before : List Item) (next : Item) → IsWork setting before next
-    → Comes setting before next
+    → RefinedPacketComes setting before next
 work_comes setting before (Item.Entered packet s header) work = tt
 work_comes setting before next work = work
 
 comes_passes : (setting : Setting) (before : List Item) (next : Item)
-    → Both (Comes setting) (λ now other. IsNoRow other) before next → Passes setting before next
+    → Both (RefinedPacketComes setting) (λ now other. IsNoRow other) before next → Passes setting before next
 comes_passes setting before (Item.Row row step) both = absurd both.second
 comes_passes setting before next both = both.first
 
@@ -48,17 +48,17 @@ pub packet_passes : (setting : Setting) (before : List Item) (row s : ℕ) (head
     → JournalItemsHaveCauses (Passes setting) before (piece setting before row (Packet s header))
 packet_passes setting before row s header = piece_has (Passes setting) setting before row
     (Packet s header) refl
-    (have_weaker (Both (Comes setting) (λ now other. IsNoRow other)) (Passes setting)
-    (comes_passes setting) _ _ (have_both (Comes setting) (λ now other. IsNoRow other) _ _
-    (packet_works setting (Comes setting) (work_comes setting) (journal_next_packet before) s header _ tt)
+    (have_weaker (Both (RefinedPacketComes setting) (λ now other. IsNoRow other)) (Passes setting)
+    (comes_passes setting) _ _ (have_both (RefinedPacketComes setting) (λ now other. IsNoRow other) _ _
+    (packet_works setting (RefinedPacketComes setting) (work_comes setting) (journal_next_packet before) s header _ tt)
     (no_rows setting before row (Packet s header))))
 
 pub hop_passes : (setting : Setting) (before : List Item) (row i : ℕ)
     → JournalItemsHaveCauses (Passes setting) before (piece setting before row (Hop i))
 hop_passes setting before row i = piece_has (Passes setting) setting before row (Hop i) refl
-    (have_weaker (Both (Comes setting) (λ now other. IsNoRow other)) (Passes setting)
-    (comes_passes setting) _ _ (have_both (Comes setting) (λ now other. IsNoRow other) _ _
-    (have_weaker (IsWork setting) (Comes setting) (work_comes setting) _ _ (hop_work setting i _))
+    (have_weaker (Both (RefinedPacketComes setting) (λ now other. IsNoRow other)) (Passes setting)
+    (comes_passes setting) _ _ (have_both (RefinedPacketComes setting) (λ now other. IsNoRow other) _ _
+    (have_weaker (IsWork setting) (RefinedPacketComes setting) (work_comes setting) _ _ (hop_work setting i _))
     (no_rows setting before row (Hop i))))
 
 pub passes_walks : (setting : Setting) (before : List Item) (next : Item)
@@ -104,7 +104,7 @@ marks_stay setting journal before next passes stay =
 -- ---- walks over usable links lead back: what their end doesn't reach, their beginning doesn't
 
 turn_round : (setting : Setting) (journal : List Item) → IsNet setting.net → (there at target : ℕ)
-    (rest : List ℕ) → LeadsOverUsableNeighbours setting journal there at rest
+    (rest : List ℕ) → ConvergenceLeadsOverUsableNeighbours setting journal there at rest
     → Reaches setting journal at target → Reaches setting journal there target
 turn_round setting journal net there at target [] leads reaches = rw leads at reaches
 turn_round setting journal net there at target (next ∷ rest) leads reaches =
@@ -126,8 +126,8 @@ apart_from setting journal net from at targets reaches apart =
 
 -- what is true of each switch of the network is true of one
 of_network : (P : ℕ → Type 0) (setting : Setting) (s : ℕ) → s < length setting.net.switches
-    → All P (switches_of setting) → P s
-of_network P setting s there all = all_in P s (switches_of setting) all
+    → All P (setting_switches_of setting) → P s
+of_network P setting s there all = all_in P s (setting_switches_of setting) all
     (in_range s 0 (length setting.net.switches) (omega arith) (omega (arith, there)))
 
 -- ---- what is collected isn't held
@@ -151,7 +151,7 @@ collected_gone : (journal : List Item) (s boot mark version : ℕ)
 unfolding holds_version
 collected_gone journal s boot mark version told below =
     ap (λ b. (list_any (installs_version version) (heard journal s)
-    || (version == 1 && is_first_boot_in_journal journal s)) && not b) (any_of_in (journal_collects_version version)
+    || (version == 1 && is_first_boot_in_journal journal s)) && not b) (any_of_in (is_collect_message_of_version version)
     (Collect boot mark) (heard journal s) told (grind (arith, nat_tests)))
     ∙ none (list_any (installs_version version) (heard journal s)
     || (version == 1 && is_first_boot_in_journal journal s))
@@ -161,7 +161,7 @@ collected_gone journal s boot mark version told below =
     none false = refl
 
 module _ (setting : Setting) (before journal : List Item) (are : IsRecovered setting before journal)
-    (early : HasConvergedOnVersion setting before) (late : HasConvergedOnVersion setting journal) where
+    (early : IsNetworkUpdateConverged setting before) (late : IsNetworkUpdateConverged setting journal) where
   caused : JournalItemsHaveCauses (HasControlItemCause setting) [] journal
   caused = items_caused setting journal are.ready.causes
 
@@ -271,15 +271,15 @@ module _ (setting : Setting) (before journal : List Item) (are : IsRecovered set
 
 pub cache_newest : (setting : Setting) (journal : List Item)
     → JournalItemsHaveCauses (HasControlItemCause setting) [] journal → PacketRulesAreRight setting journal
-    → HasConvergedOnVersion setting journal → ForwardingCachesNewestAlone setting journal
+    → IsNetworkUpdateConverged setting journal → ForwardingCachesNewestAlone setting journal
 cache_newest setting journal causes rules updated s there up =
     All-from_recursion (λ (entry : CacheEntry). entry.version ≡ journal_version_count journal)
     (journal_cache_of setting journal s).entries
     (each_of_in (λ (entry : CacheEntry). entry.version ≡ journal_version_count journal)
     (journal_cache_of setting journal s).entries
     (λ entry is. let above = (caches_above setting journal causes).each s entry is in
-    let right = each_in (IsRightEntry setting journal) entry (journal_cache_of setting journal s).entries
-    (recursion_from_All (IsRightEntry setting journal) (journal_cache_of setting journal s).entries
+    let right = each_in (IsRightPacketCacheEntry setting journal) entry (journal_cache_of setting journal s).entries
+    (recursion_from_All (IsRightPacketCacheEntry setting journal) (journal_cache_of setting journal s).entries
     (rules.cached s)) is in
     omega (arith, above, right.current, updated.current, stamp)))
   where
@@ -291,12 +291,12 @@ cache_newest setting journal causes rules updated s there up =
 
 -- what holds of cache rules, of each journal of the network
 abbrev pub RulesLaw : Type 0
-RulesLaw = HoldsReached (λ setting journal. IsSetting setting → PacketRulesAreRight setting journal)
+RulesLaw = ControlLawHoldsReached (λ setting journal. IsSetting setting → PacketRulesAreRight setting journal)
 
 -- caches of an answer
 answer_caches : RulesLaw → (setting : Setting) (events : List Event) (journal : List Item)
     → IsSetting setting → AreNetworkEvents setting events → Answers setting events journal
-    → HasConvergedOnVersion setting journal → ForwardingCachesNewestAlone setting journal
+    → IsNetworkUpdateConverged setting journal → ForwardingCachesNewestAlone setting journal
 answer_caches rules setting events journal is own answers updated = cache_newest setting journal
     causes (rules.answered setting events journal own answers is) updated
   where
@@ -312,7 +312,7 @@ recovered_caches rules setting events journal is own ends answers = answer_cache
 
 -- the second round is one that begins after recovery
 two_calmly : (setting : Setting) (events : List Event) (journal : List Item)
-    → (two : EndsInTwoRecoveryRounds setting.net events) → Answers setting events journal
+    → (two : ForwardingEndsInTwoRounds setting.net events) → Answers setting events journal
     → (ends : EndsCalmly setting journal)
     × Answers setting two.first (journal_after_steps setting [] ends.first)
 two_calmly setting events journal two answers =
@@ -321,7 +321,7 @@ two_calmly setting events journal two answers =
     (found.0, record { steps = found.0.first; allowed = found.1; written = refl })
   where
     confirms : (steps : List StepOfRow) → AreMachineSteps setting 1 two.first [] steps
-        → All (IsConfirmed (journal_after_steps setting [] steps)) (switches_of setting)
+        → All (IsConfirmed (journal_after_steps setting [] steps)) (setting_switches_of setting)
     confirms steps are =
         let middle : List Item = journal_after_steps setting [] steps in
         let first = ends_calmly setting two.first middle two.recovered
@@ -329,10 +329,10 @@ two_calmly setting events journal two answers =
         all_confirmed_on setting (journal_after_steps setting [] first.first) middle
         (ends_calm setting middle first) first.switches
 
-pub nothing_old : HoldsAtEnds (Agrees HasConverged) → HoldsAtEnds (Agrees GetStuckApart)
-    → HoldsBetween ForwardsBy → RulesLaw → (setting : Setting) (events : List Event)
+pub nothing_old : ControlLawHoldsAtEnds (Agrees HasConverged) → ControlLawHoldsAtEnds (Agrees ConvergedGetStuckApart)
+    → PacketLawHoldsBetween ForwardsBy → RulesLaw → (setting : Setting) (events : List Event)
     (journal : List Item) → IsSetting setting → AreNetworkEvents setting events
-    → EndsInTwoRecoveryRounds setting.net events → Answers setting events journal
+    → ForwardingEndsInTwoRounds setting.net events → Answers setting events journal
     → RecoveryLeavesNothingOld setting journal
 nothing_old converge part forward rules setting events journal is own two answers = record {
   recovered = calm_recovers converge part forward setting events journal is own answers ends;
@@ -348,7 +348,7 @@ nothing_old converge part forward rules setting events journal is own two answer
   ends : EndsCalmly setting journal
   ends = found.0
 
-  updated : HasConvergedOnVersion setting journal
+  updated : IsNetworkUpdateConverged setting journal
   updated = ends_updated setting journal ends
 
 -- ---- the laws of recovery and of rollouts, of plays
@@ -360,7 +360,7 @@ play_answers setting events journal None play whole = play.answers
 play_answers setting events journal (Some row) play whole = absurd cc
 
 -- where what holds of schedules that end in a drain is asked of this one
-drained : (Holds : List Event → Type 0) (events : List Event) → EndsInDrain events
+drained : (Holds : List Event → Type 0) (events : List Event) → EndsInForwardingDrain events
     → ((front : List Event) → Holds (front ++ Drain ∷ [])) → Holds events
 drained Holds events ends hold = subst Holds (sym ends.1) (hold ends.0)
 
@@ -368,19 +368,19 @@ pub keep_working : ((setting : Setting) (events : List Event) (journal : List It
     → IsSetting setting → AreNetworkEvents setting events → EndsInRecovery setting.net events
     → Answers setting events journal → HasRecovered setting journal)
     → ((setting : Setting) (events : List Event) (journal : List Item) → IsSetting setting
-    → AreNetworkEvents setting events → EndsInTwoRecoveryRounds setting.net events → Answers setting events journal
+    → AreNetworkEvents setting events → ForwardingEndsInTwoRounds setting.net events → Answers setting events journal
     → RecoveryLeavesNothingOld setting journal)
     → ((setting : Setting) (events : List Event) (journal : List Item) → IsSetting setting
     → AreNetworkEvents setting events → NothingFailsInRollout events → JournalBeginsAnswer setting events journal
-    → JournalItemsHaveCauses (DropsNothing setting) [] journal)
+    → JournalItemsHaveCauses (ForwardingDropsNothing setting) [] journal)
     → ((setting : Setting) (events : List Event) (journal : List Item) → IsSetting setting
-    → AreNetworkEvents setting events → NothingFailsInRollout events → IsConnectedNetwork setting.net
+    → AreNetworkEvents setting events → NothingFailsInRollout events → IsConnectedForwardingNetwork setting.net
     → JournalBeginsAnswer setting events journal → NoneIsStuck journal)
     → ((setting : Setting) (events : List Event) (journal : List Item) → IsSetting setting
     → AreNetworkEvents setting (events ++ Drain ∷ []) → NothingFailsInRollout (events ++ Drain ∷ [])
     → Answers setting (events ++ Drain ∷ []) journal → AllAccountedOrCutOff setting journal)
     → ((setting : Setting) (events : List Event) (journal : List Item) → IsSetting setting
-    → AreNetworkEvents setting (events ++ Drain ∷ []) → NothingFailsInRollout (events ++ Drain ∷ []) → IsConnectedNetwork
+    → AreNetworkEvents setting (events ++ Drain ∷ []) → NothingFailsInRollout (events ++ Drain ∷ []) → IsConnectedForwardingNetwork
     setting.net → Answers setting (events ++ Drain ∷ []) journal → RolloutAccountsForAll setting journal)
     → PlaysKeepForwarding
 keep_working recover renew drop stuck or_cut_off account setting events journal full is own play = record {

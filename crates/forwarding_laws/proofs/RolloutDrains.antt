@@ -1,15 +1,15 @@
 -- Behind a drain no packet travels, so each that entered has ended.
 use Rattle.std.proofs.Common.{[], ◌++◌, ◌==◌, ◌||◌, ◌∙◌, ◌∷◌, ◌≡◌, ◌≤◌, ◌⊎◌, Bool, List, None, Option, Some, ap, append-nil, append_assoc, arith, drop, eq-eqb, eqb-true, false, filter, if◌then◌else◌, inl, inr, length, max, nat_le, nat_lt, option_and_then, option_map, refl, subst, suc, sym, take, true, unwrap_or, zero, ℕ}
 use Rattle.base.proofs.Exports.{list_any, nat_tests, option_or}
-use Rattle.update_machine.specs.Exports.{Answers, AreNumbered, JournalBeginsAnswer, Body, CacheEntry, CacheRule, Drain, Event, HasCause, JournalItemsHaveCauses, Header, Hop, IsSetting, Item, MachineLeavesRightly, Lose, OpenAt, Setting, Stamp, journal_body_to_switch, journal_boot_of, machine_cache_after, journal_cache_of, changes_journal_cache, concerns_switch, item_gives_travelling, heard, is_up, journal_last_given, journal_next_hop, next_travelling, machine_packet_number, journal_packets, journal_present_step, journal_stamp_in_body, journal_stamp_of, touched_by, travels}
+use Rattle.update_machine.specs.Exports.{Answers, AreNumbered, JournalBeginsAnswer, Body, CacheEntry, CacheRule, Drain, Event, HasMachineCause, JournalItemsHaveCauses, Header, Hop, IsSetting, Item, MachineLeavesRightly, Lose, OpenAt, Setting, Stamp, journal_body_to_switch, journal_boot_of, machine_cache_after, journal_cache_of, changes_journal_cache, concerns_switch, machine_item_gives_travelling, heard, is_up, journal_last_given, journal_next_hop, next_travelling, machine_packet_number, journal_packets, journal_present_step, machine_stamp_message_version, journal_stamp_of, machine_touched_by, travels}
 use Rattle.switch_table.specs.Exports.{CacheValue, cache_after_carry, carried_entry, is_carried, newest_cache_entries, same_key, under}
 use Rattle.ternary.specs.Exports.{WordValue}
 use Rattle.update_machine.proofs.Exports.{answers_so_far, begins_itself, folded_append, start_laws, switch_keeps}
-use Rattle.control_laws.specs.Exports.{AreNetworkEvents, HasControlItemCause, HoldsReached}
+use Rattle.control_laws.specs.Exports.{AreNetworkEvents, HasControlItemCause, ControlLawHoldsReached}
 use Rattle.control_laws.proofs.Exports.{AreKept, Both, boot_more, fact_on, have_both, heard_more, raised, stamp_told, up_more}
 use Rattle.convergence_laws.proofs.Exports.{IsIn, contains_in, in_at, in_either, in_flat_map, in_right, last_ends, none_found, of_filter, of_filter_map}
 use Rattle.packet_laws.specs.Exports.{IsPacketDroppedHere, HasPacketItemCause}
-use Rattle.forwarding_laws.specs.Exports.{RolloutAccountsForAll, AllAccountedOrCutOff, DropsNothing, EndsOrIsCutOff, RolloutEndsRightly, RolloutHasItem, IsConnectedNetwork, ForwardedIsDroppedRightly, IsStuckCutOff, NoneIsStuck, NothingFailsInRollout}
+use Rattle.forwarding_laws.specs.Exports.{RolloutAccountsForAll, AllAccountedOrCutOff, ForwardingDropsNothing, RolloutEndsOrIsCutOff, RolloutEndsRightly, RolloutHasItem, IsConnectedForwardingNetwork, ForwardedIsDroppedRightly, IsStuckCutOff, NoneIsStuck, NothingFailsInRollout}
 
 -- ---- the entries of a cache are of the stamp of its switch, or of later versions
 
@@ -47,7 +47,7 @@ of_newest capacity entry entries is = by_room (nat_lt capacity (length entries))
 
 -- what a body makes of a cache whose entries are from the stamp on
 said_from : (touched_of : ℕ → List WordValue) (stamp number : ℕ) (cache : CacheValue) (body : Body)
-    → AreFrom stamp cache.entries → let now = raised stamp (journal_stamp_in_body body) in
+    → AreFrom stamp cache.entries → let now = raised stamp (machine_stamp_message_version body) in
     AreFrom now (machine_cache_after touched_of stamp now number cache body).entries
 said_from touched_of stamp number cache (CacheRule version word rule action) from =
     by_old (nat_lt version stamp) refl
@@ -182,14 +182,14 @@ concerned_above setting before (Item.Delivered number) s is from =
         → AreFrom now (journal_cache_of setting (before ++ next ∷ []) s).entries
     by_said None e entry has =
         let same : now ≡ journal_stamp_of before s = stamp_told before number s
-        ∙ ap (λ o. raised (journal_stamp_of before s) (option_and_then journal_stamp_in_body o)) e in
+        ∙ ap (λ o. raised (journal_stamp_of before s) (option_and_then machine_stamp_message_version o)) e in
         omega (arith, from entry (rw e at (entry_back setting before next s entry has)), same)
     by_said (Some body) e entry has =
         let same = stamp_told before number s
-        ∙ ap (λ o. raised (journal_stamp_of before s) (option_and_then journal_stamp_in_body o)) e in
-        let above = said_from (touched_by setting before) (journal_stamp_of before s) number
+        ∙ ap (λ o. raised (journal_stamp_of before s) (option_and_then machine_stamp_message_version o)) e in
+        let above = said_from (machine_touched_by setting before) (journal_stamp_of before s) number
         (journal_cache_of setting before s) body from entry
-        (subst (λ n. IsIn entry (machine_cache_after (touched_by setting before) (journal_stamp_of before s) n
+        (subst (λ n. IsIn entry (machine_cache_after (machine_touched_by setting before) (journal_stamp_of before s) n
         number (journal_cache_of setting before s) body).entries) same
         (rw e at (entry_back setting before next s entry has))) in
         omega (arith, above, same)
@@ -277,7 +277,7 @@ told_some {X = X} tells x y (first ∷ items) is told none =
 
 -- what is known of an item
 abbrev IsKnownEnd : Setting → List Item → Item → Type 0
-IsKnownEnd setting = Both (HasPacketItemCause setting) (Both (HasCause setting) (DropsNothing setting))
+IsKnownEnd setting = Both (HasPacketItemCause setting) (Both (HasMachineCause setting) (ForwardingDropsNothing setting))
 
 same_number : (packet i : ℕ) → (if packet == i then Some false else None) ≡ Some false → packet ≡ i
 same_number packet i ends = by_test (packet == i) refl ends where
@@ -288,7 +288,7 @@ same_number packet i ends = by_test (packet == i) refl ends where
 
 -- by the item that ended it
 ends_so : (setting : Setting) (i : ℕ) (before : List Item) (x : Item) → IsKnownEnd setting before x
-    → item_gives_travelling i x ≡ Some false → EndsOrIsCutOff setting i before x
+    → machine_item_gives_travelling i x ≡ Some false → RolloutEndsOrIsCutOff setting i before x
 ends_so setting i before (Item.Entered packet switch header) known ends =
     absurd (by_test (packet == i) ends)
   where
@@ -313,21 +313,21 @@ ends_so setting i before x known ends = absurd cc
 -- a packet that entered and doesn't travel has ended
 entered_ended : (setting : Setting) (journal : List Item) (i s : ℕ) (header : Header)
     → JournalItemsHaveCauses (IsKnownEnd setting) [] journal → IsIn (Item.Entered i s header) journal
-    → travels journal i ≡ false → RolloutHasItem (EndsOrIsCutOff setting i) journal
+    → travels journal i ≡ false → RolloutHasItem (RolloutEndsOrIsCutOff setting i) journal
 unfolding travels
 entered_ended setting journal i s header known is ended =
-    by_last (journal_last_given (item_gives_travelling i) journal) refl ended
+    by_last (journal_last_given (machine_item_gives_travelling i) journal) refl ended
   where
-    came : item_gives_travelling i (Item.Entered i s header) ≡ Some true
+    came : machine_item_gives_travelling i (Item.Entered i s header) ≡ Some true
     came = ap (λ b. if b then Some true else None) (eq-eqb i i refl)
 
-    by_last : (o : Option Bool) → journal_last_given (item_gives_travelling i) journal ≡ o
-        → unwrap_or o false ≡ false → RolloutHasItem (EndsOrIsCutOff setting i) journal
+    by_last : (o : Option Bool) → journal_last_given (machine_item_gives_travelling i) journal ≡ o
+        → unwrap_or o false ≡ false → RolloutHasItem (RolloutEndsOrIsCutOff setting i) journal
     by_last None e ended =
-        absurd (told_some (item_gives_travelling i) true (Item.Entered i s header) journal is came e)
+        absurd (told_some (machine_item_gives_travelling i) true (Item.Entered i s header) journal is came e)
     by_last (Some true) e ended = absurd cc
     by_last (Some false) e ended =
-        let last = given_by (item_gives_travelling i) false journal e in
+        let last = given_by (machine_item_gives_travelling i) false journal e in
         let at = stands_in (IsKnownEnd setting) [] journal last.0 known last.1 in record {
           before = at.front;
           found = last.0;
@@ -339,7 +339,7 @@ entered_ended setting journal i s header known is ended =
 -- where none is stuck it wasn't cut off
 not_cut_off : (setting : Setting) (i : ℕ) (journal before : List Item) (x : Item)
     (rest : List Item) → NoneIsStuck journal → journal ≡ before ++ x ∷ rest
-    → EndsOrIsCutOff setting i before x → RolloutEndsRightly setting i before x
+    → RolloutEndsOrIsCutOff setting i before x → RolloutEndsRightly setting i before x
 not_cut_off setting i journal before (Item.Stuck packet switch cause leg down) rest none stands
     own =
     let stuck : Item = Item.Stuck packet switch cause leg down in
@@ -364,14 +364,14 @@ none_travels journal i s header numbered none is = none_found (travels journal) 
     (in_flat_map machine_packet_number (Item.Entered i s header) i journal is (inl refl)))
 
 abbrev Reaches : (Setting → List Item → Item → Type 0) → Type 0
-Reaches cause = HoldsReached (λ setting journal.
+Reaches cause = ControlLawHoldsReached (λ setting journal.
     IsSetting setting → JournalItemsHaveCauses (cause setting) [] journal)
 
 pub accounted_or_cut_off : ((setting : Setting) (events : List Event) (journal : List Item)
     → JournalBeginsAnswer setting events journal → AreNumbered journal) → Reaches HasPacketItemCause
-    → Reaches HasCause → ((setting : Setting) (events : List Event) (journal : List Item)
+    → Reaches HasMachineCause → ((setting : Setting) (events : List Event) (journal : List Item)
     → IsSetting setting → AreNetworkEvents setting events → NothingFailsInRollout events
-    → JournalBeginsAnswer setting events journal → JournalItemsHaveCauses (DropsNothing setting) [] journal)
+    → JournalBeginsAnswer setting events journal → JournalItemsHaveCauses (ForwardingDropsNothing setting) [] journal)
     → (setting : Setting) (events : List Event) (journal : List Item) → IsSetting setting
     → AreNetworkEvents setting (events ++ Drain ∷ []) → NothingFailsInRollout (events ++ Drain ∷ [])
     → Answers setting (events ++ Drain ∷ []) journal → AllAccountedOrCutOff setting journal
@@ -388,23 +388,23 @@ accounted_or_cut_off number packets ends drops setting events journal is own not
     begins = begins_itself setting asked journal (answers_so_far setting asked journal answers)
 
     known : JournalItemsHaveCauses (IsKnownEnd setting) [] journal
-    known = have_both (HasPacketItemCause setting) (Both (HasCause setting) (DropsNothing setting)) []
-        journal (packets.begun setting asked journal own begins is) (have_both (HasCause setting)
-        (DropsNothing setting) [] journal (ends.begun setting asked journal own begins is)
+    known = have_both (HasPacketItemCause setting) (Both (HasMachineCause setting) (ForwardingDropsNothing setting)) []
+        journal (packets.begun setting asked journal own begins is) (have_both (HasMachineCause setting)
+        (ForwardingDropsNothing setting) [] journal (ends.begun setting asked journal own begins is)
         (drops setting asked journal is own nothing begins))
 
     there : IsIn (Item.Entered i s header) journal
     there = in_at journal found.0 (Item.Entered i s header) found.1 found.2
 
 pub all_accounted : ((setting : Setting) (events : List Event) (journal : List Item)
-    → IsSetting setting → AreNetworkEvents setting events → NothingFailsInRollout events → IsConnectedNetwork setting.net
+    → IsSetting setting → AreNetworkEvents setting events → NothingFailsInRollout events → IsConnectedForwardingNetwork setting.net
     → JournalBeginsAnswer setting events journal → NoneIsStuck journal)
     → ((setting : Setting) (events : List Event) (journal : List Item) → IsSetting setting
     → AreNetworkEvents setting (events ++ Drain ∷ []) → NothingFailsInRollout (events ++ Drain ∷ [])
     → Answers setting (events ++ Drain ∷ []) journal → AllAccountedOrCutOff setting journal)
     → (setting : Setting) (events : List Event) (journal : List Item) → IsSetting setting
     → AreNetworkEvents setting (events ++ Drain ∷ []) → NothingFailsInRollout (events ++ Drain ∷ [])
-    → IsConnectedNetwork setting.net → Answers setting (events ++ Drain ∷ []) journal
+    → IsConnectedForwardingNetwork setting.net → Answers setting (events ++ Drain ∷ []) journal
     → RolloutAccountsForAll setting journal
 all_accounted none_stuck account setting events journal is own nothing connected answers i s header
     found =

@@ -2,17 +2,17 @@
 -- only where the network's links lead to no target.
 use Rattle.std.proofs.Common.{[], ◌&&◌, ◌++◌, ◌<◌, ◌==◌, ◌||◌, ◌∙◌, ◌∷◌, ◌≡◌, ◌≢◌, ◌⊎◌, All, Bool, Contains, IsFalse, IsTrue, List, None, Ok, Option, Some, ap, arith, eq-eqb, false, get_or, if◌then◌else◌, inl, inr, length, map, ne_eqb, not, option_to_list, refl, subst, sym, true, unwrap_or, ℕ}
 use Rattle.base.proofs.Exports.{⊤, All-cons, All-nil, cases_eq, get_or-map, length-map, list_any, list_any-append, option_map_or}
-use Rattle.net_file.specs.Exports.{IsNet, are_linked, net_port_owner}
-use Rattle.update_machine.specs.Exports.{AreMachineLegTargets, JournalBeginsAnswer, Cause, JournalClaim, Crash, Event, Exit, HasCause, SettingHasPlan, JournalItemsHaveCauses, IsSettingPlanOf, IsSetting, IsRightMachineStuck, Item, Leads, Leg, LinkDown, Net, One, Row, Seek, Setting, Step, StepOfRow, journal_after_steps, journal_can_use, journal_claim_of, finds_down, item_gives_step, setting_hosted_or_none, is_end, is_open, is_up, piece, journal_plan_at, policy_at, journal_present_step}
+use Rattle.net_file.specs.Exports.{IsNet, are_linked_in_net, net_port_owner}
+use Rattle.update_machine.specs.Exports.{AreMachineLegTargets, JournalBeginsAnswer, Cause, JournalClaim, Crash, Event, Exit, HasMachineCause, SettingHasPlan, JournalItemsHaveCauses, IsSettingPlanOf, IsSetting, IsMachineStuckRightly, Item, Leads, Leg, LinkDown, Net, One, Row, Seek, Setting, Step, StepOfRow, journal_after_steps, journal_can_use, journal_claim_of, finds_down, machine_item_gives_step, setting_hosted_or_none, is_end, is_open, is_up, piece, journal_plan_at, policy_at, journal_present_step}
 use Rattle.net_file.proofs.NetFileRowPlaces.{links, ports}
 use Rattle.partition.specs.Plan.{Hosted, IsPartitionPlan}
 use Rattle.steps.specs.Exports.{HasSwitch}
-use Rattle.control_laws.specs.Exports.{AreNetworkEvents, HoldsReached}
+use Rattle.control_laws.specs.Exports.{AreNetworkEvents, ControlLawHoldsReached}
 use Rattle.control_laws.proofs.Exports.{AreKept, Behind, Both, HasBothCauses, behind_both, have_both, have_weaker, piece_has, up_more, with_fact}
 use Rattle.packet_laws.specs.Exports.{AllPacketFactsKept, IsPacketBlockedOn, PacketTakesLeg, packet_stage_of, packet_facts_of}
 use Rattle.packet_laws.proofs.Exports.{IsHere, IsNoRow, IsWayItem, Knows, Past, decision_out, exiting_of, here_known, kept_before, known_before, knows, leg_in, no_rows, port_named, reached, version_planned}
 use Rattle.convergence_laws.proofs.Exports.{in_at}
-use Rattle.forwarding_laws.specs.Exports.{AreForwardingTargetsCutOff, DropsNothing, RolloutFailsNothing, IsConnectedNetwork, IsStuckCutOff, NoneIsStuck, NothingFailsInRollout, fails}
+use Rattle.forwarding_laws.specs.Exports.{AreForwardingTargetsCutOff, ForwardingDropsNothing, RolloutFailsNothing, IsConnectedForwardingNetwork, IsStuckCutOff, NoneIsStuck, NothingFailsInRollout, fails}
 use Rattle.forwarding_laws.proofs.RolloutDrains.{stands_in}
 use Rattle.update_machine.proofs.Exports.{AreOf, HasNexts, IsEventOf, first_steps_are, have_append, have_take, last_given_append, start_laws}
 use Rattle.forwarding_laws.proofs.RolloutUnfailingItems.{ClaimsAll, IsUnfailing, all_up, all_usable, are_claimed}
@@ -131,7 +131,7 @@ stuck_among setting is before packet switch cause leg down targets kept own =
 
 -- ---- connected networks
 
-leads_to_one : (net : Net) (switch : ℕ) (targets : List ℕ) → IsConnectedNetwork net
+leads_to_one : (net : Net) (switch : ℕ) (targets : List ℕ) → IsConnectedForwardingNetwork net
     → IsStuckAmong net switch targets → AreForwardingTargetsCutOff net switch targets → ⊥
 leads_to_one net switch [] connected stuck cut_off = absurd (omega (arith, stuck.among.some))
 leads_to_one net switch (target ∷ targets) connected stuck cut_off =
@@ -142,9 +142,9 @@ abbrev IsNotStuck : List Item → Item → Type 0
 IsNotStuck before (Item.Stuck packet switch cause leg down) = ⊥
 IsNotStuck before _ = ⊤
 
-not_stuck : (setting : Setting) → IsSetting setting → IsConnectedNetwork setting.net
+not_stuck : (setting : Setting) → IsSetting setting → IsConnectedForwardingNetwork setting.net
     → (before : List Item) (next : Item)
-    → Both (DropsNothing setting) (IsKeptItem setting) before next → IsNotStuck before next
+    → Both (ForwardingDropsNothing setting) (IsKeptItem setting) before next → IsNotStuck before next
 not_stuck setting is connected before (Item.Stuck packet switch cause leg down) both =
     let stuck : IsStuckCutOff setting before packet switch leg = both.first in
     leads_to_one setting.net switch stuck.targets connected
@@ -155,17 +155,17 @@ not_stuck setting is connected before next both = tt
 
 pub none_is_stuck : ((setting : Setting) (events : List Event) (journal : List Item)
     → IsSetting setting → AreNetworkEvents setting events → NothingFailsInRollout events
-    → JournalBeginsAnswer setting events journal → JournalItemsHaveCauses (DropsNothing setting) [] journal)
+    → JournalBeginsAnswer setting events journal → JournalItemsHaveCauses (ForwardingDropsNothing setting) [] journal)
     → (setting : Setting) (events : List Event) (journal : List Item)
     → IsSetting setting → AreNetworkEvents setting events → NothingFailsInRollout events
-    → IsConnectedNetwork setting.net → JournalBeginsAnswer setting events journal → NoneIsStuck journal
+    → IsConnectedForwardingNetwork setting.net → JournalBeginsAnswer setting events journal → NoneIsStuck journal
 none_is_stuck drops setting events journal is own nothing connected begins packet switch cause leg
     down found = (stands_in IsNotStuck [] journal (Item.Stuck packet switch cause leg down) none
     (in_at journal found.0 (Item.Stuck packet switch cause leg down) found.1 found.2)).own
   where
     none : JournalItemsHaveCauses IsNotStuck [] journal
-    none = have_weaker (Both (DropsNothing setting) (IsKeptItem setting)) IsNotStuck
-        (not_stuck setting is connected) [] journal (have_both (DropsNothing setting)
+    none = have_weaker (Both (ForwardingDropsNothing setting) (IsKeptItem setting)) IsNotStuck
+        (not_stuck setting is connected) [] journal (have_both (ForwardingDropsNothing setting)
         (IsKeptItem setting) [] journal (drops setting events journal is own nothing begins)
         (are_kept_items setting events journal is own begins))
 
@@ -212,7 +212,7 @@ rows_safe setting events journal nothing begins = rw begins.written
 
 -- all that is known of an item
 abbrev IsCaused : Setting → List Item → Item → Type 0
-IsCaused setting = Both (HasCause setting) (Both (HasBothCauses setting) IsSafeRow)
+IsCaused setting = Both (HasMachineCause setting) (Both (HasBothCauses setting) IsSafeRow)
 
 -- of a journal in which nothing failed
 record IsSound (setting : Setting) (journal : List Item) : Type 0 where
@@ -227,10 +227,10 @@ next_step : (before : List Item) (next : Item) → IsSafeRow before next
 unfolding journal_present_step
 next_step before (Item.Row row now) safe old step is =
     let same : Some now ≡ Some step =
-    sym (last_given_append item_gives_step before (Item.Row row now ∷ [])) ∙ is in
+    sym (last_given_append machine_item_gives_step before (Item.Row row now ∷ [])) ∙ is in
     let is_now : now ≡ step = cc in subst (λ x. IsFalse (fails x)) is_now safe
 next_step before next safe old step is =
-    old step (sym (last_given_append item_gives_step before (next ∷ [])) ∙ is)
+    old step (sym (last_given_append machine_item_gives_step before (next ∷ [])) ∙ is)
 
 module _ (setting : Setting) (net : IsNet setting.net) where
   next_unfailing : (before : List Item) (next : Item) → IsCaused setting before next
@@ -286,16 +286,16 @@ module _ (setting : Setting) (net : IsNet setting.net) where
   -- ---- links that switches know
 
   ends_known : (before : List Item) → IsSound setting before → (s one two : ℕ) → two < 64
-      → is_end setting before s one two ≡ are_linked setting.net.links one two
+      → is_end setting before s one two ≡ are_linked_in_net setting.net.links one two
   ends_known before sound s one two small = by_place (cases_eq one s) where
     by_claim : (o : Option JournalClaim) → journal_claim_of setting before s one ≡ o → ClaimsAll setting.net one o
         → option_map_or (λ claim. claim.links two) (journal_claim_of setting before s one) false
-        ≡ are_linked setting.net.links one two
+        ≡ are_linked_in_net setting.net.links one two
     by_claim None e all = absurd all
     by_claim (Some claim) e all = cc (e, all two small)
 
     by_place : (one ≡ s) ⊎ (one ≢ s)
-        → is_end setting before s one two ≡ are_linked setting.net.links one two
+        → is_end setting before s one two ≡ are_linked_in_net setting.net.links one two
     by_place (inl same) =
         cc (eq-eqb one s same, all_usable setting before (safe_of before sound) s two, same)
     by_place (inr apart) = ap (λ b. if b then journal_can_use setting before s two
@@ -305,13 +305,13 @@ module _ (setting : Setting) (net : IsNet setting.net) where
 
   -- each link of the network is open to each packet
   link_open : (before : List Item) → IsSound setting before → (packet s one two : ℕ)
-      → IsTrue (are_linked setting.net.links one two)
+      → IsTrue (are_linked_in_net setting.net.links one two)
       → IsTrue (is_open setting before packet s one two)
   link_open before sound packet s one two linked =
       all_four (one == two) _ _ _ apart (ends_known before sound s one two two_small ∙ linked)
       (ends_known before sound s two one one_small ∙ back) (sound.found packet one two)
     where
-      back : are_linked setting.net.links two one ≡ true
+      back : are_linked_in_net setting.net.links two one ≡ true
       back = links.both_ways setting.net.links two one ∙ linked
 
       two_small : two < 64
@@ -322,7 +322,7 @@ module _ (setting : Setting) (net : IsNet setting.net) where
 
       apart : (one == two) ≡ false
       apart = ne_eqb one two (λ same.
-          let clash = sym linked ∙ ap (are_linked setting.net.links one) (sym same)
+          let clash = sym linked ∙ ap (are_linked_in_net setting.net.links one) (sym same)
           ∙ links.not_itself setting.net one net in
           absurd cc)
 
@@ -331,7 +331,7 @@ module _ (setting : Setting) (net : IsNet setting.net) where
       all_four a b c d p q r t = rw (p, q, r, t) refl
 
   leads_open : (before : List Item) → IsSound setting before → (packet s at : ℕ)
-      (path : List ℕ) (target : ℕ) → Leads (are_linked setting.net.links) at path target
+      (path : List ℕ) (target : ℕ) → Leads (are_linked_in_net setting.net.links) at path target
       → Leads (is_open setting before packet s) at path target
   leads_open before sound packet s at [] target leads = leads
   leads_open before sound packet s at (next ∷ path) target leads = (
@@ -348,9 +348,9 @@ module _ (setting : Setting) (net : IsNet setting.net) where
   IsKnown = Both (Behind (IsCaused setting) (IsSound setting)) (IsKeptItem setting)
 
   drops_nothing : IsSetting setting → (before : List Item) (next : Item) → IsKnown before next
-      → DropsNothing setting before next
+      → ForwardingDropsNothing setting before next
   drops_nothing is before (Item.Stuck packet switch cause leg down) known =
-      let stuck : IsRightMachineStuck setting before packet switch leg = known.first.caused.first in
+      let stuck : IsMachineStuckRightly setting before packet switch leg = known.first.caused.first in
       record {
         stands = stuck.stands;
         targets = stuck.targets;
@@ -373,13 +373,13 @@ module _ (setting : Setting) (net : IsNet setting.net) where
       ∙ known.second.caused.caused.way.1))
   drops_nothing is before next known = tt
 
-pub rollouts : HoldsReached (λ setting journal. IsSetting setting → JournalItemsHaveCauses (HasCause setting) [] journal)
+pub rollouts : ControlLawHoldsReached (λ setting journal. IsSetting setting → JournalItemsHaveCauses (HasMachineCause setting) [] journal)
     → (setting : Setting) (events : List Event) (journal : List Item)
     → IsSetting setting → AreNetworkEvents setting events → NothingFailsInRollout events
-    → JournalBeginsAnswer setting events journal → JournalItemsHaveCauses (DropsNothing setting) [] journal
+    → JournalBeginsAnswer setting events journal → JournalItemsHaveCauses (ForwardingDropsNothing setting) [] journal
 rollouts ends setting events journal is own nothing begins =
     have_weaker (Both (Behind (IsCaused setting) (IsSound setting)) (IsKeptItem setting))
-    (DropsNothing setting) (drops_nothing setting is.net is) [] journal
+    (ForwardingDropsNothing setting) (drops_nothing setting is.net is) [] journal
     (have_both (Behind (IsCaused setting) (IsSound setting)) (IsKeptItem setting) [] journal
     (with_fact (IsCaused setting) (IsSound setting) (sound_kept setting is.net) [] journal caused
     (sound_at_first setting is.net)) (are_kept_items setting events journal is own begins))
@@ -389,6 +389,6 @@ rollouts ends setting events journal is own nothing begins =
         (λ setting journal have. have)).begun setting events journal begins
 
     caused : JournalItemsHaveCauses (IsCaused setting) [] journal
-    caused = have_both (HasCause setting) (Both (HasBothCauses setting) IsSafeRow) [] journal
+    caused = have_both (HasMachineCause setting) (Both (HasBothCauses setting) IsSafeRow) [] journal
         (ends.begun setting events journal own begins is) (have_both (HasBothCauses setting)
         IsSafeRow [] journal both (rows_safe setting events journal nothing begins))

@@ -3,8 +3,8 @@
 use Rattle.std.proofs.Common.{[], ◌&&◌, ◌++◌, ◌<◌, ◌==◌, ◌||◌, ◌∙◌, ◌∷◌, ◌≡◌, Bool, IsTrue, List, None, Option, Some, ap, arith, false, if◌then◌else◌, max, min, nat_lt, option_and_then, refl, subst, sym, true, unwrap_or, ℕ}
 use Rattle.base.proofs.Exports.{⊤, bit_at, has_mask, list_any, nat_tests}
 use Rattle.base.specs.Exports.{has}
-use Rattle.update_machine.specs.Exports.{Advert, Advertise, Body, JournalClaim, JournalItemsHaveCauses, Item, LinkRow, Message, Net, Place, Setting, journal_can_use, changes_journal_claim, journal_claim_by, journal_claim_in_message, journal_claim_of, gives_journal_link, is_link_up_in_journal, is_usable_in_journal, message_of, newer_journal_claim_of, own_advert, serves}
-use Rattle.net_file.specs.Exports.{are_linked, joins}
+use Rattle.update_machine.specs.Exports.{Advert, Advertise, Body, JournalClaim, JournalItemsHaveCauses, Item, LinkRow, Message, Net, Place, Setting, journal_can_use, changes_journal_claim, journal_claim_by, journal_claim_in_message, journal_claim_of, gives_journal_link, is_link_up_in_journal, is_usable_in_journal, journal_message_of, newer_journal_claim_of, own_advert, serves}
+use Rattle.net_file.specs.Exports.{are_linked_in_net, joins}
 use Rattle.update_machine.proofs.Exports.{have_append, near_usable, start_laws}
 use Rattle.control_laws.proofs.Exports.{AreKept, AreSuch, Both, HasBothCauses, IfAdvert, IsAdvertFact, claim_more, fact_on, have_front, last_more, serving_more, such_at_first, such_kept}
 
@@ -78,7 +78,7 @@ any_usable journal one two (link ∷ rows) up =
 
 -- exactly the links of the network are usable
 pub all_usable : (setting : Setting) (journal : List Item) → JournalItemsHaveCauses IsUnfailing [] journal
-    → (one two : ℕ) → journal_can_use setting journal one two ≡ are_linked setting.net.links one two
+    → (one two : ℕ) → journal_can_use setting journal one two ≡ are_linked_in_net setting.net.links one two
 all_usable setting journal safe one two =
     any_usable journal one two setting.net.links (all_up journal safe)
 
@@ -86,7 +86,7 @@ all_usable setting journal safe one two =
 
 -- the advert names the switches to which the network has links of its origin, and no others
 abbrev pub NamesAll : Net → Advert → Type 0
-NamesAll net advert = (k : ℕ) → k < 64 → has advert.up k ≡ are_linked net.links advert.origin k
+NamesAll net advert = (k : ℕ) → k < 64 → has advert.up k ≡ are_linked_in_net net.links advert.origin k
 
 own_names_all : (setting : Setting) (journal : List Item) (s : ℕ)
     → JournalItemsHaveCauses IsUnfailing [] journal → NamesAll setting.net (own_advert setting journal s)
@@ -103,14 +103,14 @@ all_fact setting = record {
   kept = λ before next both advert names safe.
       names (have_front IsUnfailing [] before (next ∷ []) safe);
   own = λ journal s neighbour linked safe. own_names_all setting journal s safe;
-  first = λ origin there safe k small. has_mask (are_linked setting.net.links origin) k small;
+  first = λ origin there safe k small. has_mask (are_linked_in_net setting.net.links origin) k small;
 }
 
 -- ---- where nothing fails each switch is claimed to have all its links
 
 -- the claim is of all links of this switch
 abbrev pub IsWhole : Net → ℕ → JournalClaim → Type 0
-IsWhole net one claim = (k : ℕ) → k < 64 → claim.links k ≡ are_linked net.links one k
+IsWhole net one claim = (k : ℕ) → k < 64 → claim.links k ≡ are_linked_in_net net.links one k
 
 -- there is such a claim
 abbrev pub ClaimsAll : Net → ℕ → Option JournalClaim → Type 0
@@ -151,7 +151,7 @@ claimed_all net s one (Place.Switch t) (Advertise advert) such =
         → IfClaims net one (if b then Some (said_by advert) else None)
     by_tests false e = tt
     by_tests true e =
-        λ k small. such k small ∙ ap (λ n. are_linked net.links n k) (grind (arith, nat_tests))
+        λ k small. such k small ∙ ap (λ n. are_linked_in_net net.links n k) (grind (arith, nat_tests))
 claimed_all net s one to body such = tt
 
 -- what is kept of it, item by item, of a journal in which nothing failed
@@ -166,15 +166,15 @@ claims_on : (setting : Setting) (before : List Item) (next : Item) (s one : ℕ)
 claims_on setting before (Item.Down t) s one safe kept = absurd safe
 claims_on setting before (Item.Booted t boot) s one safe kept = absurd safe
 claims_on setting before (Item.Delivered number) s one safe kept = newer_all setting.net one
-    (journal_claim_of setting before s one) (option_and_then (journal_claim_in_message s one) (message_of before number))
-    (kept.claims s one) (by_message (message_of before number) refl)
+    (journal_claim_of setting before s one) (option_and_then (journal_claim_in_message s one) (journal_message_of before number))
+    (kept.claims s one) (by_message (journal_message_of before number) refl)
   where
     by_body : (body : Body) → IfAdvert (NamesAllSafely setting before) body
         → IfAdvert (NamesAll setting.net) body
     by_body (Advertise advert) such = such kept.safe
     by_body _ such = tt
 
-    by_message : (message : Option Message) → message_of before number ≡ message
+    by_message : (message : Option Message) → journal_message_of before number ≡ message
         → IfClaims setting.net one (option_and_then (journal_claim_in_message s one) message)
     by_message None e = tt
     by_message (Some message) e = claimed_all setting.net s one message.to message.body

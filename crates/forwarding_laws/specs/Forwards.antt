@@ -4,7 +4,7 @@
 -- 2010; that they end like this is our own notion.
 use Rattle.std.specs.Prelude.{◌++◌, ◌≡◌, ◌⊎◌, All, Contains, IsTrue, List, None, Option, Some, find, option_map, ℕ}
 use Rattle.five_tuple.specs.Exports.{IsHeader}
-use Rattle.update_machine.specs.Exports.{Action, AreAllMachineEventSteps, Cause, Exit, Header, Item, Leaving, Leg, Packet, Seek, Setting, StepOfRow, journal_after_steps, journal_decision_of, is_up, journal_next_hop, journal_next_packet, piece, journal_plan_at, policy_at, targets_of, journal_version_count}
+use Rattle.update_machine.specs.Exports.{Action, AreAllMachineEventSteps, Cause, Exit, Header, Item, Leaving, Leg, Packet, Seek, Setting, StepOfRow, journal_after_steps, journal_decision_of, is_up, journal_next_hop, journal_next_packet, piece, journal_plan_at, policy_at, journal_leg_targets, journal_version_count}
 use Rattle.net_file.specs.Exports.{net_port_owner}
 use Rattle.policy_rules.specs.Exports.{IsFirstMatch, is_in_policy_partition}
 use Rattle.policy_rules.specs.declared.policy.Action.TheVariants as action
@@ -13,7 +13,7 @@ use Rattle.steps.specs.Exports.{HasSwitch}
 use Rattle.convergence_laws.specs.Exports.{Reaches}
 
 -- the packet got, by the newest version of `before`, this header's first match, with this action
-pub record IsDecidedByNewest (setting : Setting) (before after : List Item) (packet : ℕ)
+pub record IsForwardingDecidedByNewest (setting : Setting) (before after : List Item) (packet : ℕ)
     (header : Header) (act : Action) : Type 0 where
   pub rule : Option ℕ
   pub decided : journal_decision_of after packet
@@ -22,14 +22,14 @@ pub record IsDecidedByNewest (setting : Setting) (before after : List Item) (pac
       (record { rule = rule; action = act })
 
 -- the packet is stuck on this leg, and usable links led from where it entered to no target
-pub record IsStuckApart (setting : Setting) (before after : List Item) (packet ingress : ℕ)
+pub record IsForwardingStuckApart (setting : Setting) (before after : List Item) (packet ingress : ℕ)
     (leg : Leg) : Type 0 where
   pub switch : ℕ
   pub cause : Cause
   pub down : List ℕ
   pub stuck : Contains after (item.Stuck packet switch cause leg down)
   pub apart : All (λ target. ¬ Reaches setting before ingress target)
-      (targets_of setting before leg)
+      (journal_leg_targets setting before leg)
 
 -- the packet leaves by the port, and usable links led from where it entered to the port's switch
 pub record ForwardedLeavesThere (setting : Setting) (before after : List Item) (packet ingress port : ℕ)
@@ -45,12 +45,12 @@ abbrev pub ForwardedEndsBy : Setting → List Item → List Item → ℕ → ℕ
 ForwardedEndsBy setting before after packet ingress action.Drop = Contains after (item.Dropped packet)
 ForwardedEndsBy setting before after packet ingress (action.Out port) =
     ForwardedLeavesThere setting before after packet ingress port
-    ⊎ IsStuckApart setting before after packet ingress (Exit port)
+    ⊎ IsForwardingStuckApart setting before after packet ingress (Exit port)
 
 pub record IsForwardedByNewest (setting : Setting) (before after : List Item) (packet ingress : ℕ)
     (header : Header) : Type 0 where
   pub act : Action
-  pub decided : IsDecidedByNewest setting before after packet header act
+  pub decided : IsForwardingDecidedByNewest setting before after packet header act
   pub ends : ForwardedEndsBy setting before after packet ingress act
 
 -- undecided, the packet is stuck on its way to the partition of the newest version's plan whose
@@ -62,13 +62,13 @@ pub record ForwardingFindsNoTarget (setting : Setting) (before after : List Item
   pub own : option_map (λ hosted. hosted.0.number)
       (find (λ hosted. is_in_policy_partition header hosted.0) (journal_plan_at setting before (journal_version_count before)))
       ≡ Some partition
-  pub stuck : IsStuckApart setting before after packet ingress
+  pub stuck : IsForwardingStuckApart setting before after packet ingress
       (Seek (journal_version_count before) partition)
 
 -- this is true of each packet that enters right after the journal at a switch that is up, once a
 -- drain has taken all its hops
-abbrev pub QuietForwards : Setting → List Item → Type 0
-QuietForwards setting before = (row later ingress : ℕ) (header : Header) (hops : List StepOfRow)
+abbrev pub ForwardsWhenQuiet : Setting → List Item → Type 0
+ForwardsWhenQuiet setting before = (row later ingress : ℕ) (header : Header) (hops : List StepOfRow)
     → HasSwitch setting.net ingress → IsHeader header → IsTrue (is_up before ingress)
     → (let entered = before ++ piece setting before row (Packet ingress header) in
     AreAllMachineEventSteps setting journal_next_hop later entered hops

@@ -7,15 +7,15 @@ use Rattle.std.specs.Prelude.{[], ◌++◌, ◌==◌, ◌∷◌, ◌≡◌, All,
 use Rattle.update_machine.specs.Exports.{Event, Flush, Item, Net, Resend, Setting, journal_cache_of, holds_version, is_up, journal_version_count}
 use Rattle.steps.specs.Exports.{HasSwitch}
 use Rattle.forwarding_laws.specs.Recovered.{HasRecovered}
-use Rattle.forwarding_laws.specs.Recovery.{RecoveryAsksEach, EndsInRecovery}
+use Rattle.forwarding_laws.specs.Recovery.{ForwardingRecoveryAsksEach, EndsInRecovery}
 
 -- the events end in recovery, then a resend to each switch, then a flush
-pub record EndsInTwoRecoveryRounds (net : Net) (events : List Event) : Type 0 where
+pub record ForwardingEndsInTwoRounds (net : Net) (events : List Event) : Type 0 where
   pub first : List Event
   pub resends : List Event
   pub ends : events ≡ first ++ resends ++ Flush ∷ []
   pub recovered : EndsInRecovery net first
-  pub resent : RecoveryAsksEach net Resend resends
+  pub resent : ForwardingRecoveryAsksEach net Resend resends
 
 -- each switch of the network that is up has the tables of the newest version, and of no other
 abbrev pub HoldNewestAlone : Setting → List Item → Type 0

@@ -1,12 +1,12 @@
 -- The result of recovery.
 use Rattle.std.specs.Prelude.{◌≡◌, ◌⊎◌, IsTrue, List, Some, ℕ}
-use Rattle.update_machine.specs.Exports.{Item, Message, Setting, is_forgotten_in_journal, message_of, was_delivered}
-use Rattle.convergence_laws.specs.Exports.{GetStuckApart, HasConverged, HasConvergedOnVersion}
-use Rattle.forwarding_laws.specs.Forwards.{QuietForwards}
+use Rattle.update_machine.specs.Exports.{Item, Message, Setting, is_forgotten_in_journal, journal_message_of, was_delivered}
+use Rattle.convergence_laws.specs.Exports.{ConvergedGetStuckApart, HasConverged, IsNetworkUpdateConverged}
+use Rattle.forwarding_laws.specs.Forwards.{ForwardsWhenQuiet}
 
 -- each message that was sent was delivered, or was forgotten
-abbrev pub RecoveryDeliversAll : List Item → Type 0
-RecoveryDeliversAll journal = (n : ℕ) (message : Message) → message_of journal n ≡ Some message
+abbrev pub ForwardingRecoveryDeliversAll : List Item → Type 0
+ForwardingRecoveryDeliversAll journal = (n : ℕ) (message : Message) → journal_message_of journal n ≡ Some message
     → IsTrue (was_delivered journal n) ⊎ IsTrue (is_forgotten_in_journal journal n)
 
 -- the switches know the usable links, and a packet that had found no link down gets stuck in the
@@ -15,6 +15,6 @@ RecoveryDeliversAll journal = (n : ℕ) (message : Message) → message_of journ
 -- before may still matter, as an advert for a switch to which no link leads any more
 pub record HasRecovered (setting : Setting) (journal : List Item) : Type 0 where
   pub converged : HasConverged setting journal
-  pub apart : GetStuckApart setting journal
-  pub updated : HasConvergedOnVersion setting journal
-  pub forwards : QuietForwards setting journal
+  pub apart : ConvergedGetStuckApart setting journal
+  pub updated : IsNetworkUpdateConverged setting journal
+  pub forwards : ForwardsWhenQuiet setting journal

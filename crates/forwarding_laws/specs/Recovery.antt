@@ -7,7 +7,7 @@ use Rattle.update_machine.specs.Exports.{Confirm, Event, Flush, Net, One, Resend
 use Rattle.steps.specs.Exports.{HasSwitch}
 
 -- each row takes this step for some switch, and each switch of the network has such a row
-pub record RecoveryAsksEach (net : Net) (step : ℕ → Step) (rows : List Event) : Type 0 where
+pub record ForwardingRecoveryAsksEach (net : Net) (step : ℕ → Step) (rows : List Event) : Type 0 where
   pub only : All (λ row. (s : ℕ) × (row ≡ One (step s))) rows
   pub each : (s : ℕ) → HasSwitch net s → Contains rows (One (step s))
 
@@ -17,5 +17,5 @@ pub record EndsInRecovery (net : Net) (events : List Event) : Type 0 where
   pub confirms : List Event
   pub resends : List Event
   pub ends : events ≡ front ++ confirms ++ resends ++ Flush ∷ []
-  pub confirmed : RecoveryAsksEach net Confirm confirms
-  pub resent : RecoveryAsksEach net Resend resends
+  pub confirmed : ForwardingRecoveryAsksEach net Confirm confirms
+  pub resent : ForwardingRecoveryAsksEach net Resend resends

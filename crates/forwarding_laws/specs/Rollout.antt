@@ -5,7 +5,7 @@
 use Rattle.std.specs.Prelude.{[], ◌++◌, ◌∷◌, ◌≡◌, ◌≢◌, All, Bool, Contains, IsFalse, List, Some, false, true, ℕ, ⊤}
 use Rattle.update_machine.specs.Exports.{AreMachineLegTargets, Cause, Crash, Decision, Drop, Event, Header, Item, Leads, MachineLeavesRightly, Leg, LinkDown, Lose, Net, One, Setting, Step, journal_decision_of, journal_present_step, standing}
 use Rattle.journal.specs.declared.item.Item.TheVariants as item
-use Rattle.net_file.specs.Exports.{are_linked}
+use Rattle.net_file.specs.Exports.{are_linked_in_net}
 use Rattle.steps.specs.Exports.{HasSwitch}
 
 -- a row that crashes a switch or fails a link
@@ -25,7 +25,7 @@ NothingFailsInRollout events = All RolloutFailsNothing events
 -- the links of the network lead from the switch to none of the targets
 abbrev pub AreForwardingTargetsCutOff : Net → ℕ → List ℕ → Type 0
 AreForwardingTargetsCutOff net switch targets = All (λ target. (path : List ℕ)
-    → ¬ Leads (are_linked net.links) switch path target) targets
+    → ¬ Leads (are_linked_in_net net.links) switch path target) targets
 
 -- a packet is stuck where it is: its leg has targets, and the links of the network lead from there
 -- to none of them
@@ -39,20 +39,20 @@ pub record IsStuckCutOff (setting : Setting) (before : List Item) (packet switch
 
 -- a packet is stuck only if it is cut off, and lost only by its own row; none finds a link down;
 -- and no switch is closed to one
-abbrev pub DropsNothing : Setting → List Item → Item → Type 0
-DropsNothing setting before (item.Stuck packet switch cause leg down) =
+abbrev pub ForwardingDropsNothing : Setting → List Item → Item → Type 0
+ForwardingDropsNothing setting before (item.Stuck packet switch cause leg down) =
     IsStuckCutOff setting before packet switch leg
-DropsNothing setting before (item.Lost packet) = journal_present_step before ≡ Some (Lose packet)
-DropsNothing setting before (item.FoundDown packet one two) = ⊥
-DropsNothing setting before (item.Closed packet switch) = ⊥
-DropsNothing setting before _ = ⊤
+ForwardingDropsNothing setting before (item.Lost packet) = journal_present_step before ≡ Some (Lose packet)
+ForwardingDropsNothing setting before (item.FoundDown packet one two) = ⊥
+ForwardingDropsNothing setting before (item.Closed packet switch) = ⊥
+ForwardingDropsNothing setting before _ = ⊤
 
 -- ---- connected networks
 
 -- the links of the network lead from each switch to each other switch
-abbrev pub IsConnectedNetwork : Net → Type 0
-IsConnectedNetwork net = (one other : ℕ) → HasSwitch net one → HasSwitch net other
-    → (path : List ℕ) × Leads (are_linked net.links) one path other
+abbrev pub IsConnectedForwardingNetwork : Net → Type 0
+IsConnectedForwardingNetwork net = (one other : ℕ) → HasSwitch net one → HasSwitch net other
+    → (path : List ℕ) × Leads (are_linked_in_net net.links) one path other
 
 -- no packet is stuck
 abbrev pub NoneIsStuck : List Item → Type 0
@@ -78,10 +78,10 @@ RolloutEndsRightly setting packet before (item.Lost i) =
 RolloutEndsRightly setting packet before _ = ⊥
 
 -- or it is stuck, cut off from its targets
-abbrev pub EndsOrIsCutOff : Setting → ℕ → List Item → Item → Type 0
-EndsOrIsCutOff setting packet before (item.Stuck i switch cause leg down) =
+abbrev pub RolloutEndsOrIsCutOff : Setting → ℕ → List Item → Item → Type 0
+RolloutEndsOrIsCutOff setting packet before (item.Stuck i switch cause leg down) =
     (i ≡ packet) × IsStuckCutOff setting before packet switch leg
-EndsOrIsCutOff setting packet before end = RolloutEndsRightly setting packet before end
+RolloutEndsOrIsCutOff setting packet before end = RolloutEndsRightly setting packet before end
 
 -- the journal has an item for which `is` is true after the items before it
 pub record RolloutHasItem (is : List Item → Item → Type 0) (journal : List Item) : Type 0 where
@@ -101,4 +101,4 @@ RolloutAccountsForAll setting journal = (packet switch : ℕ) (header : Header)
 abbrev pub AllAccountedOrCutOff : Setting → List Item → Type 0
 AllAccountedOrCutOff setting journal = (packet switch : ℕ) (header : Header)
     → Contains journal (item.Entered packet switch header)
-    → RolloutHasItem (EndsOrIsCutOff setting packet) journal
+    → RolloutHasItem (RolloutEndsOrIsCutOff setting packet) journal

@@ -1,16 +1,16 @@
 -- What is true of a quiet network.
 use Rattle.std.specs.Prelude.{List}
-use Rattle.update_machine.specs.Exports.{IsMachineQuiet, Item, Setting}
-use Rattle.convergence_laws.specs.Exports.{GetStuckApart, HasConverged, HasConvergedOnVersion}
-use Rattle.forwarding_laws.specs.Forwards.{QuietForwards}
+use Rattle.update_machine.specs.Exports.{IsQuietMachineJournal, Item, Setting}
+use Rattle.convergence_laws.specs.Exports.{ConvergedGetStuckApart, HasConverged, IsNetworkUpdateConverged}
+use Rattle.forwarding_laws.specs.Forwards.{ForwardsWhenQuiet}
 
 -- the network is quiet. So the switches know the usable links, and a packet that had found no link
 -- down gets stuck in the next step only if no target is reachable. The switches that are up stamp
 -- with the newest version, and a packet that enters then is decided by that version. It is dropped
 -- or leaves, or is stuck if usable links lead to no target of its partition or not to its port
-pub record HasForwardingComeToRest (setting : Setting) (journal : List Item) : Type 0 where
-  pub quiet : IsMachineQuiet setting journal
+pub record HasNetworkComeToRest (setting : Setting) (journal : List Item) : Type 0 where
+  pub quiet : IsQuietMachineJournal setting journal
   pub converged : HasConverged setting journal
-  pub apart : GetStuckApart setting journal
-  pub updated : HasConvergedOnVersion setting journal
-  pub forwards : QuietForwards setting journal
+  pub apart : ConvergedGetStuckApart setting journal
+  pub updated : IsNetworkUpdateConverged setting journal
+  pub forwards : ForwardsWhenQuiet setting journal

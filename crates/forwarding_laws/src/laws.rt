@@ -1,11 +1,11 @@
 //! Laws about networks that have converged or are quiet: they forward.
-ghost use Rattle.update_machine.specs.Exports.{IsMachineQuiet, IsSetting};
-ghost use Rattle.convergence_laws.specs.Exports.{HasConverged, HasConvergedOnVersion};
-ghost use Rattle.packet_laws.specs.Exports.{HoldsBetween};
-ghost use Rattle.forwarding_laws.specs.Exports.{HasForwardingComeToRest, QuietForwards};
+ghost use Rattle.update_machine.specs.Exports.{IsQuietMachineJournal, IsSetting};
+ghost use Rattle.convergence_laws.specs.Exports.{HasConverged, IsNetworkUpdateConverged};
+ghost use Rattle.packet_laws.specs.Exports.{PacketLawHoldsBetween};
+ghost use Rattle.forwarding_laws.specs.Exports.{HasNetworkComeToRest, ForwardsWhenQuiet};
 
 use convergence_laws::{
-    packets_get_stuck_apart, quiet_networks_are_updated, quiet_networks_have_converged,
+    quiet_networks_are_updated, quiet_networks_have_converged, stuck_apart_when_neighbours_agree,
 };
 
 /// A network that has converged and is updated forwards. A packet that enters at a switch that
@@ -13,14 +13,14 @@ use convergence_laws::{
 /// dropped or leaves by its port. It is stuck only if usable links lead to no target of its
 /// partition, or not to its port's switch.
 pub fn converged_networks_forward()
-    ensures { HoldsBetween (λ setting journal. IsSetting setting → HasConverged setting journal
-        → HasConvergedOnVersion setting journal → QuietForwards setting journal) }
+    ensures { PacketLawHoldsBetween (λ setting journal. IsSetting setting → HasConverged setting journal
+        → IsNetworkUpdateConverged setting journal → ForwardsWhenQuiet setting journal) }
 {}
 
 /// A quiet network forwards in the same way.
 pub fn quiet_networks_forward()
-    ensures { HoldsBetween (λ setting journal.
-        IsSetting setting → IsMachineQuiet setting journal → QuietForwards setting journal) }
+    ensures { PacketLawHoldsBetween (λ setting journal.
+        IsSetting setting → IsQuietMachineJournal setting journal → ForwardsWhenQuiet setting journal) }
 {
     quiet_networks_have_converged();
     quiet_networks_are_updated();
@@ -28,12 +28,12 @@ pub fn quiet_networks_forward()
 }
 
 /// So a quiet network has come to rest: it has converged and is updated, and it forwards.
-pub fn quiet_networks_have_come_to_rest()
-    ensures { HoldsBetween (λ setting journal.
-        IsSetting setting → IsMachineQuiet setting journal → HasForwardingComeToRest setting journal) }
+pub fn quiet_forwarding_comes_to_rest()
+    ensures { PacketLawHoldsBetween (λ setting journal.
+        IsSetting setting → IsQuietMachineJournal setting journal → HasNetworkComeToRest setting journal) }
 {
     quiet_networks_have_converged();
-    packets_get_stuck_apart();
+    stuck_apart_when_neighbours_agree();
     quiet_networks_are_updated();
     quiet_networks_forward();
 }

@@ -10,11 +10,12 @@ mod rollout;
 mod working;
 
 pub use laws::{
-    converged_networks_forward, quiet_networks_forward, quiet_networks_have_come_to_rest,
+    converged_networks_forward, quiet_forwarding_comes_to_rest, quiet_networks_forward,
 };
 pub use recovery::{
-    flushes_deliver_all, networks_recover, nothing_old_is_left, recovered_caches_are_new,
+    forwarding_flushes_deliver_all, networks_recover, recovered_caches_are_new,
     recovered_neighbours_agree, recovered_networks_are_updated, recovered_networks_have_converged,
+    recovery_leaves_nothing_old,
 };
 pub use rollout::{
     connected_rollouts_leave_none_stuck, drained_rollouts_account_for_all,

@@ -4,19 +4,19 @@ ghost use Rattle.net_file.specs.Net.{IsNet};
 ghost use Rattle.update_machine.specs.Exports.{Answers, Event, IsSetting, Item, Setting};
 ghost use Rattle.steps.specs.declared.step.Event.TheVariants.{Flush};
 ghost use Rattle.control_laws.specs.Always.{AreNetworkEvents};
-ghost use Rattle.convergence_laws.specs.Exports.{HasConverged, HasConvergedOnVersion, NeighboursAgree};
-ghost use Rattle.forwarding_laws.specs.NothingOld.{ForwardingCachesNewestAlone, EndsInTwoRecoveryRounds, RecoveryLeavesNothingOld};
-ghost use Rattle.forwarding_laws.specs.Recovered.{RecoveryDeliversAll, HasRecovered};
+ghost use Rattle.convergence_laws.specs.Exports.{HasConverged, IsNetworkUpdateConverged, NeighboursAgree};
+ghost use Rattle.forwarding_laws.specs.NothingOld.{ForwardingCachesNewestAlone, ForwardingEndsInTwoRounds, RecoveryLeavesNothingOld};
+ghost use Rattle.forwarding_laws.specs.Recovered.{ForwardingRecoveryDeliversAll, HasRecovered};
 ghost use Rattle.forwarding_laws.specs.Recovery.{EndsInRecovery};
 
 use crate::laws::converged_networks_forward;
-use convergence_laws::{agreeing_networks_have_converged, packets_get_stuck_apart};
+use convergence_laws::{agreeing_networks_have_converged, stuck_apart_when_neighbours_agree};
 use packet_laws::cache_rules_are_right;
 
 /// After a flush each message that was sent was delivered or forgotten.
-pub fn flushes_deliver_all()
+pub fn forwarding_flushes_deliver_all()
     ensures { (setting : Setting) (events : List Event) (journal : List Item)
-        → Answers setting (events ++ Flush ∷ []) journal → RecoveryDeliversAll journal }
+        → Answers setting (events ++ Flush ∷ []) journal → ForwardingRecoveryDeliversAll journal }
 {}
 
 /// After recovery neighbours agree: over each usable link, each end has adverts at least as new as
@@ -42,7 +42,7 @@ pub fn recovered_networks_have_converged()
 pub fn recovered_networks_are_updated()
     ensures { (setting : Setting) (events : List Event) (journal : List Item)
         → EndsInRecovery setting.net events → Answers setting events journal
-        → HasConvergedOnVersion setting journal }
+        → IsNetworkUpdateConverged setting journal }
 {}
 
 /// Suppose a schedule ends with the confirmation of each switch, a resend to each switch and a
@@ -54,7 +54,7 @@ pub fn networks_recover()
         → Answers setting events journal → HasRecovered setting journal }
 {
     agreeing_networks_have_converged();
-    packets_get_stuck_apart();
+    stuck_apart_when_neighbours_agree();
     converged_networks_forward();
 }
 
@@ -69,13 +69,13 @@ pub fn recovered_caches_are_new()
 
 /// After recovery, one more resend to each switch and a flush, nothing old is left: the switches
 /// that are up have the tables of the newest version and of no other, and cache only its rules.
-pub fn nothing_old_is_left()
+pub fn recovery_leaves_nothing_old()
     ensures { (setting : Setting) (events : List Event) (journal : List Item)
-        → IsSetting setting → AreNetworkEvents setting events → EndsInTwoRecoveryRounds setting.net events
+        → IsSetting setting → AreNetworkEvents setting events → ForwardingEndsInTwoRounds setting.net events
         → Answers setting events journal → RecoveryLeavesNothingOld setting journal }
 {
     agreeing_networks_have_converged();
-    packets_get_stuck_apart();
+    stuck_apart_when_neighbours_agree();
     converged_networks_forward();
     cache_rules_are_right();
 }

@@ -3,10 +3,10 @@ ghost use Rattle.std.specs.Prelude.{◌∷◌, ◌++◌, [], List};
 ghost use Rattle.steps.specs.declared.step.Event.TheVariants.{Drain};
 ghost use Rattle.update_machine.specs.Exports.{Answers, JournalBeginsAnswer, Event, JournalItemsHaveCauses, IsSetting, Item, Setting};
 ghost use Rattle.control_laws.specs.Always.{AreNetworkEvents};
-ghost use Rattle.forwarding_laws.specs.Rollout.{RolloutAccountsForAll, AllAccountedOrCutOff, DropsNothing, IsConnectedNetwork, NoneIsStuck, NothingFailsInRollout};
+ghost use Rattle.forwarding_laws.specs.Rollout.{RolloutAccountsForAll, AllAccountedOrCutOff, ForwardingDropsNothing, IsConnectedForwardingNetwork, NoneIsStuck, NothingFailsInRollout};
 
 use packet_laws::{ends_have_causes, packet_items_have_causes};
-use update_machine::answers_are_numbered;
+use update_machine::machine_answers_are_numbered;
 
 /// If no switch crashes and no link fails, this is true of every packet, however many updates run,
 /// and however messages are lost, repeated or reordered. It is stuck only if the network's links
@@ -15,7 +15,7 @@ use update_machine::answers_are_numbered;
 pub fn rollouts_drop_nothing()
     ensures { (setting : Setting) (events : List Event) (journal : List Item)
         → IsSetting setting → AreNetworkEvents setting events → NothingFailsInRollout events
-        → JournalBeginsAnswer setting events journal → JournalItemsHaveCauses (DropsNothing setting) [] journal }
+        → JournalBeginsAnswer setting events journal → JournalItemsHaveCauses (ForwardingDropsNothing setting) [] journal }
 {
     ends_have_causes();
 }
@@ -24,7 +24,7 @@ pub fn rollouts_drop_nothing()
 pub fn connected_rollouts_leave_none_stuck()
     ensures { (setting : Setting) (events : List Event) (journal : List Item)
         → IsSetting setting → AreNetworkEvents setting events → NothingFailsInRollout events
-        → IsConnectedNetwork setting.net → JournalBeginsAnswer setting events journal → NoneIsStuck journal }
+        → IsConnectedForwardingNetwork setting.net → JournalBeginsAnswer setting events journal → NoneIsStuck journal }
 {
     rollouts_drop_nothing();
 }
@@ -38,7 +38,7 @@ pub fn drained_rollouts_account_or_cut_off()
         → NothingFailsInRollout (events ++ Drain ∷ []) → Answers setting (events ++ Drain ∷ []) journal
         → AllAccountedOrCutOff setting journal }
 {
-    answers_are_numbered();
+    machine_answers_are_numbered();
     packet_items_have_causes();
     ends_have_causes();
     rollouts_drop_nothing();
@@ -49,7 +49,7 @@ pub fn drained_rollouts_account_or_cut_off()
 pub fn drained_rollouts_account_for_all()
     ensures { (setting : Setting) (events : List Event) (journal : List Item)
         → IsSetting setting → AreNetworkEvents setting (events ++ Drain ∷ [])
-        → NothingFailsInRollout (events ++ Drain ∷ []) → IsConnectedNetwork setting.net
+        → NothingFailsInRollout (events ++ Drain ∷ []) → IsConnectedForwardingNetwork setting.net
         → Answers setting (events ++ Drain ∷ []) journal → RolloutAccountsForAll setting journal }
 {
     connected_rollouts_leave_none_stuck();

@@ -1,4 +1,5 @@
-//! Journals: what happened in a network, item by item.
+//! Journals in memory: what happened in a network, item by item, as values that share their routes
+//! and messages.
 //!
 //! An `Item` is one record, and a `Journal` the list of them. Routes, sets of links and messages
 //! are shared, and a leaving is packed, so that an item stays small and a clone of one copies none.

@@ -1,9 +1,9 @@
 -- What is counted of one more item.
 use Rattle.std.proofs.Common.{[], ◌++◌, ◌+◌, ◌∙◌, ◌∷◌, ◌≡◌, Bool, List, None, Option, Some, ap, arith, false, refl, true, unwrap_or, ℕ}
 use Rattle.std.specs.Option.{option_or}
-use Rattle.update_machine.specs.Exports.{Item, count_of, journal_current_mark, gives_current, item_gives_retired, is_packet, journal_last_given, journal_retired_mark}
+use Rattle.update_machine.specs.Exports.{Item, count_of, journal_current_mark, gives_current, machine_item_gives_retired, is_packet, journal_last_given, journal_retired_mark}
 use Rattle.update_machine.proofs.Exports.{count_of_append, last_given_append}
-use Rattle.journal_reports.specs.Exports.{counts_after_item, counts_cached, summary_counts_closed, counts_dropped, summary_counts_entered, summary_counts_left, summary_counts_lost, summary_counts_sent, is_stuck, item_counts, summary_one_more}
+use Rattle.journal_reports.specs.Exports.{counts_after_item, summary_counts_cached, summary_counts_closed, summary_counts_dropped, summary_counts_entered, summary_counts_left, summary_counts_lost, summary_counts_sent, summary_counts_stuck, item_counts, summary_one_more}
 
 count_more : (test : Item → Bool) (before : List Item) (item : Item)
     → count_of test (before ++ item ∷ []) ≡ summary_one_more (test item) (count_of test before)
@@ -31,14 +31,14 @@ counts_more before item = rw (
   count_more is_packet before item,
   count_more summary_counts_closed before item,
   count_more summary_counts_left before item,
-  count_more counts_dropped before item,
+  count_more summary_counts_dropped before item,
   count_more summary_counts_lost before item,
-  count_more is_stuck before item,
+  count_more summary_counts_stuck before item,
   count_more summary_counts_entered before item,
-  count_more counts_cached before item,
+  count_more summary_counts_cached before item,
   count_more summary_counts_sent before item,
   told_more gives_current before item 1,
-  told_more item_gives_retired before item 0,
+  told_more machine_item_gives_retired before item 0,
 ) refl
 
 pub counts_start : item_counts [] ≡ record {

@@ -4,7 +4,7 @@ use Rattle.std.specs.List.{list_any}
 use Rattle.std.specs.Option.{option_map_or}
 use Rattle.std.proofs.lemmas.Bool.{and_parts, cases_lt}
 use Rattle.std.proofs.lemmas.List.{get_or_append_left, get_or_push}
-use Rattle.update_machine.specs.Exports.{AreJournalMessagesReceived, Body, IsJournalMessageReceived, IsJournalMessageReplaced, Item, Message, Place, MachineMessageReplaces, Setting, item_begins_boot, count_of, is_delivery_item, is_of_boot, is_old_ack_in_journal, matters, machine_speaking_in_body, was_delivered}
+use Rattle.update_machine.specs.Exports.{AreMachineMessagesReceived, Body, IsJournalMessageReceived, IsJournalMessageReplaced, Item, Message, Place, MachineMessageReplaces, Setting, item_begins_boot, count_of, is_delivery_item, is_of_machine_boot, is_machine_ack_below_version, matters, machine_speaking_in_body, was_delivered}
 use Rattle.ctrl_msg.specs.declared.message.Place.TheVariants as receiver
 use Rattle.journal.specs.declared.item.Item.TheVariants as item
 use Rattle.convergence_laws.proofs.Exports.{delivered_append}
@@ -69,8 +69,8 @@ matters_named : (status : SwitchStatus) (in_boot : Bool) (message : Message) →
     in_boot message ≡ true → is_named_in_report status.switch (report_switch_of_message message) ≡ true
 matters_named status in_boot message matter = by_receiver message.to message.body matter where
   by_speaker : (body : Body) (o : Option (ℕ × ℕ))
-      → (status.is_up && option_map_or (is_of_boot status.switch status.boot) o false
-      && not (is_old_ack_in_journal status.current body)) ≡ true
+      → (status.is_up && option_map_or (is_of_machine_boot status.switch status.boot) o false
+      && not (is_machine_ack_below_version status.current body)) ≡ true
       → is_named_in_report status.switch (option_map (λ (of : ℕ × ℕ). of.0) o) ≡ true
   by_speaker body None matter =
       absurd (cc ((and_parts status.is_up false (and_parts _ _ matter).0).1))
@@ -238,7 +238,7 @@ pub received_first : (setting : Setting) (journal after : List Item)
     (next : Item) (marks : List Bool) (rows now : List Traffic) (answer : Bool)
     → length setting.net.switches ≡ length rows
     → IsReadNext journal after next marks rows now answer → IsTrue answer
-    → AreJournalMessagesReceived setting journal after → AreJournalMessagesReceived setting journal (next ∷ after)
+    → AreMachineMessagesReceived setting journal after → AreMachineMessagesReceived setting journal (next ∷ after)
 received_first setting journal after (item.Sent number message) marks rows now answer count read
     met received = (
       λ s there matter. let below : s < length rows = omega (arith, there, count) in
@@ -262,7 +262,7 @@ received_first setting journal after next marks rows now answer count read met r
 pub not_received : (setting : Setting) (journal after : List Item) (next : Item) (marks : List Bool)
     (rows now : List Traffic) (answer : Bool) → length setting.net.switches ≡ length rows
     → IsReadNext journal after next marks rows now answer → ReportTrafficConcernsOne rows next → IsFalse answer
-    → AreJournalMessagesReceived setting journal (next ∷ after) → ⊥
+    → AreMachineMessagesReceived setting journal (next ∷ after) → ⊥
 not_received setting journal after next marks rows now answer count read concerns unmet received =
     clash (sym unmet ∙ step.met.1 (met next read.right received))
   where
@@ -282,7 +282,7 @@ not_received setting journal after next marks rows now answer count read concern
     clash e = absurd cc
 
     met : (next : Item) → ((n : ℕ) → report_has_mark marks n ≡ was_delivered (next ∷ after) n)
-        → AreJournalMessagesReceived setting journal (next ∷ after) → IsReportTrafficMet marks row next
+        → AreMachineMessagesReceived setting journal (next ∷ after) → IsReportTrafficMet marks row next
     met (item.Sent number message) right received = λ matter. elim (received.0 s
         (omega (arith, concerns.there)) (sym (in_row journal after s row message is) ∙ matter)) [
           | inl delivered ↦ inl (sent_mark marks number message after right ∙ delivered)

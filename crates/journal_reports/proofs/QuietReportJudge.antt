@@ -4,7 +4,7 @@ use Rattle.std.specs.List.{list_all, range_with_len}
 use Rattle.std.proofs.lemmas.List.{at_drop_all}
 use Rattle.std.proofs.lemmas.List.Elements.{All-from_recursion}
 use Rattle.std.proofs.lemmas.List.Sums.{AllPass-from_list_all, list_all-from_AllPass}
-use Rattle.update_machine.specs.Exports.{AreJournalMessagesReceived, IsMachineQuiet, Item, Setting, is_delivery_item, is_up, is_waited_for, switches_of, was_delivered}
+use Rattle.update_machine.specs.Exports.{AreMachineMessagesReceived, IsQuietMachineJournal, Item, Setting, is_delivery_item, is_up, is_waited_for, setting_switches_of, was_delivered}
 use Rattle.journal.specs.declared.item.Item.TheVariants as item
 use Rattle.convergence_laws.proofs.Exports.{all_in, each_of_in}
 use Rattle.journal_reports.specs.declared.traffic.Traffic.{Traffic}
@@ -43,16 +43,16 @@ is_not_missed false false is = refl
 pub switches_found : (setting : Setting) (journal : List Item) (rows : List Traffic)
     → AreReportTrafficRows journal [] rows → length setting.net.switches ≡ length rows
     → IsTrue (list_all (λ row. not (is_missed row.status)) rows)
-    ↔ All (λ s. IsTrue (is_up journal s || not (is_waited_for journal s))) (switches_of setting)
+    ↔ All (λ s. IsTrue (is_up journal s || not (is_waited_for journal s))) (setting_switches_of setting)
 switches_found setting journal rows are count = (
-  λ none. All-from_recursion Fine (switches_of setting)
-      (each_of_in Fine (switches_of setting) (λ s is. not_missed (is_up journal s)
-      (is_waited_for journal s) (all_in Found s (switches_of setting)
-      (AllPass-from_list_all (is_found journal) (switches_of setting) (sym same ∙ none)) is))),
+  λ none. All-from_recursion Fine (setting_switches_of setting)
+      (each_of_in Fine (setting_switches_of setting) (λ s is. not_missed (is_up journal s)
+      (is_waited_for journal s) (all_in Found s (setting_switches_of setting)
+      (AllPass-from_list_all (is_found journal) (setting_switches_of setting) (sym same ∙ none)) is))),
   λ fine. same
-      ∙ list_all-from_AllPass (is_found journal) (switches_of setting) (All-from_recursion Found
-      (switches_of setting) (each_of_in Found (switches_of setting) (λ s is. is_not_missed
-      (is_up journal s) (is_waited_for journal s) (all_in Fine s (switches_of setting) fine is)))),
+      ∙ list_all-from_AllPass (is_found journal) (setting_switches_of setting) (All-from_recursion Found
+      (setting_switches_of setting) (each_of_in Found (setting_switches_of setting) (λ s is. is_not_missed
+      (is_up journal s) (is_waited_for journal s) (all_in Fine s (setting_switches_of setting) fine is)))),
 ) where
   Fine : ℕ → Type 0
   Fine s = IsTrue (is_up journal s || not (is_waited_for journal s))
@@ -61,7 +61,7 @@ switches_found setting journal rows are count = (
   Found s = is_found journal s ≡ true
 
   same : list_all (λ row. not (is_missed row.status)) rows
-      ≡ list_all (is_found journal) (switches_of setting)
+      ≡ list_all (is_found journal) (setting_switches_of setting)
   same = rows_found journal rows 0 (λ s d within. subst
       (λ n. IsReportTraffic journal [] n (get_or rows s d)) (omega arith) (are s d within))
       ∙ ap (λ n. list_all (is_found journal) (range_with_len 0 n)) (sym count)
@@ -70,7 +70,7 @@ switches_found setting journal rows are count = (
 
 -- what was received was at its end
 received_tail : (setting : Setting) (journal items : List Item) (place : ℕ)
-    → AreJournalMessagesReceived setting journal items → AreJournalMessagesReceived setting journal (drop place items)
+    → AreMachineMessagesReceived setting journal items → AreMachineMessagesReceived setting journal (drop place items)
 received_tail setting journal items zero received = received
 received_tail setting journal [] (suc place) received = tt
 received_tail setting journal (item.Sent number message ∷ items) (suc place) received =
@@ -127,14 +127,14 @@ module _ (items : List Item) (place : ℕ) (next : Item) (marks : List Bool) (ro
 
   module _ (setting : Setting) (count : length setting.net.switches ≡ length rows) where
     pub received_before : (from : ℕ) → from ≡ place + 1 → IsTrue answer
-        → AreJournalMessagesReceived setting items (drop from items) → AreJournalMessagesReceived setting items (drop place items)
+        → AreMachineMessagesReceived setting items (drop from items) → AreMachineMessagesReceived setting items (drop place items)
     received_before from at met received = rw first (received_first setting items
         (drop (place + 1) items) next marks rows now answer count read met (rw at at received))
 
     -- a message that matters wasn't received
-    pub waiting_answer : ReportTrafficConcernsOne rows next → IsFalse answer → IsMachineQuiet setting items → ⊥
+    pub waiting_answer : ReportTrafficConcernsOne rows next → IsFalse answer → IsQuietMachineJournal setting items → ⊥
     waiting_answer concerns unmet quiet = not_received setting items (drop (place + 1) items) next
-        marks rows now answer count read concerns unmet (subst (AreJournalMessagesReceived setting items) first
+        marks rows now answer count read concerns unmet (subst (AreMachineMessagesReceived setting items) first
         (received_tail setting items items place quiet.messages))
 
 -- ---- before any item is read
@@ -151,14 +151,14 @@ pub rows_at_end : (items : List Item) (place : ℕ) (rows : List Traffic) → le
 rows_at_end items place rows few are = rw (none_left items place few) are
 
 pub received_at_end : (setting : Setting) (items : List Item) (place : ℕ) → length items ≤ place
-    → AreJournalMessagesReceived setting items (drop place items)
+    → AreMachineMessagesReceived setting items (drop place items)
 received_at_end setting items place few = rw (none_left items place few) tt
 
 -- ---- the answer
 
 pub missed_answer : (setting : Setting) (journal : List Item) (rows : List Traffic)
     → AreReportTrafficRows journal [] rows → length setting.net.switches ≡ length rows
-    → IsFalse (list_all (λ row. not (is_missed row.status)) rows) → IsMachineQuiet setting journal → ⊥
+    → IsFalse (list_all (λ row. not (is_missed row.status)) rows) → IsQuietMachineJournal setting journal → ⊥
 missed_answer setting journal rows are count some quiet =
     clash (sym some ∙ (switches_found setting journal rows are count).1 quiet.switches)
   where

@@ -4,12 +4,12 @@ use Rattle.std.proofs.lemmas.Bool.{and_parts, or_right}
 use Rattle.std.proofs.lemmas.Bool.Decides.{nat_tests}
 use Rattle.control_laws.proofs.Exports.{own}
 use Rattle.ctrl_msg.specs.Exports.{body_boot}
-use Rattle.update_machine.specs.Exports.{Advert, Advertise, Body, CacheRule, Collect, Hello, Install, Installed, Message, OpenAt, Place, MachineMessageReplaces, Stamp, Stamped, are_old_tables, is_advert, is_machine_later_body, is_old_ack_in_journal, machine_speaking_in_body}
+use Rattle.update_machine.specs.Exports.{Advert, Advertise, Body, CacheRule, Collect, Hello, Install, Installed, Message, OpenAt, Place, MachineMessageReplaces, Stamp, Stamped, are_machine_tables_old, is_advert, is_machine_later_body, is_machine_ack_below_version, machine_speaking_in_body}
 use Rattle.ctrl_msg.specs.declared.message.Place.TheVariants as receiver
 use Rattle.failover.specs.Exports.{is_newer}
 use Rattle.failover.proofs.FailoverNewestAdvert.{newer_through}
 use Rattle.journal_reports.specs.declared.status.SwitchStatus.{SwitchStatus}
-use Rattle.journal_reports.specs.Exports.{HaveSameListsInReport, ReportedMessageSaysAsMuch, report_is_same_advert, is_same_report_receiver, matters_in_report_status, report_replaces_body, subject}
+use Rattle.journal_reports.specs.Exports.{HaveSameListsInReport, ReportedMessageSaysAsMuch, report_is_same_advert, is_same_report_receiver, matters_in_report_status, journal_report_replaces_body, subject}
 
 -- ---- what replaces a body is the same, or is later
 
@@ -36,7 +36,7 @@ advert_means one other false e says = inr says
 abbrev pub IsSameOrLater : Body → Body → Type 0
 IsSameOrLater later earlier = (later ≡ earlier) ⊎ IsTrue (is_machine_later_body later earlier)
 
-body_means : (later earlier : Body) → report_replaces_body later earlier ≡ true
+body_means : (later earlier : Body) → journal_report_replaces_body later earlier ≡ true
     → HaveSameListsInReport later earlier → IsSameOrLater later earlier
 body_means (Install boot tables) (Install of other) says same =
     let own : boot ≡ of = eqb-true boot of (and_parts _ _ says).0 in
@@ -82,7 +82,7 @@ is_cache_rule (CacheRule version word rule action) = true
 is_cache_rule _ = false
 
 pub record Covers (later earlier : Body) : Type 0 where
-  replaces : report_replaces_body later earlier ≡ true
+  replaces : journal_report_replaces_body later earlier ≡ true
   lists : HaveSameListsInReport later earlier
 
 body_itself : (body : Body) → IsFalse (is_cache_rule body) → Covers body body
@@ -110,8 +110,8 @@ pub record AreAlike (current : ℕ) (later earlier : Body) : Type 0 where
   advert : is_advert later ≡ is_advert earlier
   boot : body_boot later ≡ body_boot earlier
   speaks : machine_speaking_in_body later ≡ machine_speaking_in_body earlier
-  tables : are_old_tables current later ≡ are_old_tables current earlier
-  answer : is_old_ack_in_journal current later ≡ is_old_ack_in_journal current earlier
+  tables : are_machine_tables_old current later ≡ are_machine_tables_old current earlier
+  answer : is_machine_ack_below_version current later ≡ is_machine_ack_below_version current earlier
 
 -- what a later body has of the earlier one
 pub record IsMore (later earlier : Body) : Type 0 where

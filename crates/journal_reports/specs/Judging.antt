@@ -3,7 +3,7 @@
 use Rattle.std.specs.Prelude.{[], ◌&&◌, ◌==◌, ◌||◌, ◌∷◌, ◌≡◌, ◌⊎◌, Bool, IsTrue, List, None, Option, Some, false, nat_eq, nat_lt, not, option_map, slice_index_or, true, unwrap_or, ℕ, ⊤}
 use Rattle.std.specs.Option.{option_eq, option_map_or}
 use Rattle.ctrl_msg.specs.Exports.{body_boot, body_version}
-use Rattle.update_machine.specs.Exports.{Advert, Advertise, Body, Collect, Hello, Install, Installed, Item, Message, OpenAt, Place, Stamp, Stamped, are_old_tables, journal_boot_of, journal_body_carries_boot, journal_current_mark, item_gives_boot, gives_current, item_gives_switch_up, gives_waited_for, is_advert, is_of_boot, is_old_ack_in_journal, is_up, is_waited_for, machine_speaking_in_body}
+use Rattle.update_machine.specs.Exports.{Advert, Advertise, Body, Collect, Hello, Install, Installed, Item, Message, OpenAt, Place, Stamp, Stamped, are_machine_tables_old, journal_boot_of, machine_body_carries_boot, journal_current_mark, machine_item_gives_boot, gives_current, machine_item_gives_switch_up, gives_journal_waited_for, is_advert, is_of_machine_boot, is_machine_ack_below_version, is_up, is_waited_for, machine_speaking_in_body}
 use Rattle.ctrl_msg.specs.declared.message.Place.TheVariants as receiver
 use Rattle.failover.specs.Exports.{is_newer}
 use Rattle.journal.specs.declared.item.Item.TheVariants as item
@@ -21,9 +21,9 @@ ReportMarksOneMore number before after = (n : ℕ)
 abbrev pub report_switch_status_with : Item → SwitchStatus → SwitchStatus
 report_switch_status_with item status = record {
   switch = status.switch;
-  is_up = unwrap_or (item_gives_switch_up status.switch item) status.is_up;
-  boot = unwrap_or (item_gives_boot status.switch item) status.boot;
-  is_waited_for = unwrap_or (gives_waited_for status.switch item) status.is_waited_for;
+  is_up = unwrap_or (machine_item_gives_switch_up status.switch item) status.is_up;
+  boot = unwrap_or (machine_item_gives_boot status.switch item) status.boot;
+  is_waited_for = unwrap_or (gives_journal_waited_for status.switch item) status.is_waited_for;
   current = unwrap_or (gives_current item) status.current;
 }
 
@@ -53,12 +53,12 @@ abbrev pub matters_in_report_status : SwitchStatus → Bool → Message → Bool
 matters_in_report_status status in_boot message = elim message.to [
   | receiver.Controller ↦
       status.is_up
-      && option_map_or (is_of_boot status.switch status.boot) (machine_speaking_in_body message.body) false
-      && not (is_old_ack_in_journal status.current message.body)
+      && option_map_or (is_of_machine_boot status.switch status.boot) (machine_speaking_in_body message.body) false
+      && not (is_machine_ack_below_version status.current message.body)
   | receiver.Switch to ↦
       status.is_up && to == status.switch && in_boot
-      && (is_advert message.body || journal_body_carries_boot status.boot message.body)
-      && not (are_old_tables status.current message.body)
+      && (is_advert message.body || machine_body_carries_boot status.boot message.body)
+      && not (are_machine_tables_old status.current message.body)
 ]
 
 -- ---- which messages replace others
@@ -72,15 +72,15 @@ report_is_same_advert one other = one.origin == other.origin && one.boot == othe
     && one.up == other.up
 
 -- both bodies are of the same kind, which is neither cache rule nor advert
-abbrev pub is_same_report_kind : Body → Body → Bool
-is_same_report_kind (Install boot tables) (Install of earlier) = true
-is_same_report_kind (OpenAt boot version) (OpenAt of earlier) = true
-is_same_report_kind (Stamp boot version touched) (Stamp of earlier others) = true
-is_same_report_kind (Collect boot version) (Collect of earlier) = true
-is_same_report_kind (Hello s boot) (Hello t of) = true
-is_same_report_kind (Installed s boot version) (Installed t of earlier) = true
-is_same_report_kind (Stamped s boot version) (Stamped t of earlier) = true
-is_same_report_kind _ _ = false
+abbrev pub report_is_same_kind : Body → Body → Bool
+report_is_same_kind (Install boot tables) (Install of earlier) = true
+report_is_same_kind (OpenAt boot version) (OpenAt of earlier) = true
+report_is_same_kind (Stamp boot version touched) (Stamp of earlier others) = true
+report_is_same_kind (Collect boot version) (Collect of earlier) = true
+report_is_same_kind (Hello s boot) (Hello t of) = true
+report_is_same_kind (Installed s boot version) (Installed t of earlier) = true
+report_is_same_kind (Stamped s boot version) (Stamped t of earlier) = true
+report_is_same_kind _ _ = false
 
 -- what the body says of a version is true of those before it too
 abbrev pub report_holds_for_earlier : Body → Bool
@@ -94,27 +94,27 @@ abbrev pub is_reported_version_at_least : Bool → Option ℕ → Option ℕ →
 is_reported_version_at_least rises (Some version) (Some old) = version == old || (rises && nat_lt old version)
 is_reported_version_at_least rises _ _ = true
 
-abbrev pub is_report_version_enough : Body → Body → Bool
-is_report_version_enough later earlier =
+abbrev pub is_version_enough_in_report : Body → Body → Bool
+is_version_enough_in_report later earlier =
     is_reported_version_at_least (report_holds_for_earlier later) (body_version later) (body_version earlier)
 
 -- the later body says what the earlier one does, of the same or a greater version, or of the same
 -- or a newer advert; of tables it compares only the version, and of touched words nothing
-abbrev pub report_replaces_body : Body → Body → Bool
-report_replaces_body (Advertise advert) (Advertise earlier) =
+abbrev pub journal_report_replaces_body : Body → Body → Bool
+journal_report_replaces_body (Advertise advert) (Advertise earlier) =
     report_is_same_advert advert earlier || (advert.origin == earlier.origin && is_newer advert earlier)
-report_replaces_body later earlier = is_same_report_kind later earlier
+journal_report_replaces_body later earlier = report_is_same_kind later earlier
     && option_eq nat_eq (report_speaking_switch later) (report_speaking_switch earlier)
-    && option_eq nat_eq (body_boot later) (body_boot earlier) && is_report_version_enough later earlier
+    && option_eq nat_eq (body_boot later) (body_boot earlier) && is_version_enough_in_report later earlier
 
 abbrev pub is_same_report_receiver : Place → Place → Bool
 is_same_report_receiver (receiver.Switch s) (receiver.Switch t) = s == t
 is_same_report_receiver receiver.Controller receiver.Controller = true
 is_same_report_receiver _ _ = false
 
-abbrev pub report_replaces_message : Message → Message → Bool
-report_replaces_message later earlier =
-    is_same_report_receiver later.to earlier.to && report_replaces_body later.body earlier.body
+abbrev pub journal_report_replaces_message : Message → Message → Bool
+journal_report_replaces_message later earlier =
+    is_same_report_receiver later.to earlier.to && journal_report_replaces_body later.body earlier.body
 
 -- two installs have the same tables; of two stamps the later one is of a greater version, or both
 -- have the same touched words
@@ -126,7 +126,7 @@ HaveSameListsInReport _ _ = ⊤
 
 -- the later message says as much: it replaces the earlier one, if that is no cache rule
 pub record ReportedMessageSaysAsMuch (later earlier : Message) : Type 0 where
-  pub message : IsTrue (report_replaces_message later earlier)
+  pub message : IsTrue (journal_report_replaces_message later earlier)
   pub lists : HaveSameListsInReport later.body earlier.body
 
 abbrev pub report_has_mark : List Bool → ℕ → Bool

@@ -1,6 +1,6 @@
 -- What became of the packets of a play, what was sent in it, and which versions it ended with.
 use Rattle.std.specs.Prelude.{[], if◌then◌else◌, ◌++◌, ◌+◌, ◌-◌, ◌<◌, ◌^◌, ◌∷◌, Bool, List, None, Option, Some, codes, decimal, false, true, unwrap_or, ℕ}
-use Rattle.update_machine.specs.Exports.{How, Item, count_of, journal_current_mark, gives_current, item_gives_retired, is_packet, journal_retired_mark}
+use Rattle.update_machine.specs.Exports.{How, Item, count_of, journal_current_mark, gives_current, machine_item_gives_retired, is_packet, journal_retired_mark}
 use Rattle.journal.specs.declared.item.Item.TheVariants as item
 use Rattle.policy_rules.specs.declared.packet.How.TheVariants as how
 use Rattle.journal_reports.specs.declared.summary.Summary.{Summary}
@@ -19,26 +19,26 @@ abbrev pub summary_counts_left : Item → Bool
 summary_counts_left (item.Left packet port leaving) = true
 summary_counts_left _ = false
 
-abbrev pub counts_dropped : Item → Bool
-counts_dropped (item.Dropped packet) = true
-counts_dropped _ = false
+abbrev pub summary_counts_dropped : Item → Bool
+summary_counts_dropped (item.Dropped packet) = true
+summary_counts_dropped _ = false
 
 abbrev pub summary_counts_lost : Item → Bool
 summary_counts_lost (item.Lost packet) = true
 summary_counts_lost _ = false
 
-abbrev pub is_stuck : Item → Bool
-is_stuck (item.Stuck packet switch cause leg down) = true
-is_stuck _ = false
+abbrev pub summary_counts_stuck : Item → Bool
+summary_counts_stuck (item.Stuck packet switch cause leg down) = true
+summary_counts_stuck _ = false
 
-abbrev pub is_cached_in_summary : How → Bool
-is_cached_in_summary (how.Cached message) = true
-is_cached_in_summary _ = false
+abbrev pub is_summary_by_cached_rule : How → Bool
+is_summary_by_cached_rule (how.Cached message) = true
+is_summary_by_cached_rule _ = false
 
 -- a decision by a cached rule
-abbrev pub counts_cached : Item → Bool
-counts_cached (item.Decided packet version rule action how) = is_cached_in_summary how
-counts_cached _ = false
+abbrev pub summary_counts_cached : Item → Bool
+summary_counts_cached (item.Decided packet version rule action how) = is_summary_by_cached_rule how
+summary_counts_cached _ = false
 
 abbrev pub summary_counts_sent : Item → Bool
 summary_counts_sent (item.Sent number message) = true
@@ -52,11 +52,11 @@ item_counts journal = record {
   packets = count_of is_packet journal;
   closed = count_of summary_counts_closed journal;
   delivered = count_of summary_counts_left journal;
-  dropped = count_of counts_dropped journal;
+  dropped = count_of summary_counts_dropped journal;
   lost = count_of summary_counts_lost journal;
-  stuck = count_of is_stuck journal;
+  stuck = count_of summary_counts_stuck journal;
   travelling = count_of summary_counts_entered journal;
-  cached = count_of counts_cached journal;
+  cached = count_of summary_counts_cached journal;
   messages = count_of summary_counts_sent journal;
   current = journal_current_mark journal;
   retired = journal_retired_mark journal;
@@ -79,14 +79,14 @@ counts_after_item s item = record {
   packets = summary_one_more (is_packet item) s.packets;
   closed = summary_one_more (summary_counts_closed item) s.closed;
   delivered = summary_one_more (summary_counts_left item) s.delivered;
-  dropped = summary_one_more (counts_dropped item) s.dropped;
+  dropped = summary_one_more (summary_counts_dropped item) s.dropped;
   lost = summary_one_more (summary_counts_lost item) s.lost;
-  stuck = summary_one_more (is_stuck item) s.stuck;
+  stuck = summary_one_more (summary_counts_stuck item) s.stuck;
   travelling = summary_one_more (summary_counts_entered item) s.travelling;
-  cached = summary_one_more (counts_cached item) s.cached;
+  cached = summary_one_more (summary_counts_cached item) s.cached;
   messages = summary_one_more (summary_counts_sent item) s.messages;
   current = unwrap_or (gives_current item) s.current;
-  retired = unwrap_or (item_gives_retired item) s.retired;
+  retired = unwrap_or (machine_item_gives_retired item) s.retired;
 }
 
 -- each count may still rise by one

@@ -5,7 +5,7 @@ ghost use Rattle.ctrl_msg.specs.declared.message.Message.{Message};
 ghost use Rattle.journal_reports.specs.Buckets.{AreEmptyReportBuckets, ReportBucketHasSaying, IsKeptInReportBucket, report_bucket_of, subject};
 ghost use Rattle.journal_reports.specs.Judging.{ReportedMessageSaysAsMuch};
 
-use crate::replacing::says_as_much;
+use crate::replacing::says_as_much_in_report;
 use journal::{Body, Message, SharedMessage};
 use std::alloc::{AllocError, Global};
 
@@ -15,12 +15,12 @@ pub struct Bucket {
     pub messages: Vec<SharedMessage>,
 }
 
-/// 64 empty buckets: what is about switch or version n is in bucket n modulo 64, so version 64 is in
-/// the first.
+/// 64 empty buckets: what is about switch or version n is in bucket n, or in the first one if n is
+/// 64 or more.
 ///
 /// # Errors
 /// Only out of memory.
-pub fn empty_buckets(alloc: Global) -> Result<Vec<Bucket>, AllocError>
+pub fn empty_report_buckets(alloc: Global) -> Result<Vec<Bucket>, AllocError>
     ensures { IfOk result (λ buckets. AreEmptyReportBuckets buckets.items) }
 {
     let mut buckets = Vec::new(alloc);
@@ -33,7 +33,7 @@ pub fn empty_buckets(alloc: Global) -> Result<Vec<Bucket>, AllocError>
 }
 
 /// Whether one of the messages in the buckets says as much as this one.
-pub fn is_kept_in_buckets(buckets: &[Bucket], message: &Message) -> bool
+pub fn report_buckets_keep(buckets: &[Bucket], message: &Message) -> bool
     ensures { IsTrue result ↔ IsKeptInReportBucket buckets.now message.now }
 {
     let bucket = report_bucket_of(&message.body) as usize;
@@ -45,7 +45,7 @@ fn is_said_in_bucket(messages: &[SharedMessage], message: &Message) -> bool
     ensures { IsTrue result ↔ ReportBucketHasSaying messages.now message.now }
 {
     for kept in messages {
-        if says_as_much(kept.get(), message) {
+        if says_as_much_in_report(kept.get(), message) {
             return true;
         }
     }
@@ -75,12 +75,12 @@ pub fn keep(buckets: &mut Vec<Bucket>, message: &SharedMessage) -> Result<(), Al
 pub fn report_bucket_of(body: &Body) -> u32
     ensures { result ≡ report_bucket_of body.now }
 {
-    let subject = subject(body);
+    let subject = report_bucket_subject(body);
     if subject < 64 { subject } else { 0 }
 }
 
 // An advert's origin, or the version of an install, its acknowledgement or an open; otherwise 0.
-fn subject(body: &Body) -> u32
+fn report_bucket_subject(body: &Body) -> u32
     ensures { result ≡ subject body.now }
 {
     match body {

@@ -10,7 +10,7 @@ use std::alloc::AllocError;
 ///
 /// # Errors
 /// Only out of memory.
-pub fn mark_delivered_item(marks: &mut Vec<bool>, item: &Item) -> Result<(), AllocError>
+pub fn mark_delivery_for_report(marks: &mut Vec<bool>, item: &Item) -> Result<(), AllocError>
     ensures { OnOk result ((n : ℕ) → slice_index_or marks.new.items n false
         ≡ (is_delivery_item n item.now || slice_index_or marks.old.items n false)) }
 {
@@ -32,7 +32,7 @@ fn mark(marks: &mut Vec<bool>, number: usize) -> Result<(), AllocError>
 }
 
 /// Whether the message of this number has the mark.
-pub fn is_marked(marks: &[bool], number: u32) -> bool
+pub fn is_report_delivery_marked(marks: &[bool], number: u32) -> bool
     ensures { result ≡ slice_index_or marks.now number false }
 {
     match marks.get(number as usize) {

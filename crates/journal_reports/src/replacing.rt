@@ -1,11 +1,11 @@
 //! Which messages replace others, and which matter.
 ghost use Rattle.std.specs.Prelude.{◌≡◌, ◌↔◌, ◌||◌, false, IsTrue};
 ghost use Rattle.std.specs.Option.{option_map_or};
-ghost use Rattle.update_machine.specs.Quiet.{are_old_tables, journal_body_carries_boot, is_advert, is_of_boot, is_old_ack_in_journal, machine_speaking_in_body};
-ghost use Rattle.journal_reports.specs.Judging.{HaveSameListsInReport, ReportedMessageSaysAsMuch, report_holds_for_earlier, is_same_report_kind, is_report_version_enough, matters_in_report_status, report_replaces_body, report_replaces_message, report_speaking_switch};
+ghost use Rattle.update_machine.specs.Quiet.{are_machine_tables_old, machine_body_carries_boot, is_advert, is_of_machine_boot, is_machine_ack_below_version, machine_speaking_in_body};
+ghost use Rattle.journal_reports.specs.Judging.{HaveSameListsInReport, ReportedMessageSaysAsMuch, report_holds_for_earlier, report_is_same_kind, is_version_enough_in_report, matters_in_report_status, journal_report_replaces_body, journal_report_replaces_message, report_speaking_switch};
 
 use crate::status::SwitchStatus;
-use ctrl_msg::{are_same_tables, are_same_words};
+use ctrl_msg::{are_same_control_message_tables, are_same_control_message_words};
 use journal::{Body, Message, Place};
 
 /// Whether the message, to the switch or from it, matters; one to it matters only if the switch's
@@ -20,19 +20,19 @@ pub fn matters(message: &Message, status: &SwitchStatus, is_in_boot: bool) -> bo
         Place::Switch(to) => {
             to == status.switch
                 && is_in_boot
-                && is_for_boot_of(&message.body, status.boot)
-                && !are_old_tables(&message.body, status.current)
+                && is_for_boot_in_report(&message.body, status.boot)
+                && !are_old_tables_in_report(&message.body, status.current)
         }
         Place::Controller => {
-            is_of_boot(&message.body, status)
-                && !is_old_ack_in_journal(&message.body, status.current)
+            is_of_boot_in_report(&message.body, status)
+                && !is_old_ack_in_report(&message.body, status.current)
         }
     }
 }
 
 // Whether the body is an advert, or carries this boot.
-fn is_for_boot_of(body: &Body, boot: u32) -> bool
-    ensures { result ≡ (is_advert body.now || journal_body_carries_boot boot body.now) }
+fn is_for_boot_in_report(body: &Body, boot: u32) -> bool
+    ensures { result ≡ (is_advert body.now || machine_body_carries_boot boot body.now) }
 {
     match body {
         Body::Advertise { .. } => true,
@@ -41,9 +41,9 @@ fn is_for_boot_of(body: &Body, boot: u32) -> bool
 }
 
 // Whether the switch says this, in its boot.
-fn is_of_boot(body: &Body, status: &SwitchStatus) -> bool
+fn is_of_boot_in_report(body: &Body, status: &SwitchStatus) -> bool
     ensures { result
-        ≡ option_map_or (is_of_boot status.now.switch status.now.boot) (machine_speaking_in_body body.now) false }
+        ≡ option_map_or (is_of_machine_boot status.now.switch status.now.boot) (machine_speaking_in_body body.now) false }
 {
     match body {
         Body::Hello { switch, boot }
@@ -54,8 +54,8 @@ fn is_of_boot(body: &Body, status: &SwitchStatus) -> bool
 }
 
 // Whether the body has tables of a version below the current one.
-fn are_old_tables(body: &Body, current: u32) -> bool
-    ensures { result ≡ are_old_tables current body.now }
+fn are_old_tables_in_report(body: &Body, current: u32) -> bool
+    ensures { result ≡ are_machine_tables_old current body.now }
 {
     match body {
         Body::Install { tables, .. } => tables.tables().version < current,
@@ -64,8 +64,8 @@ fn are_old_tables(body: &Body, current: u32) -> bool
 }
 
 // Whether the body acknowledges tables of a version below the current one.
-fn is_old_ack_in_journal(body: &Body, current: u32) -> bool
-    ensures { result ≡ is_old_ack_in_journal current body.now }
+fn is_old_ack_in_report(body: &Body, current: u32) -> bool
+    ensures { result ≡ is_machine_ack_below_version current body.now }
 {
     match body {
         Body::Installed { version, .. } => *version < current,
@@ -74,20 +74,21 @@ fn is_old_ack_in_journal(body: &Body, current: u32) -> bool
 }
 
 /// Whether the later message says as much as the earlier one, and so replaces it if that matters.
-pub fn says_as_much(later: &Message, earlier: &Message) -> bool
+pub fn says_as_much_in_report(later: &Message, earlier: &Message) -> bool
     ensures { IsTrue result ↔ ReportedMessageSaysAsMuch later.now earlier.now }
 {
-    report_replaces_message(later, earlier) && have_same_message_lists(&later.body, &earlier.body)
+    journal_report_replaces_message(later, earlier)
+        && have_same_lists_in_report(&later.body, &earlier.body)
 }
 
 // Whether two installs have the same tables; and of two stamps, whether the later one is of a
 // greater version, or both have the same touched words.
-fn have_same_message_lists(later: &Body, earlier: &Body) -> bool
+fn have_same_lists_in_report(later: &Body, earlier: &Body) -> bool
     ensures { IsTrue result ↔ HaveSameListsInReport later.now earlier.now }
 {
     match (later, earlier) {
         (Body::Install { tables, .. }, Body::Install { tables: old, .. }) => {
-            are_same_tables(tables.tables(), old.tables())
+            are_same_control_message_tables(tables.tables(), old.tables())
         }
         (
             Body::Stamp {
@@ -100,40 +101,40 @@ fn have_same_message_lists(later: &Body, earlier: &Body) -> bool
                 touched: others,
                 ..
             },
-        ) => old < version || are_same_words(touched.get(), others.get()),
+        ) => old < version || are_same_control_message_words(touched.get(), others.get()),
         _ => true,
     }
 }
 
 // Whether the later message has the same receiver and says the same or more, apart from the rows
 // and partitions of tables and from touched words.
-fn report_replaces_message(later: &Message, earlier: &Message) -> bool
-    ensures { result ≡ report_replaces_message later.now earlier.now }
+fn journal_report_replaces_message(later: &Message, earlier: &Message) -> bool
+    ensures { result ≡ journal_report_replaces_message later.now earlier.now }
 {
-    later.to == earlier.to && report_replaces_body(&later.body, &earlier.body)
+    later.to == earlier.to && journal_report_replaces_body(&later.body, &earlier.body)
 }
 
 // Whether the later body says what the earlier one does, of the same or a greater version, or of
 // the same or a newer advert, apart from the rows and partitions of tables and from touched words.
-fn report_replaces_body(later: &Body, earlier: &Body) -> bool
-    ensures { result ≡ report_replaces_body later.now earlier.now }
+fn journal_report_replaces_body(later: &Body, earlier: &Body) -> bool
+    ensures { result ≡ journal_report_replaces_body later.now earlier.now }
 {
     match (later, earlier) {
         (Body::Advertise { advert }, Body::Advertise { advert: old }) => {
             advert == old || (advert.origin == old.origin && advert.is_newer(old))
         }
         _ => {
-            is_same_report_kind(later, earlier)
+            report_is_same_kind(later, earlier)
                 && speaks(later) == speaks(earlier)
                 && later.boot() == earlier.boot()
-                && is_report_version_enough(later, earlier)
+                && is_version_enough_in_report(later, earlier)
         }
     }
 }
 
 // Whether both are of the same kind, which is neither cache rule nor advert.
-fn is_same_report_kind(later: &Body, earlier: &Body) -> bool
-    ensures { result ≡ is_same_report_kind later.now earlier.now }
+fn report_is_same_kind(later: &Body, earlier: &Body) -> bool
+    ensures { result ≡ report_is_same_kind later.now earlier.now }
 {
     match (later, earlier) {
         (Body::Install { .. }, Body::Install { .. })
@@ -161,8 +162,8 @@ pub fn speaks(body: &Body) -> Option<u32>
 
 // Whether, if both messages name a version, the later one names the same, or a greater one if what
 // it says is true for earlier versions too.
-fn is_report_version_enough(later: &Body, earlier: &Body) -> bool
-    ensures { result ≡ is_report_version_enough later.now earlier.now }
+fn is_version_enough_in_report(later: &Body, earlier: &Body) -> bool
+    ensures { result ≡ is_version_enough_in_report later.now earlier.now }
 {
     match (later.version(), earlier.version()) {
         (Some(version), Some(old)) => {

@@ -79,13 +79,13 @@ pub fn status_items(alloc: Global, items: &[Item]) -> Result<Vec<Item>, AllocErr
 {
     let mut told = Vec::new(alloc);
     for item in items {
-        push_status_item(&mut told, item)?;
+        push_report_status_item(&mut told, item)?;
     }
     Ok(told)
 }
 
 // Adds the item, if it concerns statuses.
-fn push_status_item(told: &mut Vec<Item>, item: &Item) -> Result<(), AllocError>
+fn push_report_status_item(told: &mut Vec<Item>, item: &Item) -> Result<(), AllocError>
     ensures { OnOk result (told.new.items ≡ told.old.items ++ report_status_item item.now) }
 {
     match item {

@@ -14,22 +14,22 @@ pub fn summary_text(alloc: Global, summary: &Summary) -> Result<Vec<u8>, AllocEr
     ensures { IfOk result (λ bytes. bytes.items ≡ summary_text summary.now) }
 {
     let mut text = String::new(alloc);
-    push_line(&mut text, "packets", summary.packets)?;
-    push_line(&mut text, "closed", summary.closed)?;
-    push_line(&mut text, "delivered", summary.delivered)?;
-    push_line(&mut text, "dropped", summary.dropped)?;
-    push_line(&mut text, "lost", summary.lost)?;
-    push_line(&mut text, "stuck", summary.stuck)?;
-    push_line(&mut text, "travelling", summary.travelling)?;
-    push_line(&mut text, "cached", summary.cached)?;
-    push_line(&mut text, "messages", summary.messages)?;
-    push_line(&mut text, "current", summary.current as usize)?;
-    push_line(&mut text, "retired", summary.retired as usize)?;
+    push_summary_line(&mut text, "packets", summary.packets)?;
+    push_summary_line(&mut text, "closed", summary.closed)?;
+    push_summary_line(&mut text, "delivered", summary.delivered)?;
+    push_summary_line(&mut text, "dropped", summary.dropped)?;
+    push_summary_line(&mut text, "lost", summary.lost)?;
+    push_summary_line(&mut text, "stuck", summary.stuck)?;
+    push_summary_line(&mut text, "travelling", summary.travelling)?;
+    push_summary_line(&mut text, "cached", summary.cached)?;
+    push_summary_line(&mut text, "messages", summary.messages)?;
+    push_summary_line(&mut text, "current", summary.current as usize)?;
+    push_summary_line(&mut text, "retired", summary.retired as usize)?;
     Ok(text.into_bytes())
 }
 
 // Appends a line with a title and a count.
-fn push_line(text: &mut String, title: &str, count: usize) -> Result<(), AllocError>
+fn push_summary_line(text: &mut String, title: &str, count: usize) -> Result<(), AllocError>
     ensures { OnOk result (string_bytes text.new
         ≡ string_bytes text.old ++ summary_count_line title.now count) }
 {

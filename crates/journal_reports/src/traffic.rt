@@ -7,8 +7,8 @@ ghost use Rattle.journal_reports.specs.Buckets.{IsKeptInReportBucket};
 ghost use Rattle.journal_reports.specs.Judging.{report_concerned_switch, is_missed, is_named_in_report, matters_in_report_status, report_switch_of_message};
 ghost use Rattle.journal_reports.specs.Traffic.{AreReportTrafficRows, ReportTrafficConcernsOne, IsReportTrafficAdded, IsReportTrafficAfter};
 
-use crate::bucket::{Bucket, empty_buckets, is_kept_in_buckets, keep};
-use crate::deliveries::is_marked;
+use crate::bucket::{Bucket, empty_report_buckets, keep, report_buckets_keep};
+use crate::deliveries::is_report_delivery_marked;
 use crate::replacing::{matters, speaks};
 use crate::status::{SwitchStatus, status_items};
 use journal::{Body, Item, Message, Place, SharedMessage};
@@ -27,7 +27,7 @@ pub struct Traffic {
 impl Traffic {
     // Takes the item before those that were read, which concerns the switch. Returns false if the
     // item sends a message that matters, which wasn't delivered and which none replaces.
-    fn take_item(&mut self, item: &Item, delivered: &[bool]) -> Result<bool, AllocError>
+    fn take_report_item(&mut self, item: &Item, delivered: &[bool]) -> Result<bool, AllocError>
         ensures { IfOk result (λ answer. IsReportTrafficAfter delivered.now item.now self.old self.new answer) }
     {
         match item {
@@ -38,14 +38,14 @@ impl Traffic {
                 Ok(true)
             }
             Item::Sent { number, message } => {
-                let is_delivered = is_marked(delivered, *number);
+                let is_delivered = is_report_delivery_marked(delivered, *number);
                 self.take_message(message, is_delivered)
             }
             _ => Ok(true),
         }
     }
 
-    // Takes the message of an item, with the result of `take_item` for it.
+    // Takes the message of an item, with the result of `take_report_item` for it.
     fn take_message(
         &mut self,
         message: &SharedMessage,
@@ -66,7 +66,7 @@ impl Traffic {
         if !matters(message.get(), &self.status, self.is_in_boot) {
             return Ok(true);
         }
-        if is_kept_in_buckets(&self.buckets, message.get()) {
+        if report_buckets_keep(&self.buckets, message.get()) {
             return Ok(true);
         }
         if is_delivered {
@@ -77,7 +77,7 @@ impl Traffic {
 }
 
 /// Whether no switch is down while the controller waits for it.
-pub fn no_switch_missed(rows: &[Traffic]) -> bool
+pub fn report_misses_no_switch(rows: &[Traffic]) -> bool
     ensures { result ≡ list_all (λ row. not (is_missed row.status)) rows.now }
 {
     rows.iter().all(|row| !row.status.is_missed())
@@ -87,14 +87,18 @@ pub fn no_switch_missed(rows: &[Traffic]) -> bool
 ///
 /// # Errors
 /// Only out of memory.
-pub fn at_end(alloc: Global, items: &[Item], count: u32) -> Result<Vec<Traffic>, AllocError>
+pub fn report_traffic_at_end(
+    alloc: Global,
+    items: &[Item],
+    count: u32,
+) -> Result<Vec<Traffic>, AllocError>
     ensures count { IfOk result (λ rows. length rows.items ≡ count) }
     ensures each { IfOk result (λ rows. AreReportTrafficRows items.now [] rows.items) }
 {
     let told = status_items(alloc, items)?;
     let mut rows = Vec::new(alloc);
     for switch in 0..count {
-        let buckets = empty_buckets(alloc)?;
+        let buckets = empty_report_buckets(alloc)?;
         rows.push(Traffic {
             status: SwitchStatus::of(&told, switch),
             is_in_boot: true,
@@ -109,7 +113,7 @@ pub fn at_end(alloc: Global, items: &[Item], count: u32) -> Result<Vec<Traffic>,
 ///
 /// # Errors
 /// Only out of memory.
-pub fn take_item(
+pub fn take_report_item(
     rows: &mut Vec<Traffic>,
     item: &Item,
     delivered: &[bool],
@@ -124,25 +128,25 @@ pub fn take_item(
         → get_or rows.new.items s d ≡ get_or rows.old.items s d) }
     ensures some { IfOk result (λ answer. IsFalse answer → ReportTrafficConcernsOne rows.old.items item.now) }
 {
-    match concerned(item) {
-        Some(s) if (s as usize) < rows.len() => rows[s as usize].take_item(item, delivered),
+    match journal_report_switch_concerned(item) {
+        Some(s) if (s as usize) < rows.len() => rows[s as usize].take_report_item(item, delivered),
         _ => Ok(true),
     }
 }
 
 // The switch that the item concerns, if any: it begins its boot, or sends it or from it a message.
-fn concerned(item: &Item) -> Option<u32>
+fn journal_report_switch_concerned(item: &Item) -> Option<u32>
     ensures { result ≡ report_concerned_switch item.now }
 {
     match item {
         Item::Booted { switch, .. } => Some(*switch),
-        Item::Sent { message, .. } => message_party(message.get()),
+        Item::Sent { message, .. } => report_message_party(message.get()),
         _ => None,
     }
 }
 
 // The switch that a message is to, or from.
-fn message_party(message: &Message) -> Option<u32>
+fn report_message_party(message: &Message) -> Option<u32>
     ensures { result ≡ report_switch_of_message message.now }
 {
     match message.to {

@@ -7,7 +7,7 @@ use Rattle.ctrl_msg.specs.declared.message.Place.{Place}
 use Rattle.ctrl_msg.specs.declared.message.Place.TheVariants as receiver
 use Rattle.base.specs.Exports.{has, switches}
 use Rattle.failover.specs.declared.advert.Advert.{Advert}
-use Rattle.net_file.specs.Exports.{IsNet, NameLaws, names_text}
+use Rattle.net_file.specs.Exports.{IsNet, NameLaws, net_switch_names_text}
 use Rattle.net_file.specs.declared.net.Net.{Net}
 use Rattle.policy_rules.specs.declared.packet.Cause.{Cause}
 use Rattle.policy_rules.specs.declared.packet.Cause.TheVariants.{NoAuthority, NoRoute}
@@ -16,7 +16,7 @@ use Rattle.policy_rules.specs.declared.packet.How.TheVariants.{Cached, Authority
 use Rattle.policy_rules.specs.declared.policy.Action.{Action}
 use Rattle.journal.specs.declared.item.Item.{Item}
 use Rattle.journal.specs.declared.item.Item.TheVariants as item
-use Rattle.journal_text.specs.Lines.{advert_text, body_text, boot_text, cause_text, how_text, item_line, journal_mask_text, text_with_name, journal_text_with_number, packet_at_text, journal_pair_text, journal_receiver_text, journal_cached_rule_text, state_text, journal_step_text, journal_two_numbers_text, version_text, via_text}
+use Rattle.journal_text.specs.Lines.{advert_text, journal_body_text, boot_text, journal_cause_text, how_text, item_line, journal_mask_text, journal_text_with_name, journal_text_with_number, packet_at_text, journal_pair_text, journal_receiver_text, journal_cached_rule_text, state_text, journal_step_text, journal_two_numbers_text, version_text, journal_text_via}
 use Rattle.journal_text.specs.Sizes.{IsJournalTextBody, IsJournalTextHow, IsJournalTextItem, IsJournalTextRoute, IsJournalTextStep, JournalLinesFit}
 use Rattle.lines.proofs.LinePrintedLengths.{IsWithin, all_of, joined_within, with_text, widened, number, rule_within, action_within, fields_within, word_within, name_within, names_within}
 use Rattle.lines.specs.Sizes.{IsPrintedLineAction, IsNumber, IsPrintedLineRule}
@@ -40,16 +40,16 @@ few_switches mask = omega (
 
 module _ (laws : NameLaws) (net : Net) (sound : IsNet net) where
   named_within : {m : ℕ} {text : List ℕ} → IsWithin m text → (s : ℕ)
-      → IsWithin (m + 1 + 16) (text_with_name net text s)
+      → IsWithin (m + 1 + 16) (journal_text_with_name net text s)
   named_within w s =
       joined_within (with_text w (codes " ")) (name_within laws net sound s)
 
-  route_within : (route : List ℕ) → IsJournalTextRoute route → IsWithin 1088 (names_text net route)
+  route_within : (route : List ℕ) → IsJournalTextRoute route → IsWithin 1088 (net_switch_names_text net route)
   route_within route is = widened (names_within laws net sound route) 1088 (omega (arith, is))
 
   mask_within : (mask : ℕ) → IsWithin 1088 (journal_mask_text net mask)
   mask_within mask = elim (mask == 0) as (λ b. IsWithin 1088
-      (if b then codes " -" else names_text net (filter (has mask) switches))) [
+      (if b then codes " -" else net_switch_names_text net (filter (has mask) switches))) [
         | true ↦ widened (all_of (codes " -")) 1088 (omega arith)
         | false ↦ route_within (filter (has mask) switches) (few_switches mask)
       ]
@@ -127,7 +127,7 @@ module _ (laws : NameLaws) (net : Net) (sound : IsNet net) where
       "advert")) advert.origin) advert.boot is.0) (codes " seq ")) (number advert.seq is.1)) (codes
       " up")) (mask_within advert.up)) 1200 (omega arith)
 
-  body_within : (body : Body) → IsJournalTextBody body → IsWithin 1200 (body_text net body)
+  body_within : (body : Body) → IsJournalTextBody body → IsWithin 1200 (journal_body_text net body)
   body_within (Install boot tables) is =
       widened (version_within (all_of (codes "install")) boot tables.version is) 1200 (omega arith)
   body_within (OpenAt boot version) is =
@@ -160,7 +160,7 @@ module _ (laws : NameLaws) (net : Net) (sound : IsNet net) where
       widened (joined_within (with_text (named_within (all_of (codes "authority")) switch) (codes
       " part ")) (number partition is)) 50 (omega arith)
 
-  cause_within : (cause : Cause) → IsWithin 12 (cause_text cause)
+  cause_within : (cause : Cause) → IsWithin 12 (journal_cause_text cause)
   cause_within NoAuthority = all_of (codes "no-authority")
   cause_within NoRoute = widened (all_of (codes "no-route")) 12 (omega arith)
 
@@ -175,8 +175,8 @@ module _ (laws : NameLaws) (net : Net) (sound : IsNet net) where
   two_within w v n p is also =
       joined_within (joined_within (numbered_within w n is) v) (number p also)
 
-  via_within : (route : List ℕ) → IsJournalTextRoute route → IsWithin 1092 (via_text net route)
-  unfolding via_text
+  via_within : (route : List ℕ) → IsJournalTextRoute route → IsWithin 1092 (journal_text_via net route)
+  unfolding journal_text_via
   via_within route is = joined_within (all_of (codes " via")) (route_within route is)
 
   item_within : (item : Item) → IsJournalTextItem item → IsWithin 1240 (item_line net item)

@@ -1,7 +1,7 @@
 -- The switches of a mask, the least one first.
 use Rattle.std.proofs.Common.{[], ◌+◌, ◌<◌, ◌^◌, ◌∷◌, ◌≡◌, ◌≢◌, ◌≤◌, Bool, arith, bit_xor, false, filter, inl, inr, refl, suc, sym, true, zero, ℕ}
 use Rattle.base.proofs.Exports.{cases_eq, has-xor_other, has-zero, least_below, least_lt, range_with_len}
-use Rattle.base.specs.Exports.{has, least_in, switches}
+use Rattle.base.specs.Exports.{has, least_in_number_set, switches}
 use Rattle.failover.proofs.RouteRowLoop.{first_left, has_less-same}
 
 -- tests that agree on a range pick the same of it
@@ -29,10 +29,10 @@ picks_first p q a (suc n) s from below is gone least others = elim (cases_eq a s
 
 -- the least switch of a mask, and then those of the rest
 pub least_first : (mask : ℕ) → mask < 2 ^ 64 → (mask ≡ 0 → ⊥) → filter (has mask) switches
-    ≡ least_in mask ∷ filter (has (bit_xor mask (2 ^ least_in mask))) switches
+    ≡ least_in_number_set mask ∷ filter (has (bit_xor mask (2 ^ least_in_number_set mask))) switches
 unfolding switches
 least_first mask fits some =
-    let least = least_in mask in
+    let least = least_in_number_set mask in
     let there = first_left mask fits some in
     picks_first (has mask) (has (bit_xor mask (2 ^ least))) 0 64 least (omega arith)
     (least_lt mask (omega arith) fits) there (has_less-same mask least there)

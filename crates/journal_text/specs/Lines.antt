@@ -7,7 +7,7 @@ use Rattle.ctrl_msg.specs.declared.message.Place.TheVariants as receiver
 use Rattle.base.specs.Exports.{has, switches}
 use Rattle.failover.specs.declared.advert.Advert.{Advert}
 use Rattle.five_tuple.specs.Exports.{fields_text}
-use Rattle.net_file.specs.Exports.{switch_name_of, names_text}
+use Rattle.net_file.specs.Exports.{switch_name_of, net_switch_names_text}
 use Rattle.net_file.specs.declared.net.Net.{Net}
 use Rattle.policy_rules.specs.Exports.{action_text, rule_text}
 use Rattle.policy_rules.specs.declared.packet.Cause.{Cause}
@@ -15,7 +15,7 @@ use Rattle.policy_rules.specs.declared.packet.Cause.TheVariants.{NoAuthority, No
 use Rattle.policy_rules.specs.declared.packet.How.{How}
 use Rattle.policy_rules.specs.declared.packet.How.TheVariants.{Cached, Authority}
 use Rattle.policy_rules.specs.declared.policy.Action.{Action}
-use Rattle.ternary.specs.Exports.{WordValue, word_text}
+use Rattle.ternary.specs.Exports.{WordValue, ternary_word_text}
 use Rattle.journal.specs.declared.item.Item.{Item}
 use Rattle.journal.specs.declared.item.Item.TheVariants as item
 use Rattle.steps.specs.declared.step.Step.{Step}
@@ -27,8 +27,8 @@ use Rattle.steps.specs.declared.step.Step.TheVariants.{Packet, Hop, Lose, Delive
 abbrev pub journal_text_with_number : List ℕ → ℕ → List ℕ
 journal_text_with_number text n = text ++ codes " " ++ decimal n
 
-abbrev pub text_with_name : Net → List ℕ → ℕ → List ℕ
-text_with_name net text s = text ++ codes " " ++ switch_name_of net s
+abbrev pub journal_text_with_name : Net → List ℕ → ℕ → List ℕ
+journal_text_with_name net text s = text ++ codes " " ++ switch_name_of net s
 
 -- two numbers, each after a text
 unfoldable pub journal_two_numbers_text : List ℕ → ℕ → List ℕ → ℕ → List ℕ
@@ -37,7 +37,7 @@ journal_two_numbers_text text n next m = journal_text_with_number text n ++ next
 -- the names of a mask's switches, ascending, or a dash for none
 abbrev pub journal_mask_text : Net → ℕ → List ℕ
 journal_mask_text net mask =
-    if mask == 0 then codes " -" else names_text net (filter (has mask) switches)
+    if mask == 0 then codes " -" else net_switch_names_text net (filter (has mask) switches)
 
 -- a packet and a switch, as in an entry
 abbrev pub packet_at_text : Net → List ℕ → ℕ → ℕ → List ℕ
@@ -45,27 +45,27 @@ packet_at_text net text packet s = journal_text_with_number text packet ++ codes
 
 -- two switches, as the ends of a link
 abbrev pub journal_pair_text : Net → List ℕ → ℕ → ℕ → List ℕ
-journal_pair_text net text one two = text_with_name net text one ++ codes " " ++ switch_name_of net two
+journal_pair_text net text one two = journal_text_with_name net text one ++ codes " " ++ switch_name_of net two
 
 -- ---- steps
 
 -- the fields of the step's row; a link's lower switch first
 abbrev pub journal_step_text : Net → Step → List ℕ
 journal_step_text net (Packet switch header) =
-    text_with_name net (codes "packet") switch ++ codes " " ++ fields_text header.fields
+    journal_text_with_name net (codes "packet") switch ++ codes " " ++ fields_text header.fields
 journal_step_text net (Hop packet) = journal_text_with_number (codes "hop") packet
 journal_step_text net (Lose packet) = journal_text_with_number (codes "lose") packet
 journal_step_text net (Deliver message) = journal_text_with_number (codes "deliver") message
 journal_step_text net (Forget message) = journal_text_with_number (codes "forget") message
 journal_step_text net (Expire switch place) =
-    text_with_name net (codes "expire") switch ++ codes " " ++ decimal place
+    journal_text_with_name net (codes "expire") switch ++ codes " " ++ decimal place
 journal_step_text net (Update file) = journal_text_with_number (codes "update") file
 journal_step_text net (LinkDown one two) = journal_pair_text net (codes "linkdown") (min one two) (max one two)
 journal_step_text net (LinkUp one two) = journal_pair_text net (codes "linkup") (min one two) (max one two)
-journal_step_text net (Crash switch) = text_with_name net (codes "crash") switch
-journal_step_text net (Restart switch) = text_with_name net (codes "restart") switch
-journal_step_text net (Confirm switch) = text_with_name net (codes "confirm") switch
-journal_step_text net (Resend switch) = text_with_name net (codes "resend") switch
+journal_step_text net (Crash switch) = journal_text_with_name net (codes "crash") switch
+journal_step_text net (Restart switch) = journal_text_with_name net (codes "restart") switch
+journal_step_text net (Confirm switch) = journal_text_with_name net (codes "confirm") switch
+journal_step_text net (Resend switch) = journal_text_with_name net (codes "resend") switch
 
 -- ---- messages
 
@@ -81,7 +81,7 @@ version_text text boot version = boot_text text boot ++ codes " version " ++ dec
 
 abbrev pub advert_text : Net → Advert → List ℕ
 advert_text net advert =
-    boot_text (text_with_name net (codes "advert") advert.origin) advert.boot
+    boot_text (journal_text_with_name net (codes "advert") advert.origin) advert.boot
     ++ codes " seq " ++ decimal advert.seq ++ codes " up" ++ journal_mask_text net advert.up
 
 -- a rule and its action
@@ -90,40 +90,40 @@ journal_cached_rule_text rule action = codes " rule " ++ rule_text rule ++ codes
 
 abbrev pub journal_cache_text : ℕ → WordValue → Option ℕ → Action → List ℕ
 journal_cache_text version word rule action =
-    journal_text_with_number (codes "cache version") version ++ codes " word " ++ word_text word
+    journal_text_with_number (codes "cache version") version ++ codes " word " ++ ternary_word_text word
     ++ journal_cached_rule_text rule action
 
-abbrev pub body_text : Net → Body → List ℕ
-body_text net (Install boot tables) = version_text (codes "install") boot tables.version
-body_text net (OpenAt boot version) = version_text (codes "open") boot version
-body_text net (Stamp boot version touched) = version_text (codes "stamp") boot version
-body_text net (Collect boot version) = version_text (codes "collect") boot version
-body_text net (CacheRule version word rule action) = journal_cache_text version word rule action
-body_text net (Advertise advert) = advert_text net advert
-body_text net (Hello switch boot) = boot_text (text_with_name net (codes "hello") switch) boot
-body_text net (Installed switch boot version) =
-    version_text (text_with_name net (codes "installed") switch) boot version
-body_text net (Stamped switch boot version) =
-    version_text (text_with_name net (codes "stamped") switch) boot version
+abbrev pub journal_body_text : Net → Body → List ℕ
+journal_body_text net (Install boot tables) = version_text (codes "install") boot tables.version
+journal_body_text net (OpenAt boot version) = version_text (codes "open") boot version
+journal_body_text net (Stamp boot version touched) = version_text (codes "stamp") boot version
+journal_body_text net (Collect boot version) = version_text (codes "collect") boot version
+journal_body_text net (CacheRule version word rule action) = journal_cache_text version word rule action
+journal_body_text net (Advertise advert) = advert_text net advert
+journal_body_text net (Hello switch boot) = boot_text (journal_text_with_name net (codes "hello") switch) boot
+journal_body_text net (Installed switch boot version) =
+    version_text (journal_text_with_name net (codes "installed") switch) boot version
+journal_body_text net (Stamped switch boot version) =
+    version_text (journal_text_with_name net (codes "stamped") switch) boot version
 
 -- ---- items
 
 abbrev pub how_text : Net → How → List ℕ
 how_text net (Cached message) = journal_text_with_number (codes "cache") message
 how_text net (Authority switch partition) =
-    text_with_name net (codes "authority") switch ++ codes " part " ++ decimal partition
+    journal_text_with_name net (codes "authority") switch ++ codes " part " ++ decimal partition
 
-abbrev pub cause_text : Cause → List ℕ
-cause_text NoAuthority = codes "no-authority"
-cause_text NoRoute = codes "no-route"
+abbrev pub journal_cause_text : Cause → List ℕ
+journal_cause_text NoAuthority = codes "no-authority"
+journal_cause_text NoRoute = codes "no-route"
 
 abbrev pub state_text : Bool → List ℕ
 state_text true = codes "up"
 state_text false = codes "down"
 
 -- the switches of a route
-unfoldable pub via_text : Net → List ℕ → List ℕ
-via_text net route = codes " via" ++ names_text net route
+unfoldable pub journal_text_via : Net → List ℕ → List ℕ
+journal_text_via net route = codes " via" ++ net_switch_names_text net route
 
 -- the item's line without its line feed: a row at the left edge, each other item after two blanks
 abbrev pub item_line : Net → Item → List ℕ
@@ -133,14 +133,14 @@ item_line net (item.Entered packet switch header) = packet_at_text net (codes " 
 item_line net (item.Closed packet switch) = packet_at_text net (codes "  closed") packet switch
 item_line net (item.Seeking packet version partition route) =
     journal_two_numbers_text (codes "  tunnelled") packet (codes " v") version
-    ++ journal_text_with_number (codes " part") partition ++ via_text net route
+    ++ journal_text_with_number (codes " part") partition ++ journal_text_via net route
 item_line net (item.Exiting packet route) =
-    journal_text_with_number (codes "  exit") packet ++ via_text net route
+    journal_text_with_number (codes "  exit") packet ++ journal_text_via net route
 item_line net (item.Hopped packet switch) = packet_at_text net (codes "  hopped") packet switch
 item_line net (item.FoundDown packet one two) =
     journal_pair_text net (journal_text_with_number (codes "  found") packet) one two
 item_line net (item.Rerouted packet route) =
-    journal_text_with_number (codes "  rerouted") packet ++ via_text net route
+    journal_text_with_number (codes "  rerouted") packet ++ journal_text_via net route
 item_line net (item.Decided packet version rule action how) =
     journal_two_numbers_text (codes "  decided") packet (codes " v") version ++ journal_cached_rule_text rule action
     ++ codes " " ++ how_text net how
@@ -149,14 +149,14 @@ item_line net (item.Left packet port leaving) =
 item_line net (item.Dropped packet) = journal_text_with_number (codes "  dropped") packet
 item_line net (item.Lost packet) = journal_text_with_number (codes "  lost") packet
 item_line net (item.Stuck packet switch cause leg down) =
-    packet_at_text net (codes "  stuck") packet switch ++ codes " " ++ cause_text cause
+    packet_at_text net (codes "  stuck") packet switch ++ codes " " ++ journal_cause_text cause
 item_line net (item.Sent number message) =
     journal_text_with_number (codes "  sent") number ++ codes " " ++ journal_receiver_text net message.to ++ codes " "
-    ++ body_text net message.body
+    ++ journal_body_text net message.body
 item_line net (item.Delivered number) = journal_text_with_number (codes "  delivered") number
 item_line net (item.Forgotten number) = journal_text_with_number (codes "  forgotten") number
 item_line net (item.Expired switch place message) =
-    text_with_name net (codes "  expired") switch ++ codes " " ++ decimal place ++ codes " message "
+    journal_text_with_name net (codes "  expired") switch ++ codes " " ++ decimal place ++ codes " message "
     ++ decimal message
 item_line net (item.Submitted file version) =
     journal_two_numbers_text (codes "  submitted file") file (codes " version ") version
@@ -165,11 +165,11 @@ item_line net (item.Refused file code) =
 item_line net (item.Current version) = journal_text_with_number (codes "  current") version
 item_line net (item.Retired version) = journal_text_with_number (codes "  retired") version
 item_line net (item.Booted switch boot) =
-    text_with_name net (codes "  booted") switch ++ codes " " ++ decimal boot
+    journal_text_with_name net (codes "  booted") switch ++ codes " " ++ decimal boot
 item_line net (item.Opened switch version) =
-    text_with_name net (codes "  opened") switch ++ codes " version " ++ decimal version
-item_line net (item.Down switch) = text_with_name net (codes "  down") switch
-item_line net (item.OverNow switch) = text_with_name net (codes "  over") switch
+    journal_text_with_name net (codes "  opened") switch ++ codes " version " ++ decimal version
+item_line net (item.Down switch) = journal_text_with_name net (codes "  down") switch
+item_line net (item.OverNow switch) = journal_text_with_name net (codes "  over") switch
 item_line net (item.LinkIs one two up) =
     journal_pair_text net (codes "  link") one two ++ codes " " ++ state_text up
 item_line net item.Nothing = codes "  nothing"

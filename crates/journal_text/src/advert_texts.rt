@@ -2,7 +2,7 @@
 ghost use Rattle.std.specs.Prelude.{◌≡◌, ◌≤◌, [], IfSome, length, take};
 ghost use Rattle.net_file.specs.declared.net.Net.{Net};
 ghost use Rattle.journal_text.specs.Lines.{advert_text};
-ghost use Rattle.journal_text.specs.AdvertTexts.{AreAdvertTexts, IsKeptText};
+ghost use Rattle.journal_text.specs.AdvertTexts.{AreJournalAdvertTexts, IsKeptJournalAdvertText};
 ghost use Rattle.lines.specs.Sizes.{IsNumber};
 ghost use Rattle.lines.specs.Pushes.{line_with};
 
@@ -16,14 +16,14 @@ const KEPT_BYTES: usize = 512;
 
 /// An advert and its text.
 #[derive(Clone, Copy)]
-pub(crate) struct AdvertText {
+pub(crate) struct JournalAdvertText {
     advert: Advert,
     bytes: [u8; 512],
     len: usize,
 }
 
-impl AdvertText {
-    fn new(advert: &Advert, text: &[u8]) -> AdvertText
+impl JournalAdvertText {
+    fn new(advert: &Advert, text: &[u8]) -> JournalAdvertText
         requires { length text.now ≤ 512 }
         ensures advert { result.advert ≡ advert.now }
         ensures text { take result.len result.bytes ≡ text.now }
@@ -31,7 +31,7 @@ impl AdvertText {
     {
         let mut bytes = [0; 512];
         bytes[..text.len()].copy_from_slice(text);
-        AdvertText {
+        JournalAdvertText {
             advert: *advert,
             bytes,
             len: text.len(),
@@ -42,7 +42,7 @@ impl AdvertText {
 /// For each switch the advert of it that was written last, with its text, if that is short.
 #[derive(Drop)]
 pub(crate) struct AdvertTexts {
-    kept: [Option<AdvertText>; 64],
+    kept: [Option<JournalAdvertText>; 64],
     // The text that is written now.
     own: Line,
 }
@@ -50,7 +50,7 @@ pub(crate) struct AdvertTexts {
 impl AdvertTexts {
     /// The empty table: no advert was written.
     pub fn new() -> AdvertTexts
-        ensures { (net : Net) → AreAdvertTexts net result }
+        ensures { (net : Net) → AreJournalAdvertTexts net result }
     {
         AdvertTexts {
             kept: [None; 64],
@@ -60,10 +60,10 @@ impl AdvertTexts {
 
     /// Adds the text of an advert.
     pub fn push(&mut self, line: &mut Line, net: &Net, advert: &Advert)
-        requires { AreAdvertTexts net.now self.old }
+        requires { AreJournalAdvertTexts net.now self.old }
         ensures text { line.new ≡ line_with line.old (advert_text net.now advert.now) }
         ensures of_type { IsNumber advert.now.boot × IsNumber advert.now.seq }
-        ensures texts { AreAdvertTexts net.now self.new }
+        ensures texts { AreJournalAdvertTexts net.now self.new }
     {
         match self.find(advert) {
             Some(kept) => line.push_bytes(&kept.bytes[..kept.len]),
@@ -75,10 +75,10 @@ impl AdvertTexts {
     }
 
     // The advert with its text, if it is the last one of its switch that was written.
-    fn find(&self, advert: &Advert) -> Option<&AdvertText>
+    fn find(&self, advert: &Advert) -> Option<&JournalAdvertText>
         ensures advert { IfSome result (λ kept. kept.now.advert ≡ advert.now) }
         ensures text { IfSome result (λ kept.
-            (net : Net) → AreAdvertTexts net self.now → IsKeptText net kept.now) }
+            (net : Net) → AreJournalAdvertTexts net self.now → IsKeptJournalAdvertText net kept.now) }
     {
         let kept = self.kept[(advert.origin % 64) as usize].as_ref()?;
         if kept.advert == *advert {
@@ -91,17 +91,17 @@ impl AdvertTexts {
     // Writes the text of an advert, and keeps it if it is short.
     #[inline(never)]
     fn write(&mut self, net: &Net, advert: &Advert)
-        requires { AreAdvertTexts net.now self.old }
+        requires { AreJournalAdvertTexts net.now self.old }
         ensures own { self.new.own ≡ line_with [] (advert_text net.now advert.now) }
         ensures of_type { IsNumber advert.now.boot × IsNumber advert.now.seq }
-        ensures texts { AreAdvertTexts net.now self.new }
+        ensures texts { AreJournalAdvertTexts net.now self.new }
     {
         self.own.clear();
         push_journal_advert_text(&mut self.own, net, advert);
         let text = self.own.bytes();
         if text.len() <= KEPT_BYTES {
             let place = (advert.origin % 64) as usize;
-            self.kept[place] = Some(AdvertText::new(advert, text));
+            self.kept[place] = Some(JournalAdvertText::new(advert, text));
         }
     }
 }

@@ -1,9 +1,9 @@
 ghost use Rattle.std.specs.Prelude.{◌≡◌, ◌≤◌, ◌++◌, ◌∷◌, [], IfOk, codes, length};
 ghost use Rattle.net_file.specs.Net.{IsNet};
 ghost use Rattle.journal.specs.declared.item.Item.TheVariants as item;
-ghost use Rattle.journal_text.specs.Lines.{cause_text, how_text, item_line, journal_text, journal_text_with_number, packet_at_text, journal_two_numbers_text, via_text};
+ghost use Rattle.journal_text.specs.Lines.{journal_cause_text, how_text, item_line, journal_text, journal_text_with_number, packet_at_text, journal_two_numbers_text, journal_text_via};
 ghost use Rattle.journal_text.specs.Sizes.{IsJournalTextBody, IsJournalTextItem, IsJournalTextRoute};
-ghost use Rattle.journal_text.specs.AdvertTexts.{AreAdvertTexts};
+ghost use Rattle.journal_text.specs.AdvertTexts.{AreJournalAdvertTexts};
 ghost use Rattle.lines.specs.Pushes.{line_with};
 
 use crate::advert_texts::AdvertTexts;
@@ -43,17 +43,17 @@ pub fn text(alloc: Global, journal: &Journal, net: &Net) -> Result<Vec<u8>, Allo
 pub(crate) fn push_journal_line(line: &mut Line, net: &Net, texts: &mut AdvertTexts, item: &Item)
     requires net { IsNet net.now }
     requires room { length line.old ≤ 800 }
-    requires texts { AreAdvertTexts net.now texts.old }
+    requires texts { AreJournalAdvertTexts net.now texts.old }
     ensures text { line.new ≡ line.old ++ (item_line net.now item.now ++ 10 ∷ []) }
-    ensures texts { AreAdvertTexts net.now texts.new }
+    ensures texts { AreJournalAdvertTexts net.now texts.new }
 {
     switch_name_laws();
-    push_item(line, net, texts, item);
+    push_journal_item_text(line, net, texts, item);
     line.push("\n");
 }
 
 #[tactic(auto, using(lines::proofs::LinesCallerLemmas::pushed_append))]
-fn push_row(line: &mut Line, net: &Net, row: u32, step: &Step)
+fn push_journal_row_text(line: &mut Line, net: &Net, row: u32, step: &Step)
     ensures text { line.new ≡ line_with line.old (item_line net.now (item.Row row step.now)) }
     ensures of_type { IsJournalTextItem (item.Row row step.now) }
 {
@@ -73,16 +73,16 @@ fn push_packet_at(line: &mut Line, net: &Net, text: &str, packet: u32, s: u32)
 }
 
 // Adds the switches of a route.
-#[tactic(auto, using(lines::proofs::LinesCallerLemmas::pushed_append), unfolding(crate::specs::Lines::via_text))]
-fn push_via_route(line: &mut Line, net: &Net, route: &SharedRoute)
-    ensures text { line.new ≡ line_with line.old (via_text net.now route.now) }
+#[tactic(auto, using(lines::proofs::LinesCallerLemmas::pushed_append), unfolding(crate::specs::Lines::journal_text_via))]
+fn push_journal_via_route(line: &mut Line, net: &Net, route: &SharedRoute)
+    ensures text { line.new ≡ line_with line.old (journal_text_via net.now route.now) }
     ensures of_type { IsJournalTextRoute route.now }
 {
     line.push(" via");
     push_names(line, net, route.get().items());
 }
 
-fn push_seeking_item(
+fn push_seeking_journal_text(
     line: &mut Line,
     net: &Net,
     packet: u32,
@@ -94,20 +94,20 @@ fn push_seeking_item(
         (item_line net.now (item.Seeking packet version partition route.now)) }
     ensures of_type { IsJournalTextItem (item.Seeking packet version partition route.now) }
 {
-    push_two_numbers(line, "  tunnelled", packet, " v", version);
+    push_journal_two_numbers(line, "  tunnelled", packet, " v", version);
     push_journal_numbered_text(line, " part", partition);
-    push_via_route(line, net, route);
+    push_journal_via_route(line, net, route);
 }
 
 // Adds a packet and its route after a text.
 #[tactic(auto, using(lines::proofs::LinesCallerLemmas::pushed_append))]
 fn push_route_item(line: &mut Line, net: &Net, text: &str, packet: u32, route: &SharedRoute)
     ensures text { line.new ≡ line_with line.old
-        (journal_text_with_number text.now packet ++ via_text net.now route.now) }
+        (journal_text_with_number text.now packet ++ journal_text_via net.now route.now) }
     ensures of_type { IsJournalTextRoute route.now }
 {
     push_journal_numbered_text(line, text, packet);
-    push_via_route(line, net, route);
+    push_journal_via_route(line, net, route);
 }
 
 #[tactic(auto, using(lines::proofs::LinesCallerLemmas::pushed_append))]
@@ -132,7 +132,7 @@ fn push_decided_how(line: &mut Line, net: &Net, how: How)
 }
 
 #[tactic(auto, using(lines::proofs::LinesCallerLemmas::pushed_append))]
-fn push_decided_item(
+fn push_decided_journal_text(
     line: &mut Line,
     net: &Net,
     packet: u32,
@@ -145,7 +145,7 @@ fn push_decided_item(
         (item_line net.now (item.Decided packet version rule action how)) }
     ensures of_type { IsJournalTextItem (item.Decided packet version rule action how) }
 {
-    push_two_numbers(line, "  decided", packet, " v", version);
+    push_journal_two_numbers(line, "  decided", packet, " v", version);
     push_journal_cached_rule(line, rule, action);
     line.push(" ");
     push_decided_how(line, net, how);
@@ -153,7 +153,7 @@ fn push_decided_item(
 
 // Adds two numbers, each after a text.
 #[tactic(auto, using(lines::proofs::LinesCallerLemmas::pushed_append), unfolding(crate::specs::Lines::journal_two_numbers_text))]
-fn push_two_numbers(line: &mut Line, text: &str, n: u32, next: &str, m: u32)
+fn push_journal_two_numbers(line: &mut Line, text: &str, n: u32, next: &str, m: u32)
     ensures { line.new ≡ line_with line.old (journal_two_numbers_text text.now n next.now m) }
 {
     push_journal_numbered_text(line, text, n);
@@ -161,8 +161,8 @@ fn push_two_numbers(line: &mut Line, text: &str, n: u32, next: &str, m: u32)
     line.push_number(u64::from(m));
 }
 
-fn cause_text(cause: Cause) -> &'static str
-    ensures { result.now ≡ cause_text cause }
+fn journal_cause_text(cause: Cause) -> &'static str
+    ensures { result.now ≡ journal_cause_text cause }
 {
     match cause {
         Cause::NoAuthority => "no-authority",
@@ -173,26 +173,26 @@ fn cause_text(cause: Cause) -> &'static str
 #[tactic(auto, using(lines::proofs::LinesCallerLemmas::pushed_append))]
 fn push_stuck_item(line: &mut Line, net: &Net, packet: u32, switch: u32, cause: Cause)
     ensures { line.new ≡ line_with line.old
-        (packet_at_text net.now (codes "  stuck") packet switch ++ codes " " ++ cause_text cause) }
+        (packet_at_text net.now (codes "  stuck") packet switch ++ codes " " ++ journal_cause_text cause) }
 {
     push_packet_at(line, net, "  stuck", packet, switch);
     line.push(" ");
-    line.push(cause_text(cause));
+    line.push(journal_cause_text(cause));
 }
 
 #[tactic(auto, using(lines::proofs::LinesCallerLemmas::pushed_append))]
-fn push_sent_item(
+fn push_sent_journal_text(
     line: &mut Line,
     net: &Net,
     texts: &mut AdvertTexts,
     number: u32,
     message: &SharedMessage,
 )
-    requires { AreAdvertTexts net.now texts.old }
+    requires { AreJournalAdvertTexts net.now texts.old }
     ensures text { line.new ≡ line_with line.old
         (item_line net.now (item.Sent number message.now)) }
     ensures of_type { IsJournalTextBody message.now.body }
-    ensures texts { AreAdvertTexts net.now texts.new }
+    ensures texts { AreJournalAdvertTexts net.now texts.new }
 {
     let message = message.get();
     line.push("  sent ");
@@ -227,14 +227,14 @@ fn push_link_item(line: &mut Line, net: &Net, one: u32, two: u32, up: bool)
 }
 
 // Adds an item's line, without its line feed.
-fn push_item(line: &mut Line, net: &Net, texts: &mut AdvertTexts, item: &Item)
-    requires { AreAdvertTexts net.now texts.old }
+fn push_journal_item_text(line: &mut Line, net: &Net, texts: &mut AdvertTexts, item: &Item)
+    requires { AreJournalAdvertTexts net.now texts.old }
     ensures text { line.new ≡ line_with line.old (item_line net.now item.now) }
     ensures of_type { IsJournalTextItem item.now }
-    ensures texts { AreAdvertTexts net.now texts.new }
+    ensures texts { AreJournalAdvertTexts net.now texts.new }
 {
     match item {
-        Item::Row { row, step } => push_row(line, net, *row, step),
+        Item::Row { row, step } => push_journal_row_text(line, net, *row, step),
         Item::Entered { packet, switch, .. } => {
             push_packet_at(line, net, "  entered", *packet, *switch)
         }
@@ -245,7 +245,7 @@ fn push_item(line: &mut Line, net: &Net, texts: &mut AdvertTexts, item: &Item)
             version,
             partition,
             route,
-        } => push_seeking_item(line, net, *packet, *version, *partition, route),
+        } => push_seeking_journal_text(line, net, *packet, *version, *partition, route),
         Item::Exiting { packet, route } => push_route_item(line, net, "  exit", *packet, route),
         Item::Rerouted { packet, route } => push_route_item(
             line,
@@ -261,8 +261,8 @@ fn push_item(line: &mut Line, net: &Net, texts: &mut AdvertTexts, item: &Item)
             rule,
             action,
             how,
-        } => push_decided_item(line, net, *packet, *version, *rule, *action, *how),
-        Item::Left { packet, port, .. } => push_two_numbers(
+        } => push_decided_journal_text(line, net, *packet, *version, *rule, *action, *how),
+        Item::Left { packet, port, .. } => push_journal_two_numbers(
             line, "  out", *packet, " port ", *port,
         ),
         Item::Dropped { packet } => push_journal_numbered_text(line, "  dropped", *packet),
@@ -273,7 +273,9 @@ fn push_item(line: &mut Line, net: &Net, texts: &mut AdvertTexts, item: &Item)
             cause,
             ..
         } => push_stuck_item(line, net, *packet, *switch, *cause),
-        Item::Sent { number, message } => push_sent_item(line, net, texts, *number, message),
+        Item::Sent { number, message } => push_sent_journal_text(
+            line, net, texts, *number, message,
+        ),
         Item::Delivered { number } => push_journal_numbered_text(line, "  delivered", *number),
         Item::Forgotten { number } => push_journal_numbered_text(line, "  forgotten", *number),
         Item::Expired {
@@ -282,9 +284,9 @@ fn push_item(line: &mut Line, net: &Net, texts: &mut AdvertTexts, item: &Item)
             message,
         } => push_expired_item(line, net, *switch, *place, *message),
         Item::Submitted { file, version } => {
-            push_two_numbers(line, "  submitted file", *file, " version ", *version)
+            push_journal_two_numbers(line, "  submitted file", *file, " version ", *version)
         }
-        Item::Refused { file, code } => push_two_numbers(
+        Item::Refused { file, code } => push_journal_two_numbers(
             line,
             "  refused file",
             *file,

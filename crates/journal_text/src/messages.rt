@@ -1,8 +1,8 @@
 ghost use Rattle.std.specs.Prelude.{◌≡◌};
 ghost use Rattle.ctrl_msg.specs.declared.message.Body.TheVariants.{CacheRule};
-ghost use Rattle.journal_text.specs.Lines.{advert_text, body_text, boot_text, journal_cache_text, text_with_name, journal_receiver_text, journal_cached_rule_text, version_text};
+ghost use Rattle.journal_text.specs.Lines.{advert_text, journal_body_text, boot_text, journal_cache_text, journal_text_with_name, journal_receiver_text, journal_cached_rule_text, version_text};
 ghost use Rattle.journal_text.specs.Sizes.{IsJournalTextBody};
-ghost use Rattle.journal_text.specs.AdvertTexts.{AreAdvertTexts};
+ghost use Rattle.journal_text.specs.AdvertTexts.{AreJournalAdvertTexts};
 ghost use Rattle.lines.specs.Sizes.{IsPrintedLineAction, IsNumber, IsPrintedLineRule};
 ghost use Rattle.lines.specs.Pushes.{line_with};
 
@@ -11,7 +11,7 @@ use crate::names::push_journal_mask_text;
 use crate::rows::{push_item_named_number, push_journal_numbered_text};
 use ctrl_msg::{Body, Place};
 use failover::Advert;
-use lines::{Line, push_action, push_name, push_rule, push_word};
+use lines::{Line, push_line_action, push_line_word, push_name, push_rule};
 use net_file::Net;
 use policy_rules::Action;
 use ternary::Word;
@@ -47,7 +47,7 @@ fn push_version_number(line: &mut Line, text: &str, boot: u32, version: u32)
 
 #[tactic(auto, using(lines::proofs::LinesCallerLemmas::pushed_append))]
 fn push_booted_body(line: &mut Line, net: &Net, text: &str, switch: u32, boot: u32)
-    ensures { line.new ≡ line_with line.old (boot_text (text_with_name net.now text.now switch) boot) }
+    ensures { line.new ≡ line_with line.old (boot_text (journal_text_with_name net.now text.now switch) boot) }
 {
     push_item_named_number(line, net, text, switch, " boot ", boot);
 }
@@ -55,7 +55,7 @@ fn push_booted_body(line: &mut Line, net: &Net, text: &str, switch: u32, boot: u
 #[tactic(auto, using(lines::proofs::LinesCallerLemmas::pushed_append))]
 fn push_answer_body(line: &mut Line, net: &Net, text: &str, switch: u32, boot: u32, version: u32)
     ensures { line.new
-        ≡ line_with line.old (version_text (text_with_name net.now text.now switch) boot version) }
+        ≡ line_with line.old (version_text (journal_text_with_name net.now text.now switch) boot version) }
 {
     push_booted_body(line, net, text, switch, boot);
     line.push(" version ");
@@ -71,10 +71,10 @@ pub(crate) fn push_journal_cached_rule(line: &mut Line, rule: Option<u32>, actio
     line.push(" rule ");
     push_rule(line, rule);
     line.push(" ");
-    push_action(line, action);
+    push_line_action(line, action);
 }
 
-fn push_cache_rule_body(
+fn push_journal_cache_rule(
     line: &mut Line,
     version: u32,
     word: &Word,
@@ -86,7 +86,7 @@ fn push_cache_rule_body(
 {
     push_journal_numbered_text(line, "cache version", version);
     line.push(" word ");
-    push_word(line, word);
+    push_line_word(line, word);
     push_journal_cached_rule(line, rule, action);
 }
 
@@ -116,10 +116,10 @@ pub(crate) fn push_journal_body_text(
     texts: &mut AdvertTexts,
     body: &Body,
 )
-    requires { AreAdvertTexts net.now texts.old }
-    ensures text { line.new ≡ line_with line.old (body_text net.now body.now) }
+    requires { AreJournalAdvertTexts net.now texts.old }
+    ensures text { line.new ≡ line_with line.old (journal_body_text net.now body.now) }
     ensures of_type { IsJournalTextBody body.now }
-    ensures texts { AreAdvertTexts net.now texts.new }
+    ensures texts { AreJournalAdvertTexts net.now texts.new }
 {
     match body {
         Body::Install { boot, tables } => {
@@ -133,7 +133,7 @@ pub(crate) fn push_journal_body_text(
             word,
             rule,
             action,
-        } => push_cache_rule_body(line, *version, word, *rule, *action),
+        } => push_journal_cache_rule(line, *version, word, *rule, *action),
         Body::Advertise { advert } => texts.push(line, net, advert),
         Body::Hello { switch, boot } => push_booted_body(line, net, "hello", *switch, *boot),
         Body::Installed {

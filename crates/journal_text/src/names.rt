@@ -1,6 +1,6 @@
 ghost use Rattle.std.specs.Prelude.{◌≡◌, ◌++◌, filter, codes};
 ghost use Rattle.base.specs.Masks.{has, switches};
-ghost use Rattle.net_file.specs.Net.{switch_name_of, names_text};
+ghost use Rattle.net_file.specs.Net.{switch_name_of, net_switch_names_text};
 ghost use Rattle.journal_text.specs.Lines.{journal_mask_text};
 ghost use Rattle.lines.specs.Pushes.{line_with};
 
@@ -22,12 +22,12 @@ pub(crate) fn push_journal_mask_text(line: &mut Line, net: &Net, mask: u64)
 // Adds the names of a mask's switches, each after a blank, from the least number up.
 #[tactic(auto, using(crate::proofs::JournalLineMasks::none_left, lines::proofs::LinesCallerLemmas::pushed_nothing))]
 fn push_mask_switches(line: &mut Line, net: &Net, mask: u64)
-    ensures { line.new ≡ line_with line.old (names_text net.now (filter (has mask) switches)) }
+    ensures { line.new ≡ line_with line.old (net_switch_names_text net.now (filter (has mask) switches)) }
 {
     let mut rest = mask;
     while rest != 0 {
         let s = rest.trailing_zeros();
-        push_behind_blank(line, net, s);
+        push_journal_name_behind_blank(line, net, s);
         rest ^= only_if(true, s);
     }
     let _within = line.bytes();
@@ -35,7 +35,7 @@ fn push_mask_switches(line: &mut Line, net: &Net, mask: u64)
 
 // Adds the name of the switch, after a blank.
 #[tactic(auto, using(lines::proofs::LinesCallerLemmas::pushed_append))]
-fn push_behind_blank(line: &mut Line, net: &Net, s: u32)
+fn push_journal_name_behind_blank(line: &mut Line, net: &Net, s: u32)
     ensures { line.new ≡ line_with line.old (codes " " ++ switch_name_of net.now s) }
 {
     line.push(" ");

@@ -1,11 +1,11 @@
 ghost use Rattle.std.specs.Prelude.{◌≡◌, ◌++◌, decimal};
-ghost use Rattle.journal_text.specs.Lines.{text_with_name, journal_text_with_number, journal_pair_text, journal_step_text};
+ghost use Rattle.journal_text.specs.Lines.{journal_text_with_name, journal_text_with_number, journal_pair_text, journal_step_text};
 ghost use Rattle.journal_text.specs.Sizes.{IsJournalTextStep};
 ghost use Rattle.steps.specs.declared.step.Step.TheVariants.{Packet};
 ghost use Rattle.lines.specs.Pushes.{line_with};
 
 use five_tuple::Header;
-use lines::{Line, push_fields, push_name};
+use lines::{Line, push_line_fields, push_name};
 use net_file::Net;
 use steps::Step;
 
@@ -22,7 +22,7 @@ pub(crate) fn push_journal_numbered_text(line: &mut Line, text: &str, n: u32)
 /// Adds a switch's name after a text.
 #[tactic(auto, using(lines::proofs::LinesCallerLemmas::pushed_append))]
 pub(crate) fn push_named_switch(line: &mut Line, net: &Net, text: &str, s: u32)
-    ensures { line.new ≡ line_with line.old (text_with_name net.now text.now s) }
+    ensures { line.new ≡ line_with line.old (journal_text_with_name net.now text.now s) }
 {
     line.push(text);
     line.push(" ");
@@ -39,7 +39,7 @@ pub(crate) fn push_item_named_number(
     next: &str,
     n: u32,
 )
-    ensures { line.new ≡ line_with line.old (text_with_name net.now text.now s ++ next.now
+    ensures { line.new ≡ line_with line.old (journal_text_with_name net.now text.now s ++ next.now
         ++ decimal n) }
 {
     push_named_switch(line, net, text, s);
@@ -58,14 +58,14 @@ pub(crate) fn push_journal_switch_pair(line: &mut Line, net: &Net, text: &str, o
 }
 
 #[tactic(auto, using(lines::proofs::LinesCallerLemmas::pushed_append))]
-fn push_packet_row(line: &mut Line, net: &Net, switch: u32, header: &Header)
+fn push_journal_packet_row(line: &mut Line, net: &Net, switch: u32, header: &Header)
     ensures text { line.new ≡ line_with line.old (journal_step_text net.now (Packet switch header.now)) }
     ensures of_type { IsJournalTextStep (Packet switch header.now) }
 {
     let _number = header.number();
     push_named_switch(line, net, "packet", switch);
     line.push(" ");
-    push_fields(line, &header.fields());
+    push_line_fields(line, &header.fields());
 }
 
 /// Adds the fields of a step's row, separated by blanks.
@@ -74,7 +74,7 @@ pub(crate) fn push_journal_step_row(line: &mut Line, net: &Net, step: &Step)
     ensures of_type { IsJournalTextStep step.now }
 {
     match step {
-        Step::Packet { switch, header } => push_packet_row(line, net, *switch, header),
+        Step::Packet { switch, header } => push_journal_packet_row(line, net, *switch, header),
         Step::Hop { packet } => push_journal_numbered_text(line, "hop", *packet),
         Step::Lose { packet } => push_journal_numbered_text(line, "lose", *packet),
         Step::Deliver { message } => push_journal_numbered_text(line, "deliver", *message),

@@ -8,7 +8,7 @@ use crate::items::push_journal_line;
 use journal::Journal;
 use lines::Line;
 use net_file::Net;
-use shelf::{Block, Sink, SinkError};
+use shelf::{ShelfBlock, Sink, SinkError};
 
 /// After this many bytes a line has room for that of an item.
 const ROOMY_BYTES: usize = 800;
@@ -26,7 +26,7 @@ pub fn write_text<K: Sink>(journal: &Journal, net: &Net, sink: &mut K) -> Result
 {
     let mut line = Line::new();
     let mut texts = AdvertTexts::new();
-    let mut block = Block::new();
+    let mut block = ShelfBlock::new();
     let items = journal.items();
     if items.is_empty() {
         return block.finish(sink);

@@ -6,13 +6,13 @@ use Rattle.std.proofs.lemmas.List.Elements.{All-get_or}
 use Rattle.std.proofs.lemmas.Option.{slice_get_cases}
 use Rattle.five_tuple.specs.Exports.{IsHeader, address_text, fields_text, proto_number_text}
 use Rattle.five_tuple.specs.declared.header.Header.{Header}
-use Rattle.net_file.specs.Exports.{IsNet, IsNetSwitchRow, NameLaws, switch_name_of, names_text}
+use Rattle.net_file.specs.Exports.{IsNet, IsNetSwitchRow, NameLaws, switch_name_of, net_switch_names_text}
 use Rattle.net_file.specs.declared.net.Net.{Net}
 use Rattle.net_file.specs.declared.net.SwitchRow.{SwitchRow}
 use Rattle.policy_rules.specs.Exports.{action_text, rule_text}
 use Rattle.policy_rules.specs.declared.policy.Action.{Action}
 use Rattle.policy_rules.specs.declared.policy.Action.TheVariants.{Drop, Out}
-use Rattle.ternary.specs.Exports.{WordValue, word_hex_digits, word_text}
+use Rattle.ternary.specs.Exports.{WordValue, word_hex_digits, ternary_word_text}
 use Rattle.lines.specs.Sizes.{IsPrintedLineAction, IsNumber, IsPrintedLineRule}
 
 -- at most so many bytes
@@ -93,8 +93,8 @@ digits_within (suc count) n =
     widened (joined_within (digits_within count (n / 16)) (one_byte (digit_glyph false (n % 16))))
     (suc count) (omega arith)
 
-pub word_within : (w : WordValue) → IsWithin 53 (word_text w)
-unfolding word_text
+pub word_within : (w : WordValue) → IsWithin 53 (ternary_word_text w)
+unfolding ternary_word_text
 word_within w = joined_within (digits_within 26 w.value)
     (joined_within (all_of (47 ∷ [])) (digits_within 26 w.mask))
 
@@ -114,7 +114,7 @@ module _ (laws : NameLaws) (net : Net) (sound : IsNet net) where
     by (inr w) = rw w.1 (record { size = omega arith })
 
   -- each name takes 17 bytes with its blank
-  pub names_within : (list : List ℕ) → IsWithin (length list * 17) (names_text net list)
+  pub names_within : (list : List ℕ) → IsWithin (length list * 17) (net_switch_names_text net list)
   names_within [] = record { size = omega arith }
   names_within (s ∷ list) =
       widened (joined_within (joined_within (all_of (codes " ")) (name_within s)) (names_within list))

@@ -35,7 +35,7 @@ pub(crate) fn put_line_digit(bytes: &mut [u8; 2048], len: usize, n: u64) -> usiz
 
 // Writes a number of one or two digits, and returns the new length.
 #[inline]
-fn put_first(bytes: &mut [u8; 2048], len: usize, n: u64) -> usize
+fn put_first_line_digits(bytes: &mut [u8; 2048], len: usize, n: u64) -> usize
     requires short { n < 100 }
     requires room { len + 2 ≤ 2048 }
     ensures within { result ≤ len + 2 }
@@ -58,13 +58,13 @@ pub(crate) fn put_short_line_number(bytes: &mut [u8; 2048], len: usize, n: u64) 
     ensures held { take result bytes.new ≡ take len bytes.old ++ decimal n }
 {
     if n < 100 {
-        put_first(bytes, len, n)
+        put_first_line_digits(bytes, len, n)
     } else if n < 10_000 {
-        let end = put_first(bytes, len, n / 100);
+        let end = put_first_line_digits(bytes, len, n / 100);
         put_digit_pair(bytes, end, n % 100);
         end + 2
     } else {
-        let end = put_first(bytes, len, n / 10_000);
+        let end = put_first_line_digits(bytes, len, n / 10_000);
         put_digit_pair(bytes, end, n / 100 % 100);
         put_digit_pair(bytes, end + 2, n % 100);
         end + 4

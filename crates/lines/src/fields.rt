@@ -22,7 +22,7 @@ fn push_dotted_bytes(line: &mut Line, a: u8, b: u8, c: u8, d: u8)
 
 /// Adds an address as four numbers joined by dots.
 #[tactic(auto, unfolding(five_tuple::specs::Printing::address_text))]
-pub fn push_address(line: &mut Line, address: u32)
+pub fn push_line_address(line: &mut Line, address: u32)
     ensures { line.new ≡ line_with line.old (address_text address) }
 {
     let [a, b, c, d] = address.to_be_bytes();
@@ -31,7 +31,7 @@ pub fn push_address(line: &mut Line, address: u32)
 
 // Adds a protocol: `icmp`, `tcp` or `udp`, any other as its number.
 #[tactic(auto, unfolding(five_tuple::specs::Printing::proto_number_text))]
-fn push_protocol(line: &mut Line, proto: u8)
+fn push_line_protocol(line: &mut Line, proto: u8)
     ensures { line.new ≡ line_with line.old (proto_number_text proto) }
 {
     match proto {
@@ -43,16 +43,16 @@ fn push_protocol(line: &mut Line, proto: u8)
 }
 
 /// Adds both addresses, both ports and the protocol, separated by blanks.
-pub fn push_fields(line: &mut Line, fields: &Fields)
+pub fn push_line_fields(line: &mut Line, fields: &Fields)
     ensures { line.new ≡ line_with line.old (fields_text fields.now) }
 {
-    push_address(line, fields.src);
+    push_line_address(line, fields.src);
     line.push(" ");
-    push_address(line, fields.dst);
+    push_line_address(line, fields.dst);
     line.push(" ");
     line.push_number(u64::from(fields.sport));
     line.push(" ");
     line.push_number(u64::from(fields.dport));
     line.push(" ");
-    push_protocol(line, fields.proto);
+    push_line_protocol(line, fields.proto);
 }

@@ -20,7 +20,7 @@ mod names;
 mod pieces;
 mod rules;
 
-pub use fields::{push_address, push_fields};
+pub use fields::{push_line_address, push_line_fields};
 pub use line::Line;
 pub use names::{push_name, push_names};
-pub use rules::{push_action, push_rule, push_word};
+pub use rules::{push_line_action, push_line_word, push_rule};

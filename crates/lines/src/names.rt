@@ -1,5 +1,5 @@
 ghost use Rattle.std.specs.Prelude.{◌≡◌};
-ghost use Rattle.net_file.specs.Net.{switch_name_of, names_text};
+ghost use Rattle.net_file.specs.Net.{switch_name_of, net_switch_names_text};
 ghost use Rattle.lines.specs.Pushes.{line_with};
 
 use crate::line::Line;
@@ -19,7 +19,7 @@ pub fn push_name(line: &mut Line, net: &Net, s: u32)
 /// Adds the names of switches, each after a blank.
 #[tactic(auto, using(crate::proofs::LinesCallerLemmas::pushed_append, crate::proofs::LinesCallerLemmas::pushed_nothing))]
 pub fn push_names(line: &mut Line, net: &Net, switches: &[u32])
-    ensures { line.new ≡ line_with line.old (names_text net.now switches.now) }
+    ensures { line.new ≡ line_with line.old (net_switch_names_text net.now switches.now) }
 {
     let _within = line.bytes();
     for s in switches {

@@ -41,11 +41,11 @@ fn put_whole_piece(bytes: &mut [u8; 2048], len: usize, piece: &[u8])
     if count > 16 {
         bytes[len..len + count].copy_from_slice(piece);
     } else if count >= 8 {
-        put_piece_halves::<8>(bytes, len, piece);
+        put_line_piece_halves::<8>(bytes, len, piece);
     } else if count >= 4 {
-        put_piece_halves::<4>(bytes, len, piece);
+        put_line_piece_halves::<4>(bytes, len, piece);
     } else if count >= 2 {
-        put_piece_halves::<2>(bytes, len, piece);
+        put_line_piece_halves::<2>(bytes, len, piece);
     } else if count == 1 {
         bytes[len] = piece[0];
     }
@@ -54,7 +54,7 @@ fn put_whole_piece(bytes: &mut [u8; 2048], len: usize, piece: &[u8])
 // Copies the first N bytes of a piece and its last N, which may overlap. They pass through arrays,
 // so that the compiler knows that they aren't bytes of the line, and copies each in one move.
 #[inline]
-fn put_piece_halves<const N: usize>(bytes: &mut [u8; 2048], len: usize, piece: &[u8])
+fn put_line_piece_halves<const N: usize>(bytes: &mut [u8; 2048], len: usize, piece: &[u8])
     requires room { len + length piece.now ≤ 2048 }
     requires long { N ≤ length piece.now }
     requires short { length piece.now ≤ N + N }

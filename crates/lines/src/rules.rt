@@ -1,6 +1,6 @@
 ghost use Rattle.std.specs.Prelude.{◌≡◌};
 ghost use Rattle.policy_rules.specs.Policy.{action_text, rule_text};
-ghost use Rattle.ternary.specs.Word.{word_hex_digits, word_text};
+ghost use Rattle.ternary.specs.Word.{word_hex_digits, ternary_word_text};
 ghost use Rattle.lines.specs.Sizes.{IsPrintedLineAction, IsPrintedLineRule};
 ghost use Rattle.lines.specs.Pushes.{line_with};
 
@@ -37,9 +37,9 @@ fn hex_digits_of(number: u128) -> [u8; 26]
 }
 
 /// Adds a word as its value and its mask with a slash between them.
-#[tactic(auto, using(crate::proofs::LinesCallerLemmas::pushed_append), unfolding(ternary::specs::Word::word_text))]
-pub fn push_word(line: &mut Line, word: &Word)
-    ensures { line.new ≡ line_with line.old (word_text word.now) }
+#[tactic(auto, using(crate::proofs::LinesCallerLemmas::pushed_append), unfolding(ternary::specs::Word::ternary_word_text))]
+pub fn push_line_word(line: &mut Line, word: &Word)
+    ensures { line.new ≡ line_with line.old (ternary_word_text word.now) }
 {
     line.push_bytes(&hex_digits_of(word.value()));
     line.push("/");
@@ -59,7 +59,7 @@ pub fn push_rule(line: &mut Line, rule: Option<u32>)
 
 /// Adds an action: `drop`, or `out:` and the port.
 #[tactic(auto, using(crate::proofs::LinesCallerLemmas::pushed_append))]
-pub fn push_action(line: &mut Line, action: Action)
+pub fn push_line_action(line: &mut Line, action: Action)
     ensures text { line.new ≡ line_with line.old (action_text action) }
     ensures of_type { IsPrintedLineAction action }
 {

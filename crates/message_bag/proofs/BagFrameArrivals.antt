@@ -2,7 +2,7 @@
 use Rattle.std.proofs.Common.{[], ◌+◌, ◌<◌, ◌↔◌, ◌∙◌, ◌∷◌, ◌≡◌, ◌≢◌, Bool, Contains, IsSome, List, None, Some, ap, arith, cond, false, flat_map, inl, inr, is_some, length, ne_eqb, refl, slice_index_or, subst, sym, true, ℕ}
 use Rattle.base.proofs.Exports.{All-contains, All-contains_itself, All-head, All-tail, cases_eq, same_Some, some_passes, the_some}
 use Rattle.ctrl_msg.specs.declared.message.Message.{Message}
-use Rattle.wire.specs.Exports.{AreWireFramesHeld, AreFrames, AreFramesRising, IsFrameOfCount, IsRefusedFrame, another_count, another_frame, chunk_of, chunks, count_in_frame, frames, frame_held_at, no_message, past_the_count, place_in_frame, too_long, too_short, frames_with_frame}
+use Rattle.wire.specs.Exports.{AreWireFramesHeld, AreFrames, AreWireFramesRising, IsFrameOfCount, IsRefusedFrame, another_count, another_frame, chunk_in_frame, wire_chunks, count_in_frame, frames, frame_held_at, no_message, past_the_count, place_in_frame, too_long, too_short, frames_with_frame}
 use Rattle.wire.proofs.WireFrameAssembly.{spelled_by}
 use Rattle.wire.proofs.WireDecoding.{one_message}
 use Rattle.wire.proofs.WireFramesHeld.{all_held, first_is, held_count, same_place}
@@ -13,7 +13,7 @@ use Rattle.message_bag.proofs.BagFrameSizes.{IsSized, frames_rise, frames_sized,
 -- ---- a frame that comes, whichever are held
 
 -- that a frame of rising frames is of their count
-of_count : (from count : ℕ) (fs : List (List ℕ)) (place : ℕ) (f : List ℕ) → AreFramesRising from count fs
+of_count : (from count : ℕ) (fs : List (List ℕ)) (place : ℕ) (f : List ℕ) → AreWireFramesRising from count fs
     → frame_held_at fs place ≡ Some f → IsFrameOfCount count f
 of_count from count [] place f rising at = absurd (cc at)
 of_count from count (g ∷ gs) place f rising at = elim (cases_eq (place_in_frame g) place) [
@@ -25,12 +25,12 @@ of_count from count (g ∷ gs) place f rising at = elim (cases_eq (place_in_fram
 
 pub record IsOneOf (m : Message) (f : List ℕ) : Type 0 where
   pub at : frame_held_at (frames m) (place_in_frame f) ≡ Some f
-  pub of : IsFrameOfCount (length (chunks m)) f
+  pub of : IsFrameOfCount (length (wire_chunks m)) f
   pub sized : IsSized f
 
 pub is_one_of : (m : Message) (f : List ℕ) → HasBagFrames m → Contains (frames m) f → IsOneOf m f
 is_one_of m f has there =
-    let count = length (chunks m) in
+    let count = length (wire_chunks m) in
     let at = held_there 0 count (frames m) f (frames_rise m has) there in record {
       at = at;
       of = of_count 0 count (frames m) (place_in_frame f) f (frames_rise m has) at;
@@ -43,8 +43,8 @@ passes m p n some = some_passes (p n) (frame_held_at (frames m) n) (subst IsSome
 
 -- where all places are held, all frames are
 all_are : (m : Message) (p : ℕ → Bool) → HasBagFrames m
-    → AreWireFramesHeld (part p (frames m)) (length (chunks m)) → part p (frames m) ≡ frames m
-all_are m p has held = part_all p 0 (length (chunks m)) (frames m) (frames_rise m has)
+    → AreWireFramesHeld (part p (frames m)) (length (wire_chunks m)) → part p (frames m) ≡ frames m
+all_are m p has held = part_all p 0 (length (wire_chunks m)) (frames m) (frames_rise m has)
     (λ n lt. passes m p n (held n lt))
 
 -- the frames of a message are not refused, whichever of them are held
@@ -54,8 +54,8 @@ never_refused m p q f has one joined (too_short lt) = absurd (omega (arith, one.
 never_refused m p q f has one joined (too_long lt) = absurd (omega (arith, one.sized.short))
 never_refused m p q f has one joined (past_the_count le) = absurd (omega (arith, one.of.below, one.of.count_is))
 never_refused m p q f has one joined (another_count place g at other) =
-    other (held_count 0 (length (chunks m)) (part p (frames m)) place g
-    (part_rises p 0 (length (chunks m)) (frames m) (frames_rise m has)) at ∙ sym one.of.count_is)
+    other (held_count 0 (length (wire_chunks m)) (part p (frames m)) place g
+    (part_rises p 0 (length (wire_chunks m)) (frames m) (frames_rise m has)) at ∙ sym one.of.count_is)
 never_refused m p q f has one joined (another_frame g at other) =
     other (by_test (p (place_in_frame f)) (sym (held_part p (frames m) (place_in_frame f)) ∙ at))
   where
@@ -82,7 +82,7 @@ come_elsewhere f fed n other = rw (ne_eqb (place_in_frame f) n (λ e. other (sym
 
 joins : (m : Message) (f : List ℕ) (fed : List (List ℕ)) → HasBagFrames m → IsOneOf m f
     → frames_with_frame (part (has_come fed) (frames m)) f ≡ part (has_come (f ∷ fed)) (frames m)
-joins m f fed has one = with_part (has_come fed) (has_come (f ∷ fed)) 0 (length (chunks m))
+joins m f fed has one = with_part (has_come fed) (has_come (f ∷ fed)) 0 (length (wire_chunks m))
     (frames m) f (frames_rise m has) one.at (come_elsewhere f fed) (come_here f fed)
 
 held_is : (m : Message) (fed : List (List ℕ)) → HasBagFrames m → AreBagFramesOf m fed
@@ -101,17 +101,17 @@ taken m f fed has of refused =
 
 -- each place has come where each frame has
 places_come : (m : Message) (fed : List (List ℕ)) → HasBagFrames m → AreBagFramesAllFed m fed
-    → (n : ℕ) → n < length (chunks m) → has_come fed n ≡ true
+    → (n : ℕ) → n < length (wire_chunks m) → has_come fed n ≡ true
 places_come m fed has among n lt =
     let g = the_some (frame_held_at (frames m) n)
-    (all_held (length (chunks m)) (frames m) (frames_rise m has) (length_frames m) n lt) in
+    (all_held (length (wire_chunks m)) (frames m) (frames_rise m has) (length_frames m) n lt) in
     let found = found_there (frames m) n g.0 g.1 in
     let come : Contains fed g.0 = All-contains (Contains fed) (frames m) g.0 among found.0 in
     subst (λ k. has_come fed k ≡ true) found.1 (is_found fed g.0 come)
 
 pub whole : (m : Message) (fed : List (List ℕ)) → HasBagFrames m → AreBagFramesOf m fed → AreBagFramesAllFed m fed
     → bag_frames_held_after fed ≡ frames m
-whole m fed has of among = held_is m fed has of ∙ part_all (has_come fed) 0 (length (chunks m))
+whole m fed has of among = held_is m fed has of ∙ part_all (has_come fed) 0 (length (wire_chunks m))
     (frames m) (frames_rise m has) (places_come m fed has among)
 
 -- a frame whose place has come has come itself
@@ -129,7 +129,7 @@ pub all_come : (m : Message) (f : List ℕ) (fed : List (List ℕ)) → HasBagFr
     → (AreWireFramesHeld (bag_frames_held_after (f ∷ fed)) (count_in_frame f) ↔ AreBagFramesAllFed m (f ∷ fed))
 all_come m f fed has of = (forth, back) where
   count : ℕ
-  count = length (chunks m)
+  count = length (wire_chunks m)
 
   one : IsOneOf m f
   one = is_one_of m f has (All-head (Contains (frames m)) f fed of)
@@ -150,4 +150,4 @@ all_come m f fed has of = (forth, back) where
 
 pub same_message : (m other : Message) (fs : List (List ℕ)) → AreFrames m fs → AreFrames other fs → other ≡ m
 same_message m other fs are are_other =
-    one_message (flat_map chunk_of fs) other m (spelled_by other fs are_other) (spelled_by m fs are)
+    one_message (flat_map chunk_in_frame fs) other m (spelled_by other fs are_other) (spelled_by m fs are)

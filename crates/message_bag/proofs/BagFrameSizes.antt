@@ -5,7 +5,7 @@ use Rattle.ctrl_msg.specs.declared.message.Body.{Body}
 use Rattle.ctrl_msg.specs.declared.message.Body.TheVariants.{Install, Stamp}
 use Rattle.ctrl_msg.specs.declared.message.Message.{Message}
 use Rattle.wire.specs.Fields as form
-use Rattle.wire.specs.Exports.{AreFramesRising, IsFrameOfCount, body, chunks, wire_equal_chunks, fields_fit, frame, frames, frames_from, first_chunk_len, message, most_of_chunk, n4, place_in_frame, receiver, wire_spelled_fields, stamp_form, wire_body_suits_receiver}
+use Rattle.wire.specs.Exports.{AreWireFramesRising, IsFrameOfCount, body, wire_chunks, wire_equal_chunks, wire_fields_fit, frame, frames, wire_frames_from, wire_first_chunk_len, message, most_of_chunk, n4, place_in_frame, receiver, wire_spelled_fields, stamp_form, wire_body_suits_receiver}
 use Rattle.wire.proofs.WireFrameBytes.{length_frame, place_of_frame, count_of_frame, chunk_of_frame}
 use Rattle.wire.proofs.WireSpellingCuts.{few_chunks}
 use Rattle.message_bag.specs.Exports.{HasBagFrames, bag_tables_version}
@@ -13,11 +13,11 @@ use Rattle.message_bag.proofs.BagSpellingLengths.{length_message, fields_short, 
 
 -- ---- places and counts
 
-pub few_frames : (m : Message) → HasBagFrames m → length (chunks m) < 2 ^ 32
-few_frames m has = few_chunks (first_chunk_len m.body (message.spell m)) (message.spell m) has.short
+pub few_frames : (m : Message) → HasBagFrames m → length (wire_chunks m) < 2 ^ 32
+few_frames m has = few_chunks (wire_first_chunk_len m.body (message.spell m)) (message.spell m) has.short
 
 rising : (place count : ℕ) (parts : List (List ℕ)) → place + length parts ≡ count → count < 2 ^ 32
-    → AreFramesRising place count (frames_from place count parts)
+    → AreWireFramesRising place count (wire_frames_from place count parts)
 rising place count [] all few = tt
 rising place count (part ∷ parts) all few =
     let at : place_in_frame (frame place count part) ≡ place = place_of_frame place count part (omega arith) in
@@ -30,20 +30,20 @@ rising place count (part ∷ parts) all few =
     } in (
       omega arith,
       of,
-      subst (λ p. AreFramesRising (p + 1) count (frames_from (place + 1) count parts)) (sym at)
+      subst (λ p. AreWireFramesRising (p + 1) count (wire_frames_from (place + 1) count parts)) (sym at)
           (rising (place + 1) count parts (omega arith) few),
     )
 
 -- the frames of a message have rising places
-pub frames_rise : (m : Message) → HasBagFrames m → AreFramesRising 0 (length (chunks m)) (frames m)
-frames_rise m has = rising 0 (length (chunks m)) (chunks m) (omega arith) (few_frames m has)
+pub frames_rise : (m : Message) → HasBagFrames m → AreWireFramesRising 0 (length (wire_chunks m)) (frames m)
+frames_rise m has = rising 0 (length (wire_chunks m)) (wire_chunks m) (omega arith) (few_frames m has)
 
-pub length_from : (place count : ℕ) (parts : List (List ℕ)) → length (frames_from place count parts) ≡ length parts
+pub length_from : (place count : ℕ) (parts : List (List ℕ)) → length (wire_frames_from place count parts) ≡ length parts
 length_from place count [] = refl
 length_from place count (part ∷ parts) = ap suc (length_from (place + 1) count parts)
 
-pub length_frames : (m : Message) → length (frames m) ≡ length (chunks m)
-length_frames m = length_from 0 (length (chunks m)) (chunks m)
+pub length_frames : (m : Message) → length (frames m) ≡ length (wire_chunks m)
+length_frames m = length_from 0 (length (wire_chunks m)) (wire_chunks m)
 
 -- ---- lengths
 
@@ -76,7 +76,7 @@ all_of b bytes short long = record {
 }
 
 -- what fits and has no tables is short: of a stamp the version and its list
-fits_short : (b : Body) → bag_tables_version b ≡ None → fields_fit b ≡ true
+fits_short : (b : Body) → bag_tables_version b ≡ None → wire_fields_fit b ≡ true
     → length (wire_spelled_fields b) ≤ 521
 unfolding stamp_form
 fits_short (Install boot t) alone fits = absurd cc
@@ -86,33 +86,33 @@ fits_short (Stamp boot version touched) alone fits =
     (few_words touched (and_parts (n4.fits version) (form.touched.fits touched) rest).1)
 fits_short b alone fits = omega (arith, fields_short b refl)
 
-head_is : (b : Body) (bytes : List ℕ) → fields_fit b ≡ true
-    → length bytes ≡ 2 + length (wire_spelled_fields b) → IsChunk (take (first_chunk_len b bytes) bytes)
+head_is : (b : Body) (bytes : List ℕ) → wire_fields_fit b ≡ true
+    → length bytes ≡ 2 + length (wire_spelled_fields b) → IsChunk (take (wire_first_chunk_len b bytes) bytes)
 head_is (Install boot t) bytes fits long = record {
   some = omega (arith, length-take 6 bytes, install_long boot t);
   short = omega (arith, length-take 6 bytes);
 }
 head_is b bytes fits long = all_of b bytes (fits_short b refl fits) long
 
-pub fields_of_message : (m : Message) → message.fits m ≡ true → fields_fit m.body ≡ true
+pub fields_of_message : (m : Message) → message.fits m ≡ true → wire_fields_fit m.body ≡ true
 unfolding message body
-fields_of_message m fits = (and_parts (receiver.fits m.to) (fields_fit m.body)
-    (and_parts (receiver.fits m.to && fields_fit m.body) (wire_body_suits_receiver m.to m.body) fits).0).1
+fields_of_message m fits = (and_parts (receiver.fits m.to) (wire_fields_fit m.body)
+    (and_parts (receiver.fits m.to && wire_fields_fit m.body) (wire_body_suits_receiver m.to m.body) fits).0).1
 
-chunks_are : (m : Message) → message.fits m ≡ true → AllByRecursion IsChunk (chunks m)
+chunks_are : (m : Message) → message.fits m ≡ true → AllByRecursion IsChunk (wire_chunks m)
 chunks_are m fits =
     let bytes = message.spell m in
-    let rest = length bytes - first_chunk_len m.body bytes in (
+    let rest = length bytes - wire_first_chunk_len m.body bytes in (
       head_is m.body bytes (fields_of_message m fits) (length_message m),
-      slices_are (div_ceil rest most_of_chunk) (drop (first_chunk_len m.body bytes) bytes) (omega (
+      slices_are (div_ceil rest most_of_chunk) (drop (wire_first_chunk_len m.body bytes) bytes) (omega (
         arith,
-        length-drop (first_chunk_len m.body bytes) bytes,
+        length-drop (wire_first_chunk_len m.body bytes) bytes,
         (div_ceil_times rest most_of_chunk (omega arith)).1,
       )),
     )
 
 sized : (place count : ℕ) (parts : List (List ℕ)) → AllByRecursion IsChunk parts
-    → AllByRecursion IsSized (frames_from place count parts)
+    → AllByRecursion IsSized (wire_frames_from place count parts)
 sized place count [] are = tt
 sized place count (part ∷ parts) are =
     let one : IsSized (frame place count part) = record {
@@ -123,4 +123,4 @@ sized place count (part ∷ parts) are =
 
 pub frames_sized : (m : Message) → message.fits m ≡ true → All IsSized (frames m)
 frames_sized m fits =
-    All-from_recursion IsSized (frames m) (sized 0 (length (chunks m)) (chunks m) (chunks_are m fits))
+    All-from_recursion IsSized (frames m) (sized 0 (length (wire_chunks m)) (wire_chunks m) (chunks_are m fits))

@@ -2,7 +2,7 @@
 use Rattle.std.proofs.Common.{[], if◌then◌else◌, ◌++◌, ◌-◌, ◌<◌, ◌∙◌, ◌∷◌, ◌≡◌, ◌≤◌, Bool, List, None, Ok, Option, Some, ap, arith, false, is_some, length, min, not, option_and_then, refl, set, slice_get, suc, sym, true, zero, zip, ℕ}
 use Rattle.base.proofs.Exports.{length-zip, option_map_or, seconds-zip, zip_pushed}
 use Rattle.ctrl_msg.specs.declared.message.Message.{Message}
-use Rattle.message_bag.specs.Exports.{HasPosted, Post, frames_posted, is_deliverable, may_be_delivered, new_post, posted_frames, bag_frames_remembered, post_statuses_of, bag_waiting_status, bag_with_changed, post_with_status}
+use Rattle.message_bag.specs.Exports.{HasPosted, Post, frames_posted, is_deliverable, may_be_delivered, new_post, posted_frames, bag_frames_remembered, bag_post_statuses, bag_waiting_status, bag_with_changed, post_with_status}
 use Rattle.message_bag.specs.declared.deliveries.MessageState.{MessageState}
 
 -- what became of one changes
@@ -48,7 +48,7 @@ posts_changed change all statuses after posts number same are made =
     cc (made, zip_changed change all statuses number same, are)
 
 pub statuses_of_zip : (all : List (List (List ℕ))) (statuses : List MessageState)
-    → length all ≡ length statuses → post_statuses_of (zip all statuses) ≡ statuses
+    → length all ≡ length statuses → bag_post_statuses (zip all statuses) ≡ statuses
 statuses_of_zip all statuses same = seconds-zip all statuses (sym same)
 
 pub length_of_zip : (all : List (List (List ℕ))) (statuses : List MessageState)

@@ -3,7 +3,7 @@
 use Rattle.std.proofs.Common.{[], ◌+◌, ◌<◌, ◌^◌, ◌∙◌, ◌∷◌, ◌≡◌, ◌≢◌, ◌≤◌, Contains, IsSome, List, Some, ap, arith, inl, inr, le-ltb, length, lt-ltb, ltb, slice_get, subst, suc, sym, true, zero, ℕ}
 use Rattle.base.proofs.Exports.{cases_lt, same_Some, slice_get_within, some_passes}
 use Rattle.ctrl_msg.specs.declared.message.Message.{Message}
-use Rattle.wire.specs.Exports.{AreWireFramesHeld, IsRefusedFrame, chunks, count_in_frame, frame, frames, frames_from, frame_held_at, place_in_frame, frames_with_frame}
+use Rattle.wire.specs.Exports.{AreWireFramesHeld, IsRefusedFrame, wire_chunks, count_in_frame, frame, frames, wire_frames_from, frame_held_at, place_in_frame, frames_with_frame}
 use Rattle.wire.proofs.WireFrameBytes.{place_of_frame}
 use Rattle.wire.proofs.WireFramesHeld.{all_held}
 use Rattle.message_bag.specs.Exports.{HasBagFrames}
@@ -19,13 +19,13 @@ pub none_before : (m : Message) → frames_before m 0 ≡ []
 none_before m = part_none (λ n. ltb n 0) (frames m) (λ n. le-ltb n 0 (omega arith))
 
 pub all_before : (m : Message) → HasBagFrames m → frames_before m (length (frames m)) ≡ frames m
-all_before m has = part_all (λ n. ltb n (length (frames m))) 0 (length (chunks m)) (frames m)
+all_before m has = part_all (λ n. ltb n (length (frames m))) 0 (length (wire_chunks m)) (frames m)
     (frames_rise m has) (λ n lt. lt-ltb _ _ (omega (arith, length_frames m)))
 
 -- ---- the frame of a place
 
 place_from : (place count : ℕ) (parts : List (List ℕ)) (i : ℕ) (f : List ℕ) → place + length parts ≤ count
-    → count < 2 ^ 32 → slice_get (frames_from place count parts) i ≡ Some f → place_in_frame f ≡ place + i
+    → count < 2 ^ 32 → slice_get (wire_frames_from place count parts) i ≡ Some f → place_in_frame f ≡ place + i
 place_from place count [] i f within few at = absurd (cc at)
 place_from place count (part ∷ parts) zero f within few at =
     ap place_in_frame (sym (same_Some (frame place count part) f at))
@@ -62,7 +62,7 @@ comes_next m place f has at = record {
   held = joined;
   some = λ last. subst (AreWireFramesHeld (frames_before m (place + 1))) (sym one.of.count_is)
       (rw (ap (frames_before m) last ∙ all_before m has)
-      (all_held (length (chunks m)) (frames m) (frames_rise m has) (length_frames m)));
+      (all_held (length (wire_chunks m)) (frames m) (frames_rise m has) (length_frames m)));
   none = λ held. elim (cases_lt (place + 1) (length (frames m))) [
     | inl lt ↦ absurd (missing (place + 1)
         (subst (AreWireFramesHeld (frames_before m (place + 1))) one.of.count_is held (place + 1) (omega (arith, length_frames m))))
@@ -78,10 +78,10 @@ comes_next m place f has at = record {
   one = is_one_of m f has (there (frames m) place f at)
 
   here : place_in_frame f ≡ place
-  here = place_from 0 (length (chunks m)) (chunks m) place f (omega arith) (few_frames m has) at
+  here = place_from 0 (length (wire_chunks m)) (wire_chunks m) place f (omega arith) (few_frames m has) at
       ∙ omega arith
 
   joined : frames_with_frame (frames_before m place) f ≡ frames_before m (place + 1)
-  joined = with_part (λ n. ltb n place) (λ n. ltb n (place + 1)) 0 (length (chunks m)) (frames m)
+  joined = with_part (λ n. ltb n place) (λ n. ltb n (place + 1)) 0 (length (wire_chunks m)) (frames m)
       f (frames_rise m has) one.at (λ n other. beside n place (λ e. other (e ∙ sym here)))
       (lt-ltb _ _ (omega (arith, here)))

@@ -5,7 +5,7 @@ use Rattle.ctrl_msg.specs.declared.message.Body.{Body}
 use Rattle.ctrl_msg.specs.declared.message.Body.TheVariants.{Install}
 use Rattle.ctrl_msg.specs.declared.message.Message.{Message}
 use Rattle.ctrl_msg.specs.declared.message.Place.{Place}
-use Rattle.wire.specs.Exports.{body, chunks_behind_head, wire_equal_chunks, frames, frames_from, frames_of, wire_frames_of_receiver, first_chunk_len, message, most_of_chunk, receiver}
+use Rattle.wire.specs.Exports.{body, wire_chunks_behind_head, wire_equal_chunks, frames, wire_frames_from, frames_of, wire_frames_of_receiver, wire_first_chunk_len, message, most_of_chunk, receiver}
 use Rattle.message_bag.proofs.BagSpellingLengths.{length_receiver}
 use Rattle.message_bag.proofs.BagTablesRestamped.{replaced}
 
@@ -19,7 +19,7 @@ first_len (Install boot t) rest = 5
 first_len b rest = length rest
 
 head_is : (b : Body) (to : Place) (rest : List ℕ)
-    → first_chunk_len b (receiver.spell to ++ rest) ≡ length (receiver.spell to) + first_len b rest
+    → wire_first_chunk_len b (receiver.spell to ++ rest) ≡ length (receiver.spell to) + first_len b rest
 head_is (Install boot t) to rest = omega (arith, length_receiver to)
 head_is b to rest = length-append (receiver.spell to) rest
 
@@ -27,7 +27,7 @@ head_is b to rest = length-append (receiver.spell to) rest
 abbrev others : ℕ → List ℕ → List (List ℕ)
 others len rest = wire_equal_chunks (div_ceil (length rest - len) most_of_chunk) most_of_chunk (drop len rest)
 
-cut : (first rest : List ℕ) (len : ℕ) → chunks_behind_head (length first + len) (first ++ rest)
+cut : (first rest : List ℕ) (len : ℕ) → wire_chunks_behind_head (length first + len) (first ++ rest)
     ≡ (first ++ take len rest) ∷ others len rest
 cut first rest len =
     let left : length (first ++ rest) - (length first + len) ≡ length rest - len =
@@ -42,8 +42,8 @@ framed b to =
 
 frames_are : (m : Message) → frames m ≡ framed m.body (receiver.spell m.to)
 frames_are m = let rest = body.spell m.body in
-    ap (λ bytes. frames_of (chunks_behind_head (first_chunk_len m.body bytes) bytes)) (spelled m)
-    ∙ ap (λ head. frames_of (chunks_behind_head head (receiver.spell m.to ++ rest))) (head_is m.body m.to rest)
+    ap (λ bytes. frames_of (wire_chunks_behind_head (wire_first_chunk_len m.body bytes) bytes)) (spelled m)
+    ∙ ap (λ head. frames_of (wire_chunks_behind_head head (receiver.spell m.to ++ rest))) (head_is m.body m.to rest)
     ∙ ap frames_of (cut (receiver.spell m.to) rest (first_len m.body rest))
 
 pub of_another_receiver : (m : Message) (to : Place)
@@ -53,6 +53,6 @@ of_another_receiver m to =
     let len = first_len m.body rest in
     let count = suc (length (others len rest)) in
     frames_are (record m { to = to })
-    ∙ ap (λ f. f ∷ frames_from 1 count (others len rest))
+    ∙ ap (λ f. f ∷ wire_frames_from 1 count (others len rest))
     (sym (replaced 0 count (receiver.spell m.to) (receiver.spell to) (take len rest) 9 (omega (arith, length_receiver m.to))))
     ∙ ap (wire_frames_of_receiver to) (sym (frames_are m))

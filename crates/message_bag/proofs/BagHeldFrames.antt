@@ -1,28 +1,28 @@
 -- Those of rising frames whose places pass a test, as an assembler holds them.
 use Rattle.std.proofs.Common.{[], ◌+◌, ◌<◌, ◌∙◌, ◌∷◌, ◌≡◌, ◌≢◌, ◌≤◌, Bool, Contains, IsSome, List, None, Option, Some, ap, arith, cond, eqb, false, filter, inl, inr, le-ltb, length, lt-ltb, ltb, ne_eqb, refl, slice_index_or, suc, sym, true, zero, ℕ}
 use Rattle.base.proofs.Exports.{cases_eq, cases_lt, none_is_not}
-use Rattle.wire.specs.Exports.{AreFramesRising, frame_held_at, place_in_frame, frames_with_frame}
+use Rattle.wire.specs.Exports.{AreWireFramesRising, frame_held_at, place_in_frame, frames_with_frame}
 use Rattle.wire.proofs.WireFramesHeld.{all_higher, first_is, held_above, none_lower, step_held, same_place}
 
 abbrev pub part : (ℕ → Bool) → List (List ℕ) → List (List ℕ)
 part p fs = filter (λ f. p (place_in_frame f)) fs
 
-later : (from less count : ℕ) (fs : List (List ℕ)) → less ≤ from → AreFramesRising from count fs → AreFramesRising less count fs
+later : (from less count : ℕ) (fs : List (List ℕ)) → less ≤ from → AreWireFramesRising from count fs → AreWireFramesRising less count fs
 later from less count [] le rising = tt
 later from less count (f ∷ fs) le rising = (omega (arith, rising.0), rising.1, rising.2)
 
-pub part_rises : (p : ℕ → Bool) (from count : ℕ) (fs : List (List ℕ)) → AreFramesRising from count fs
-    → AreFramesRising from count (part p fs)
+pub part_rises : (p : ℕ → Bool) (from count : ℕ) (fs : List (List ℕ)) → AreWireFramesRising from count fs
+    → AreWireFramesRising from count (part p fs)
 part_rises p from count [] rising = tt
 part_rises p from count (f ∷ fs) rising =
     by_test (p (place_in_frame f)) (part_rises p (place_in_frame f + 1) count fs rising.2)
   where
-    by_test : (b : Bool) → AreFramesRising (place_in_frame f + 1) count (part p fs)
-        → AreFramesRising from count (cond b (f ∷ part p fs) (part p fs))
+    by_test : (b : Bool) → AreWireFramesRising (place_in_frame f + 1) count (part p fs)
+        → AreWireFramesRising from count (cond b (f ∷ part p fs) (part p fs))
     by_test true rest = (rising.0, rising.1, rest)
     by_test false rest = later (place_in_frame f + 1) from count (part p fs) (omega (arith, rising.0)) rest
 
-pub part_all : (p : ℕ → Bool) (from count : ℕ) (fs : List (List ℕ)) → AreFramesRising from count fs
+pub part_all : (p : ℕ → Bool) (from count : ℕ) (fs : List (List ℕ)) → AreWireFramesRising from count fs
     → ((n : ℕ) → n < count → p n ≡ true) → part p fs ≡ fs
 part_all p from count [] rising all = refl
 part_all p from count (f ∷ fs) rising all =
@@ -33,7 +33,7 @@ part_none p [] none = refl
 part_none p (f ∷ fs) none = rw (none (place_in_frame f)) (part_none p fs none)
 
 -- tests that agree from a place on
-part_same : (p q : ℕ → Bool) (from count : ℕ) (fs : List (List ℕ)) → AreFramesRising from count fs
+part_same : (p q : ℕ → Bool) (from count : ℕ) (fs : List (List ℕ)) → AreWireFramesRising from count fs
     → ((n : ℕ) → from ≤ n → q n ≡ p n) → part q fs ≡ part p fs
 part_same p q from count [] rising same = refl
 part_same p q from count (f ∷ fs) rising same =
@@ -65,7 +65,7 @@ held_part p (f ∷ fs) n = let rest = held_part p fs n in
     behind false miss rest = rw miss rest
 
 -- one frame more: the test now passes its place too
-pub with_part : (p q : ℕ → Bool) (from count : ℕ) (fs : List (List ℕ)) (f : List ℕ) → AreFramesRising from count fs
+pub with_part : (p q : ℕ → Bool) (from count : ℕ) (fs : List (List ℕ)) (f : List ℕ) → AreWireFramesRising from count fs
     → frame_held_at fs (place_in_frame f) ≡ Some f → ((n : ℕ) → n ≢ place_in_frame f → q n ≡ p n) → q (place_in_frame f) ≡ true
     → frames_with_frame (part p fs) f ≡ part q fs
 with_part p q from count [] f rising at same here = absurd (none_is_not f at)
@@ -99,13 +99,13 @@ with_part p q from count (g ∷ gs) f rising at same here =
 
     among : (b : Bool) → place_in_frame g ≡ place_in_frame f → frames_with_frame (cond b (g ∷ part p gs) (part p gs)) f ≡ f ∷ part p gs
     among b one =
-        let rises : AreFramesRising (place_in_frame g + 1) count (part p gs) = part_rises p (place_in_frame g + 1) count gs rising.2 in
+        let rises : AreWireFramesRising (place_in_frame g + 1) count (part p gs) = part_rises p (place_in_frame g + 1) count gs rising.2 in
         among_later b one (none_lower (place_in_frame g + 1) count (part p gs) (place_in_frame f) rises (omega arith))
         (all_higher (place_in_frame g + 1) count (part p gs) (place_in_frame f) rises (omega arith))
 
 -- ---- frames that are in a list
 
-held_from : (from count : ℕ) (fs : List (List ℕ)) (f : List ℕ) (k : ℕ) → AreFramesRising from count fs → k < length fs
+held_from : (from count : ℕ) (fs : List (List ℕ)) (f : List ℕ) (k : ℕ) → AreWireFramesRising from count fs → k < length fs
     → slice_index_or fs k f ≡ f → frame_held_at fs (place_in_frame f) ≡ Some f
 held_from from count [] f k rising lt is = absurd (omega arith)
 held_from from count (g ∷ gs) f zero rising lt is = let same : g ≡ f = is in rw (same, same_place (place_in_frame f)) refl
@@ -115,7 +115,7 @@ held_from from count (g ∷ gs) f (suc k) rising lt is =
     step_held g gs (place_in_frame f) (omega arith) ∙ rest
 
 -- each of rising frames is held at its place
-pub held_there : (from count : ℕ) (fs : List (List ℕ)) (f : List ℕ) → AreFramesRising from count fs → Contains fs f
+pub held_there : (from count : ℕ) (fs : List (List ℕ)) (f : List ℕ) → AreWireFramesRising from count fs → Contains fs f
     → frame_held_at fs (place_in_frame f) ≡ Some f
 held_there from count fs f rising there = held_from from count fs f there.0 rising there.1 there.2
 

@@ -6,7 +6,7 @@ use Rattle.ctrl_msg.specs.declared.message.Body.TheVariants.{Install}
 use Rattle.ctrl_msg.specs.declared.message.Message.{Message}
 use Rattle.ctrl_msg.specs.declared.message.Place.{Place}
 use Rattle.switch_table.specs.declared.tables.Tables.{Tables}
-use Rattle.wire.specs.Exports.{AreFrames, IsFront, chunk_of, chunks_behind_head, frame, frames, frames_of, wire_frames_of_version, first_chunk_len, message, message_front, n4, spelled_front, wire_body_suits_receiver, tables}
+use Rattle.wire.specs.Exports.{AreFrames, IsFront, chunk_in_frame, wire_chunks_behind_head, frame, frames, frames_of, wire_frames_of_version, wire_first_chunk_len, message, message_front, n4, spelled_front, wire_body_suits_receiver, tables}
 use Rattle.wire.proofs.WireFrameBytes.{length_frame, length_n4, chunk_of_frame}
 use Rattle.wire.proofs.WireInstallationFronts.{one_front}
 use Rattle.message_bag.specs.Exports.{AreBagFramesOfInstall, AreBagFramesOfMessage, BagFramesCarryTables, frame_count, bag_install_frames, bag_table_frames, bag_tables_version}
@@ -16,17 +16,17 @@ use Rattle.message_bag.proofs.BagInstallationSpelling.{fits_parts, fits_whole, i
 
 -- ---- a message of one frame
 
-whole : (bytes : List ℕ) → chunks_behind_head (length bytes) bytes ≡ bytes ∷ []
+whole : (bytes : List ℕ) → wire_chunks_behind_head (length bytes) bytes ≡ bytes ∷ []
 whole bytes = let none : length bytes - length bytes ≡ 0 = omega arith in
     rw (none, take_all (length bytes) bytes (omega arith)) refl
 
-head_of : (b : Body) (bytes : List ℕ) → bag_tables_version b ≡ None → first_chunk_len b bytes ≡ length bytes
+head_of : (b : Body) (bytes : List ℕ) → bag_tables_version b ≡ None → wire_first_chunk_len b bytes ≡ length bytes
 head_of (Install boot t) bytes alone = absurd cc
 head_of b bytes alone = refl
 
 pub only_frame : (m : Message) → bag_tables_version m.body ≡ None → frames m ≡ frame 0 1 (message.spell m) ∷ []
 only_frame m alone =
-    ap frames_of (ap (λ head. chunks_behind_head head (message.spell m))
+    ap frames_of (ap (λ head. wire_chunks_behind_head head (message.spell m))
     (head_of m.body (message.spell m) alone) ∙ whole (message.spell m))
 
 -- ---- an installation
@@ -170,7 +170,7 @@ is_installed : (first : List ℕ) (t : Tables) → AreBagFramesOfMessage (first 
 is_installed first t of = of_body of.0.to of.0.body first t of.1.fits of.2
 
 pub has_front : (first bytes : List ℕ) (t : Tables) → AreBagFramesOfMessage (first ∷ bag_table_frames t)
-    → bytes ≡ chunk_of first → (to : Place) × (boot : ℕ) × IsFront to boot bytes
+    → bytes ≡ chunk_in_frame first → (to : Place) × (boot : ℕ) × IsFront to boot bytes
 has_front first bytes t of is = let i = is_installed first t of in (
   i.to,
   i.boot,
@@ -181,7 +181,7 @@ has_front first bytes t of is = let i = is_installed first t of in (
 )
 
 pub again_installed : (first bytes : List ℕ) (t : Tables) (to : Place) (boot : ℕ) → AreBagFramesOfMessage (first ∷ bag_table_frames t)
-    → tables.fits t ≡ true → bytes ≡ chunk_of first → IsFront to boot bytes
+    → tables.fits t ≡ true → bytes ≡ chunk_in_frame first → IsFront to boot bytes
     → AreFrames (record { to = to; body = Install boot t }) (first ∷ bag_table_frames t)
 unfolding has_front is_installed
 again_installed first bytes t to boot of fits is front_is =

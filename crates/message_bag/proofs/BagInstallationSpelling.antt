@@ -5,7 +5,7 @@ use Rattle.ctrl_msg.specs.declared.message.Place.{Place}
 use Rattle.ctrl_msg.specs.declared.message.Place.TheVariants.{Switch, Controller}
 use Rattle.ctrl_msg.specs.declared.message.Body.TheVariants.{Install}
 use Rattle.switch_table.specs.declared.tables.Tables.{Tables}
-use Rattle.wire.specs.Exports.{body, chunks_behind_head, wire_equal_chunks, frame, frames, frames_from, frames_of, install_form, wire_list_of, message, message_front, most_of_chunk, n1, n4, partition, receiver, region, spelled_front, wire_body_suits_receiver, tables}
+use Rattle.wire.specs.Exports.{body, wire_chunks_behind_head, wire_equal_chunks, frame, frames, wire_frames_from, frames_of, install_form, wire_list_of, message, message_front, most_of_chunk, n1, n4, partition, receiver, region, spelled_front, wire_body_suits_receiver, tables}
 use Rattle.wire.proofs.WireSpellingCuts.{length-slices}
 use Rattle.wire.proofs.WireFrameBytes.{length_n4}
 use Rattle.message_bag.specs.Exports.{frame_count, bag_install_frames, bag_table_chunks, bag_table_frames}
@@ -30,7 +30,7 @@ length_front to boot = omega (
   length_n4 boot,
 )
 
-cut_behind : (head rest : List ℕ) → length head ≡ 6 → chunks_behind_head 6 (head ++ rest)
+cut_behind : (head rest : List ℕ) → length head ≡ 6 → wire_chunks_behind_head 6 (head ++ rest)
     ≡ head ∷ wire_equal_chunks (div_ceil (length rest) most_of_chunk) most_of_chunk rest
 cut_behind head rest len =
     let left : length (head ++ rest) - 6 ≡ length rest = omega (arith, length-append head rest) in
@@ -38,9 +38,9 @@ cut_behind head rest len =
 
 pub installed : (to : Place) (boot : ℕ) (t : Tables)
     → frames (record { to = to; body = Install boot t }) ≡ bag_install_frames to boot t
-installed to boot t = ap frames_of (ap (chunks_behind_head 6) (spelled to boot t)
+installed to boot t = ap frames_of (ap (wire_chunks_behind_head 6) (spelled to boot t)
     ∙ cut_behind (spelled_front to boot) (tables.spell t) (length_front to boot))
-    ∙ ap (λ n. frame 0 n (spelled_front to boot) ∷ frames_from 1 n (bag_table_chunks t))
+    ∙ ap (λ n. frame 0 n (spelled_front to boot) ∷ wire_frames_from 1 n (bag_table_chunks t))
     (sym (add-one (length (bag_table_chunks t))))
 
 -- ---- which installations have a spelling

@@ -2,7 +2,7 @@
 use Rattle.std.proofs.Common.{[], ◌+◌, ◌-◌, ◌^◌, ◌∙◌, ◌∷◌, ◌≡◌, ◌≤◌, All, List, Some, add-one, ap, append-nil, arith, drop, length, length-drop, refl, slice_get, subst, sym, take, take_all, ℕ}
 use Rattle.base.proofs.Exports.{All-head, slice_get_within}
 use Rattle.ctrl_msg.specs.declared.message.Message.{Message}
-use Rattle.wire.specs.Exports.{AreWireFramesHeld, AreFrames, IsRefusedFrame, IsSpelling, chunk_of, count_in_frame, frames, frames_with_frame}
+use Rattle.wire.specs.Exports.{AreWireFramesHeld, AreFrames, IsRefusedFrame, IsWireSpelling, chunk_in_frame, count_in_frame, frames, frames_with_frame}
 use Rattle.wire.proofs.WireFrameAssembly.{spelled_by}
 use Rattle.wire.proofs.WireDecoding.{one_message}
 use Rattle.message_bag.specs.Exports.{AreBagFramesOfMessage, HasBagFrames}
@@ -13,14 +13,14 @@ pub are_frames : (m : Message) (fs : List (List ℕ)) → HasBagFrames m → fs 
 are_frames m fs has is = record { fits = has.fits; frames_are = is }
 
 -- the one chunk is the spelling
-pub spelled_alone : (f : List ℕ) → (of : AreBagFramesOfMessage (f ∷ [])) → IsSpelling of.0 (chunk_of f)
-spelled_alone f of = subst (IsSpelling of.0) (append-nil (chunk_of f))
+pub spelled_alone : (f : List ℕ) → (of : AreBagFramesOfMessage (f ∷ [])) → IsWireSpelling of.0 (chunk_in_frame f)
+spelled_alone f of = subst (IsWireSpelling of.0) (append-nil (chunk_in_frame f))
     (spelled_by of.0 (f ∷ []) (are_frames of.0 (f ∷ []) of.1 of.2))
 
-pub alone_are : (f bytes : List ℕ) (m : Message) → AreBagFramesOfMessage (f ∷ []) → bytes ≡ chunk_of f
-    → IsSpelling m bytes → AreFrames m (f ∷ [])
+pub alone_are : (f bytes : List ℕ) (m : Message) → AreBagFramesOfMessage (f ∷ []) → bytes ≡ chunk_in_frame f
+    → IsWireSpelling m bytes → AreFrames m (f ∷ [])
 alone_are f bytes m of is spelled =
-    let same : m ≡ of.0 = one_message (chunk_of f) m of.0 (subst (IsSpelling m) is spelled)
+    let same : m ≡ of.0 = one_message (chunk_in_frame f) m of.0 (subst (IsWireSpelling m) is spelled)
     (spelled_alone f of) in
     subst (λ n. AreFrames n (f ∷ [])) (sym same) (are_frames of.0 (f ∷ []) of.1 of.2)
 
@@ -99,5 +99,5 @@ long_alone f of =
     omega (arith, sized.long)
 
 -- what follows the header
-pub rest_is : (f : List ℕ) → take (length f - 8) (drop 8 f) ≡ chunk_of f
+pub rest_is : (f : List ℕ) → take (length f - 8) (drop 8 f) ≡ chunk_in_frame f
 rest_is f = take_all (length f - 8) (drop 8 f) (omega (arith, length-drop 8 f))

@@ -3,7 +3,7 @@ use Rattle.std.proofs.Common.{[], ◌++◌, ◌-◌, ◌∙◌, ◌∷◌, ◌�
 use Rattle.base.proofs.Exports.{IfSome-at_place, slice_get-map}
 use Rattle.ctrl_msg.specs.declared.message.Message.{Message}
 use Rattle.message_bag.proofs.BagNumberedPosts.{all_posted, mapped_again, still_numbered}
-use Rattle.message_bag.specs.Exports.{AreBagKeptFrames, ArePostedAdverts, First, HasPosted, IsPostLike, IsAdvertPostedInBag, bag_frames_in, item_numbered, posted_frames}
+use Rattle.message_bag.specs.Exports.{AreBagKeptFrames, AreAdvertsPostedInBag, First, HasPosted, IsPostLike, IsAdvertPostedInBag, bag_frames_in, item_numbered, posted_frames}
 use Rattle.message_bag.specs.declared.sharing_bag.PostedAdvert.{PostedAdvert}
 
 -- ---- a message once more
@@ -34,16 +34,16 @@ module _ {E : Type 0} (kept : List (List (List ℕ))) (firsts longer : List Firs
 
 -- they are still posted behind one more message
 pub adverts_posted : {E : Type 0} (r : Result ℕ E) (more : List (List ℕ)) (bag longer : List (List (List ℕ)))
-    (adverts : List (Option PostedAdvert)) → HasPosted r more bag longer → ArePostedAdverts bag adverts
-    → ArePostedAdverts longer adverts
+    (adverts : List (Option PostedAdvert)) → HasPosted r more bag longer → AreAdvertsPostedInBag bag adverts
+    → AreAdvertsPostedInBag longer adverts
 adverts_posted r more bag longer adverts post posted = λ place. by_one (get_or adverts place None) (posted place) where
   by_one : (o : Option PostedAdvert) → IsAdvertPostedInBag bag o → IsAdvertPostedInBag longer o
   by_one None is = tt
   by_one (Some last) is = still_numbered more bag longer (posted_frames last.message) last.number r post is
 
 pub again_posted : {E : Type 0} (r : Result ℕ E) (bag longer : List (List (List ℕ))) (adverts : List (Option PostedAdvert))
-    (place : ℕ) (last : PostedAdvert) → ArePostedAdverts bag adverts → get_or adverts place None ≡ Some last
-    → IfSome (item_numbered bag last.number) (λ fs. HasPosted r fs bag longer) → ArePostedAdverts longer adverts
+    (place : ℕ) (last : PostedAdvert) → AreAdvertsPostedInBag bag adverts → get_or adverts place None ≡ Some last
+    → IfSome (item_numbered bag last.number) (λ fs. HasPosted r fs bag longer) → AreAdvertsPostedInBag longer adverts
 again_posted r bag longer adverts place last posted there again =
     adverts_posted r (posted_frames last.message) bag longer adverts
     (rw (subst (IsAdvertPostedInBag bag) there (posted place)) at again) posted
@@ -51,12 +51,12 @@ again_posted r bag longer adverts place last posted there again =
 -- those of more places
 pub all_same : (bag : List (List (List ℕ))) (adverts more : List (Option PostedAdvert))
     → ((place : ℕ) → get_or more place None ≡ get_or adverts place None)
-    → ArePostedAdverts bag adverts → ArePostedAdverts bag more
+    → AreAdvertsPostedInBag bag adverts → AreAdvertsPostedInBag bag more
 all_same bag adverts more same posted = λ place. subst (IsAdvertPostedInBag bag) (sym (same place)) (posted place)
 
 -- one more at a place
 pub one_set : (bag : List (List (List ℕ))) (adverts : List (Option PostedAdvert)) (place : ℕ) (o : Option PostedAdvert)
-    → ArePostedAdverts bag adverts → IsAdvertPostedInBag bag o → ArePostedAdverts bag (set adverts place o)
+    → AreAdvertsPostedInBag bag adverts → IsAdvertPostedInBag bag o → AreAdvertsPostedInBag bag (set adverts place o)
 one_set bag [] place o posted is k = posted k
 one_set bag (a ∷ adverts) zero o posted is zero = is
 one_set bag (a ∷ adverts) zero o posted is (suc k) = posted (suc k)
@@ -66,7 +66,7 @@ one_set bag (a ∷ adverts) (suc place) o posted is (suc k) =
 
 -- the message of an advert that says the same, perhaps to another receiver
 pub likened : (bag : List (List (List ℕ))) (adverts : List (Option PostedAdvert)) (place : ℕ) (last : PostedAdvert) (m : Message)
-    → ArePostedAdverts bag adverts → get_or adverts place None ≡ Some last → last.message.body ≡ m.body
+    → AreAdvertsPostedInBag bag adverts → get_or adverts place None ≡ Some last → last.message.body ≡ m.body
     → IsPostLike bag last.number m
 likened bag adverts place last m posted there same =
     let is : IsAdvertPostedInBag bag (Some last) = subst (IsAdvertPostedInBag bag) there (posted place) in

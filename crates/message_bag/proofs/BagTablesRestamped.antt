@@ -4,7 +4,7 @@ use Rattle.base.proofs.Exports.{and_parts, div_ceil, div_ceil_times, drop-append
 use Rattle.ctrl_msg.specs.declared.message.Place.{Place}
 use Rattle.ctrl_msg.specs.declared.message.Body.TheVariants.{Install}
 use Rattle.switch_table.specs.declared.tables.Tables.{Tables}
-use Rattle.wire.specs.Exports.{wire_equal_chunks, frame, frames, frames_from, wire_frames_of_version, wire_list_of, most_of_chunk, n4, partition, region, spelled_front, tables}
+use Rattle.wire.specs.Exports.{wire_equal_chunks, frame, frames, wire_frames_from, wire_frames_of_version, wire_list_of, most_of_chunk, n4, partition, region, spelled_front, tables}
 use Rattle.wire.proofs.WireFrameBytes.{length_n4}
 use Rattle.message_bag.specs.Exports.{frame_count, bag_table_chunks, bag_table_frames}
 use Rattle.message_bag.proofs.BagInstallationSpelling.{installed}
@@ -55,8 +55,8 @@ pub same_count : (version : ℕ) (t : Tables) → frame_count (record t { versio
 same_count version t = count_is (record t { version = version }) ∙ sym (count_is t)
 
 frames_are : (t : Tables) → bag_table_frames t
-    ≡ frame 1 (frame_count t) (n4.spell t.version ++ take 16372 (rows t)) ∷ frames_from 2 (frame_count t) (others (rows t))
-frames_are t = ap (frames_from 1 (frame_count t)) (chunks_are t)
+    ≡ frame 1 (frame_count t) (n4.spell t.version ++ take 16372 (rows t)) ∷ wire_frames_from 2 (frame_count t) (others (rows t))
+frames_are t = ap (wire_frames_from 1 (frame_count t)) (chunks_are t)
 
 -- a frame whose chunk begins with other bytes
 pub replaced : (place count : ℕ) (head new rest : List ℕ) (end : ℕ) → end ≡ 8 + length head
@@ -81,10 +81,10 @@ pub behind : (version : ℕ) (first : List ℕ) (t : Tables)
 behind version first t =
     let count = frame_count t in
     let rest = take 16372 (rows t) in
-    let last = frames_from 2 count (others (rows t)) in
+    let last = wire_frames_from 2 count (others (rows t)) in
     ap (λ fs. wire_frames_of_version version (first ∷ fs)) (frames_are t)
     ∙ ap (λ f. first ∷ f ∷ last) (replaced 1 count (n4.spell t.version) (n4.spell version) rest 12 (omega (arith, length_n4 t.version)))
-    ∙ ap (λ n. first ∷ frame 1 n (n4.spell version ++ rest) ∷ frames_from 2 n (others (rows t))) (sym (same_count version t))
+    ∙ ap (λ n. first ∷ frame 1 n (n4.spell version ++ rest) ∷ wire_frames_from 2 n (others (rows t))) (sym (same_count version t))
     ∙ ap (λ fs. first ∷ fs) (sym (frames_are (record t { version = version })))
 
 pub of_another_version : (to : Place) (boot version : ℕ) (t : Tables)

@@ -1,7 +1,7 @@
 -- What is taken out of the frames is the message of the number.
 use Rattle.std.proofs.Common.{◌<◌, ◌↔◌, ◌∙◌, ◌≡◌, ◌⊎◌, Err, IfOk, IfSome, IsNone, List, None, Ok, Option, Result, Some, ap, arith, inl, inr, is_some, length, refl, sym, true, zip, ℕ}
 use Rattle.ctrl_msg.specs.declared.message.Message.{Message}
-use Rattle.message_bag.specs.Exports.{IsMessageOf, IsPostedInBag, is_post_deliverable}
+use Rattle.message_bag.specs.Exports.{IsBagMessageOf, IsPostedInBag, is_post_deliverable}
 use Rattle.wire.specs.Exports.{frames}
 use Rattle.message_bag.specs.Deliveries as statuses
 use Rattle.message_bag.specs.declared.deliveries.MessageState.{MessageState}
@@ -26,7 +26,7 @@ module _ {E : Type 0} (all : List (List (List ℕ))) (states : List MessageState
   -- and has the frames of its number
   pub found_there : (r : Result (Option Message) E)
       → IfOk r (λ answer. IfSome answer (λ message. IsPostedInBag all number message))
-      → IfOk r (λ answer. IfSome answer (IsMessageOf (zip all states) number))
+      → IfOk r (λ answer. IfSome answer (IsBagMessageOf (zip all states) number))
   found_there (Err error) found = tt
   found_there (Ok None) found = tt
   found_there (Ok (Some message)) found = record {

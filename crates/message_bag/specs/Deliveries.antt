@@ -9,11 +9,11 @@ use Rattle.message_bag.specs.declared.deliveries.MessageState.{MessageState}
 abbrev pub bag_waiting_status : MessageState
 bag_waiting_status = record { delivered = false; forgotten = false }
 
-abbrev pub delivered_status : MessageState → MessageState
-delivered_status status = record status { delivered = true }
+abbrev pub bag_delivered_status : MessageState → MessageState
+bag_delivered_status status = record status { delivered = true }
 
-abbrev pub forgotten_status : MessageState → MessageState
-forgotten_status status = record status { forgotten = true }
+abbrev pub bag_forgotten_status : MessageState → MessageState
+bag_forgotten_status status = record status { forgotten = true }
 
 abbrev pub may_be_delivered : MessageState → Bool
 may_be_delivered status = not status.forgotten

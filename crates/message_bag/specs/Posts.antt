@@ -30,8 +30,8 @@ bag_returned_number (Ok both) = Ok both.0
 bag_returned_number (Err error) = Err error
 
 -- the statuses of the messages
-abbrev pub post_statuses_of : List Post → List MessageState
-post_statuses_of posts = map (λ (post : Post). post.1) posts
+abbrev pub bag_post_statuses : List Post → List MessageState
+bag_post_statuses posts = map (λ (post : Post). post.1) posts
 
 -- the frames of a post that isn't forgotten
 abbrev pub bag_frames_remembered : Post → Option (List (List ℕ))
@@ -46,13 +46,13 @@ abbrev pub is_post_deliverable : List Post → ℕ → Bool
 is_post_deliverable posts number = is_some (frames_posted posts number)
 
 -- the message has an encoding, and its frames are those of this number
-pub record IsMessageOf (posts : List Post) (number : ℕ) (message : Message) : Type 0 where
+pub record IsBagMessageOf (posts : List Post) (number : ℕ) (message : Message) : Type 0 where
   pub fits : form.fits message ≡ true
   pub frames_are : frames_posted posts number ≡ Some (posted_frames message)
 
 -- the least number at or above `from` of a message that was never delivered and isn't forgotten
 abbrev pub next_waiting_post : List Post → ℕ → Option ℕ
-next_waiting_post posts from = statuses.next_waiting (post_statuses_of posts) from
+next_waiting_post posts from = statuses.next_waiting (bag_post_statuses posts) from
 
 -- the post with its status changed
 abbrev pub post_with_status : (MessageState → MessageState) → Post → Post
@@ -60,8 +60,8 @@ post_with_status change post = (post.0, change post.1)
 
 -- the posts after the message of the number was delivered, perhaps again
 abbrev pub posts_with_delivered : List Post → ℕ → List Post
-posts_with_delivered posts number = bag_with_changed (post_with_status statuses.delivered_status) posts number
+posts_with_delivered posts number = bag_with_changed (post_with_status statuses.bag_delivered_status) posts number
 
 -- the posts after the message of the number was forgotten: it is never delivered again
 abbrev pub posts_with_forgotten : List Post → ℕ → List Post
-posts_with_forgotten posts number = bag_with_changed (post_with_status statuses.forgotten_status) posts number
+posts_with_forgotten posts number = bag_with_changed (post_with_status statuses.bag_forgotten_status) posts number

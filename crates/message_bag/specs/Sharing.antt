@@ -9,5 +9,5 @@ abbrev pub IsAdvertPostedInBag : List (List (List ℕ)) → Option PostedAdvert 
 IsAdvertPostedInBag bag None = Unit {0}
 IsAdvertPostedInBag bag (Some last) = item_numbered bag last.number ≡ Some (posted_frames last.message)
 
-abbrev pub ArePostedAdverts : List (List (List ℕ)) → List (Option PostedAdvert) → Type 0
-ArePostedAdverts bag adverts = (place : ℕ) → IsAdvertPostedInBag bag (get_or adverts place None)
+abbrev pub AreAdvertsPostedInBag : List (List (List ℕ)) → List (Option PostedAdvert) → Type 0
+AreAdvertsPostedInBag bag adverts = (place : ℕ) → IsAdvertPostedInBag bag (get_or adverts place None)

@@ -7,18 +7,18 @@ ghost use Rattle.message_bag.specs.Numbered.{HasPosted, item_numbered};
 ghost use Rattle.message_bag.specs.Posts.{IsPostLike, posted_frames};
 
 use crate::firsts::Firsts;
-use crate::reading::{message_of_frame, tables_of};
-use crate::tables::{TableFrames, spell_install};
+use crate::reading::{bag_message_of_frame, tables_of};
+use crate::tables::{BagTableFrames, spell_bag_install};
 use ctrl_msg::{Message, SharedTables};
 use std::alloc::{AllocError, Global};
 use std::marker::Model;
-use wire::{append, set_receiver};
+use wire::{append, set_wire_receiver};
 
 /// The messages that were posted, numbered from 1 in their order. Contracts see their frames.
 #[derive(Drop)]
 pub struct Bag {
     firsts: Firsts,
-    tables: Vec<TableFrames>,
+    tables: Vec<BagTableFrames>,
     // The first frame of the message that is posted now.
     scratch: Vec<u8>,
 }
@@ -97,7 +97,7 @@ impl Bag {
         };
         self.scratch.clear();
         self.scratch.extend_from_slice(frame)?;
-        set_receiver(&mut self.scratch, message.to);
+        set_wire_receiver(&mut self.scratch, message.to);
         self.firsts.push(&self.scratch, tables)
     }
 
@@ -130,7 +130,7 @@ impl Bag {
         ensures fits { OnOk result (form.fits message.now ≡ true) }
         ensures posted { HasPosted result (posted_frames message.now) self.old self.new }
     {
-        let number = spell_install(
+        let number = spell_bag_install(
             &mut self.tables,
             &mut self.scratch,
             alloc,
@@ -157,7 +157,7 @@ impl Bag {
         }
         match self.firsts.get(number as usize - 1) {
             None => Ok(None),
-            Some((frame, None)) => Ok(Some(message_of_frame(alloc, frame)?)),
+            Some((frame, None)) => Ok(Some(bag_message_of_frame(alloc, frame)?)),
             Some((frame, Some(kept))) => {
                 let message = self.tables[kept].message(alloc, frame)?;
                 Ok(Some(message))

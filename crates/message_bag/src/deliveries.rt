@@ -1,7 +1,7 @@
 #![tactic(auto, using(crate::proofs::BagWaitingStatuses::changed_from))]
 
 ghost use Rattle.std.specs.Prelude.{◌≡◌, ◌<◌, ◌+◌, ◌-◌, ◌^◌, [], ◌∷◌, ◌++◌, List, length, IsTrue, OnOk, OnErr};
-ghost use Rattle.message_bag.specs.Deliveries.{delivered_status, forgotten_status, is_deliverable, may_be_delivered, next_waiting, bag_waiting_status, waits, IsFirstWaiting};
+ghost use Rattle.message_bag.specs.Deliveries.{bag_delivered_status, bag_forgotten_status, is_deliverable, may_be_delivered, next_waiting, bag_waiting_status, waits, IsFirstWaiting};
 ghost use Rattle.message_bag.specs.Numbered.{bag_with_changed};
 ghost use Rattle.message_bag.specs.declared.deliveries.MessageState.{MessageState};
 
@@ -114,7 +114,7 @@ impl Deliveries {
     /// Notes that the message of this number was delivered, perhaps again.
     pub fn deliver(&mut self, number: u32)
         requires { IsTrue (is_deliverable self.old number) }
-        ensures { self.new ≡ bag_with_changed delivered_status self.old number }
+        ensures { self.new ≡ bag_with_changed bag_delivered_status self.old number }
     {
         self.statuses[number as usize - 1].delivered = true;
         self.passed = first_waiting_message(&self.statuses, self.passed);
@@ -123,7 +123,7 @@ impl Deliveries {
     /// Forgets the message of this number: it is never delivered again.
     pub fn forget(&mut self, number: u32)
         requires { IsTrue (is_deliverable self.old number) }
-        ensures { self.new ≡ bag_with_changed forgotten_status self.old number }
+        ensures { self.new ≡ bag_with_changed bag_forgotten_status self.old number }
     {
         self.statuses[number as usize - 1].forgotten = true;
         self.passed = first_waiting_message(&self.statuses, self.passed);

@@ -6,7 +6,7 @@ const FACTOR: usize = 2_654_435_769;
 
 /// A hash that is the same for all tables of the same rows and partitions, whatever their version.
 /// It is made of how many rows there are, and of each partition's number and count of rules.
-pub fn tables_digest_of(tables: &Tables) -> usize {
+pub fn bag_tables_digest_of(tables: &Tables) -> usize {
     let mut digest = tables.parts.items().len();
     for part in tables.auth.items() {
         digest = digest

@@ -63,8 +63,8 @@ impl Firsts {
         requires { length self.old < 2 ^ 32 - 1 }
         ensures { HasPosted result (frame.now, tables) self.old self.new }
     {
-        make_room(&mut self.bytes, &mut self.spans)?;
-        let span = frame_span_of(self.bytes.len(), frame.len(), tables)?;
+        make_bag_frame_room(&mut self.bytes, &mut self.spans)?;
+        let span = bag_frame_span_of(self.bytes.len(), frame.len(), tables)?;
         self.bytes.extend_from_slice(frame)?;
         self.spans.push(span)?;
         Ok(self.spans.len() as u32)
@@ -104,7 +104,7 @@ impl Firsts {
 }
 
 // Reserves room for many, if there is no frame yet.
-fn make_room(bytes: &mut Vec<u8>, spans: &mut Vec<Span>) -> Result<(), AllocError>
+fn make_bag_frame_room(bytes: &mut Vec<u8>, spans: &mut Vec<Span>) -> Result<(), AllocError>
     ensures bytes { bytes.new.items ≡ bytes.old.items }
     ensures spans { spans.new.items ≡ spans.old.items }
 {
@@ -116,7 +116,7 @@ fn make_room(bytes: &mut Vec<u8>, spans: &mut Vec<Span>) -> Result<(), AllocErro
 }
 
 // The span of `len` bytes from `start` on; an error if a number is 2^32 or more.
-fn frame_span_of(start: usize, len: usize, tables: Option<usize>) -> Result<Span, AllocError>
+fn bag_frame_span_of(start: usize, len: usize, tables: Option<usize>) -> Result<Span, AllocError>
     ensures start { IfOk result (λ span. span.start ≡ start) }
     ensures len { IfOk result (λ span. span.len ≡ len) }
     ensures tables { IfOk result (λ span. span.tables ≡ tables) }

@@ -15,7 +15,7 @@ ghost use Rattle.message_bag.specs.Installing.{bag_install_frames};
 ///
 /// So, as `Assembler::feed` ensures, it returns `None` until the last of them has come, and the
 /// message then and at each repeat.
-pub fn frames_come_in_any_order()
+pub fn bag_frames_in_any_order()
     ensures taken { (m : Message) (f : List ℕ) (fed : List (List ℕ)) → HasBagFrames m
         → AreBagFramesOf m (f ∷ fed) → IsRefusedFrame (bag_frames_held_after fed) f → ⊥ }
     ensures all_held { (m : Message) (f : List ℕ) (fed : List (List ℕ)) → HasBagFrames m
@@ -26,14 +26,14 @@ pub fn frames_come_in_any_order()
 {}
 
 /// Frames belong to at most one message.
-pub fn frames_are_of_one_message()
+pub fn bag_frames_have_one_message()
     ensures { (m other : Message) (fs : List (List ℕ)) → AreFrames m fs → AreFrames other fs
         → other ≡ m }
 {}
 
 /// The frames of an installation after its first one encode only the tables: they are the same for
 /// every switch and every boot. The first one says how many there are, the switch and the boot.
-pub fn frames_behind_the_first_carry_the_tables()
+pub fn later_bag_frames_carry_tables()
     ensures { (to : Place) (boot : ℕ) (tables : Tables)
         → frames (record { to = to; body = Install boot tables })
         ≡ bag_install_frames to boot tables }
@@ -41,7 +41,7 @@ pub fn frames_behind_the_first_carry_the_tables()
 
 /// An installation of the same tables under another version has the same frames, except for the
 /// four bytes of the version where the second one begins.
-pub fn frames_of_another_version()
+pub fn bag_frames_of_another_version()
     ensures { (to : Place) (boot version : ℕ) (tables : Tables)
         → frames (record { to = to; body = Install boot (record tables { version = version }) })
         ≡ wire_frames_of_version version (frames (record { to = to; body = Install boot tables })) }
@@ -49,7 +49,7 @@ pub fn frames_of_another_version()
 
 /// The same message to another receiver has the same frames, except for the one byte of the
 /// receiver where the first one begins.
-pub fn frames_of_another_receiver()
+pub fn bag_frames_of_another_receiver()
     ensures { (m : Message) (to : Place)
         → frames (record m { to = to }) ≡ wire_frames_of_receiver to (frames m) }
 {}

@@ -42,7 +42,7 @@ mod tables;
 pub use bag::Bag;
 pub use deliveries::{Deliveries, MessageState};
 pub use laws::{
-    frames_are_of_one_message, frames_behind_the_first_carry_the_tables, frames_come_in_any_order,
-    frames_of_another_receiver, frames_of_another_version,
+    bag_frames_have_one_message, bag_frames_in_any_order, bag_frames_of_another_receiver,
+    bag_frames_of_another_version, later_bag_frames_carry_tables,
 };
 pub use post_bag::PostBag;

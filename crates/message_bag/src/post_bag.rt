@@ -1,6 +1,6 @@
 ghost use Rattle.std.specs.Prelude.{◌≡◌, ◌<◌, ◌-◌, ◌^◌, [], length, is_some, IsTrue, IfOk, IfSome};
 ghost use Rattle.message_bag.specs.Numbered.{HasPosted};
-ghost use Rattle.message_bag.specs.Posts.{IsMessageOf, is_post_deliverable, next_waiting_post, new_post, bag_returned_number, posts_with_delivered, posts_with_forgotten};
+ghost use Rattle.message_bag.specs.Posts.{IsBagMessageOf, is_post_deliverable, next_waiting_post, new_post, bag_returned_number, posts_with_delivered, posts_with_forgotten};
 ghost use Rattle.message_bag.specs.Feeding.{HasShortBagSpelling};
 
 use crate::deliveries::Deliveries;
@@ -84,7 +84,7 @@ impl PostBag {
     /// Only out of memory.
     pub fn get(&self, number: u32) -> Result<Option<Message>, AllocError>
         ensures found { IfOk result (λ answer. is_some answer ≡ is_post_deliverable self.now number) }
-        ensures message { IfOk result (λ answer. IfSome answer (IsMessageOf self.now number)) }
+        ensures message { IfOk result (λ answer. IfSome answer (IsBagMessageOf self.now number)) }
     {
         if self.may_be_delivered(number) {
             self.frames.bag().take(number)

@@ -15,7 +15,7 @@ use wire::{Assembler, Frames, HEADER_LEN, WireError, decode, decode_front};
 ///
 /// # Errors
 /// Only out of memory.
-pub fn message_of_frame(alloc: Global, frame: &[u8]) -> Result<Message, AllocError>
+pub fn bag_message_of_frame(alloc: Global, frame: &[u8]) -> Result<Message, AllocError>
     requires { AreBagFramesOfMessage (frame.now ∷ []) }
     ensures { IfOk result (λ message. AreFrames message (frame.now ∷ [])) }
 {
@@ -42,7 +42,11 @@ fn feed(assembler: &mut Assembler, frame: &[u8]) -> Result<Option<Message>, Allo
 }
 
 // The message of this first frame and the other frames after their first one.
-fn assembled(alloc: Global, first: &[u8], frames: &Frames) -> Result<Message, AllocError>
+fn assembled_bag_message(
+    alloc: Global,
+    first: &[u8],
+    frames: &Frames,
+) -> Result<Message, AllocError>
     requires { AreBagFramesOfMessage (first.now ∷ drop 1 frames.now) }
     ensures { IfOk result (λ message. AreFrames message (first.now ∷ drop 1 frames.now)) }
 {
@@ -75,12 +79,12 @@ pub fn tables_of(body: &Body) -> Option<(u32, &SharedTables)>
 ///
 /// # Errors
 /// Only out of memory.
-pub fn tables_in(alloc: Global, frames: &Frames) -> Result<SharedTables, AllocError>
+pub fn tables_in_bag_frames(alloc: Global, frames: &Frames) -> Result<SharedTables, AllocError>
     requires { AreBagFramesOfInstall frames.now }
     ensures { IfOk result (λ tables. BagFramesCarryTables tables frames.now) }
 {
     let message = match frames.get(0) {
-        Some(first) => assembled(alloc, first, frames)?,
+        Some(first) => assembled_bag_message(alloc, first, frames)?,
         None => unreachable!(),
     };
     match tables_of(&message.body) {
@@ -93,7 +97,7 @@ pub fn tables_in(alloc: Global, frames: &Frames) -> Result<SharedTables, AllocEr
 ///
 /// # Errors
 /// Only out of memory.
-pub fn front_of(alloc: Global, front: &[u8]) -> Result<(Place, u32), AllocError>
+pub fn read_bag_install_front(alloc: Global, front: &[u8]) -> Result<(Place, u32), AllocError>
     requires { (to : Place) × (boot : ℕ) × IsFront to boot front.now }
     ensures { IfOk result (λ read. IsFront read.0 read.1 front.now) }
 {

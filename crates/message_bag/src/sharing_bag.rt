@@ -4,7 +4,7 @@ ghost use Rattle.std.specs.Prelude.{◌≡◌, ◌<◌, ◌-◌, ◌^◌, [], �
 ghost use Rattle.message_bag.specs.Feeding.{HasShortBagSpelling};
 ghost use Rattle.message_bag.specs.Numbered.{HasPosted};
 ghost use Rattle.message_bag.specs.Posts.{posted_frames, bag_returned_number};
-ghost use Rattle.message_bag.specs.Sharing.{ArePostedAdverts};
+ghost use Rattle.message_bag.specs.Sharing.{AreAdvertsPostedInBag};
 
 use crate::bag::Bag;
 use base::{MAX_SWITCHES, Shared};
@@ -30,13 +30,13 @@ pub struct SharingBag {
 
 impl Model for SharingBag {
     ghost use Rattle.std.specs.Prelude.{List, ℕ};
-    ghost use Rattle.message_bag.specs.Sharing.{ArePostedAdverts};
+    ghost use Rattle.message_bag.specs.Sharing.{AreAdvertsPostedInBag};
 
     ghost Value = { List (List (List ℕ)) };
 
     ghost view = { λ b. b.bag };
 
-    ghost invariant = { λ b. ArePostedAdverts b.bag b.last.items };
+    ghost invariant = { λ b. AreAdvertsPostedInBag b.bag b.last.items };
 }
 
 impl SharingBag {
@@ -76,7 +76,7 @@ impl SharingBag {
         ensures message { IfOk result (λ both. both.1 ≡ message) }
         ensures posted { HasPosted (bag_returned_number result) (posted_frames message) self.old self.new }
     {
-        let Some(place) = place_of(&message) else {
+        let Some(place) = bag_place_of_advert(&message) else {
             let shared = Shared::new(alloc, message)?;
             let number = self.bag.post(shared.get())?;
             return Ok((number, shared));
@@ -104,9 +104,9 @@ impl SharingBag {
         ensures { HasPosted result (posted_frames message.now) self.old self.new }
     {
         let shared = message.clone()?;
-        make_advert_place(&mut self.last, place)?;
+        make_bag_advert_place(&mut self.last, place)?;
         let origin = place % MAX_SWITCHES as usize;
-        let number = post_new_advert(&mut self.bag, &mut self.last, origin, message)?;
+        let number = post_new_bag_advert(&mut self.bag, &mut self.last, origin, message)?;
         self.last[place] = Some(PostedAdvert {
             message: shared,
             number,
@@ -117,18 +117,18 @@ impl SharingBag {
 
 // Posts an advert that isn't its switch's last one to its receiver. It is encoded only if it isn't
 // its switch's last one that was encoded.
-fn post_new_advert(
+fn post_new_bag_advert(
     bag: &mut Bag,
     adverts: &mut Vec<Option<PostedAdvert>>,
     origin: usize,
     advert: &Shared<Message>,
 ) -> Result<u32, AllocError>
     requires there { origin < length adverts.old.items }
-    requires adverts { ArePostedAdverts bag.old adverts.old.items }
+    requires adverts { AreAdvertsPostedInBag bag.old adverts.old.items }
     requires spelling { HasShortBagSpelling advert.now }
     requires few { length bag.old < 2 ^ 32 - 1 }
     ensures posted { HasPosted result (posted_frames advert.now) bag.old bag.new }
-    ensures adverts { ArePostedAdverts bag.new adverts.new.items }
+    ensures adverts { AreAdvertsPostedInBag bag.new adverts.new.items }
     ensures as_many { length adverts.new.items ≡ length adverts.old.items }
 {
     if let Some(last) = find(adverts, origin, advert.get()) {
@@ -150,14 +150,16 @@ fn find<'a>(
     ensures there { IfSome result (λ last. get_or adverts.now place None ≡ Some last.now) }
 {
     match adverts.get(place) {
-        Some(Some(last)) if are_same_advert(&last.message.get().body, &message.body) => Some(last),
+        Some(Some(last)) if are_same_bag_adverts(&last.message.get().body, &message.body) => Some(
+            last,
+        ),
         _ => None,
     }
 }
 
 // The place of an advert to a switch, after the 64 places of the switches' last adverts; `None` for
 // any other message. Its remainder by 64 is the switch whose advert it is.
-fn place_of(message: &Message) -> Option<usize>
+fn bag_place_of_advert(message: &Message) -> Option<usize>
     ensures { IfSome result (λ place. place < 4160) }
 {
     match (message.to, &message.body) {
@@ -172,7 +174,7 @@ fn place_of(message: &Message) -> Option<usize>
 
 // Makes sure that there is this place, by pushing empty ones.
 #[tactic(auto, using(crate::proofs::BagRepeatedMessages::padded_same))]
-fn make_advert_place(
+fn make_bag_advert_place(
     adverts: &mut Vec<Option<PostedAdvert>>,
     place: usize,
 ) -> Result<(), AllocError>
@@ -187,7 +189,7 @@ fn make_advert_place(
 }
 
 // Whether both are the same advert.
-fn are_same_advert(one: &Body, other: &Body) -> bool
+fn are_same_bag_adverts(one: &Body, other: &Body) -> bool
     ensures { IsTrue result → one.now ≡ other.now }
 {
     match (one, other) {

@@ -7,9 +7,12 @@ ghost use Rattle.message_bag.specs.Feeding.{HasShortBagSpelling};
 ghost use Rattle.wire.specs.Messages.{IsWirePlace, message_front, message as form, spelled_front};
 ghost use Rattle.message_bag.specs.KeptFrames.{AreBagFramesOfMessage, IsBagGrown, IsBagInstallOf, BagFramesCarryRows, BagFramesCarryTables, bag_frames_in};
 
-use crate::digest::tables_digest_of;
-use crate::reading::{front_of, tables_in};
-use ctrl_msg::{Body, Message, Place, SharedTables, are_same_tables, have_same_rows};
+use crate::digest::bag_tables_digest_of;
+use crate::reading::{read_bag_install_front, tables_in_bag_frames};
+use ctrl_msg::{
+    Body, Message, Place, SharedTables, are_same_control_message_tables,
+    have_same_message_table_rows,
+};
 use std::alloc::{AllocError, Global};
 use std::marker::Model;
 use switch_table::{PartRow, Tables};
@@ -21,7 +24,7 @@ const HEADER_BITS: u32 = 104;
 /// The frames of an installation of some tables: those after its first one encode the tables, and
 /// each installation of the same tables that is posted shares them. Contracts see the frames.
 #[derive(Drop)]
-pub struct TableFrames {
+pub struct BagTableFrames {
     // The tables decoded from the frames, which each message that is taken shares.
     said: SharedTables,
     frames: Frames,
@@ -30,7 +33,7 @@ pub struct TableFrames {
     digest: usize,
 }
 
-impl Model for TableFrames {
+impl Model for BagTableFrames {
     ghost use Rattle.std.specs.Prelude.{List, ℕ};
     ghost use Rattle.message_bag.specs.KeptFrames.{BagFramesCarryTables};
 
@@ -41,30 +44,30 @@ impl Model for TableFrames {
     ghost invariant = { λ t. BagFramesCarryTables t.said t.frames };
 }
 
-impl TableFrames {
+impl BagTableFrames {
     // The frames for an installation of these tables, which are encoded and decoded.
-    fn new(alloc: Global, message: &Message, tables: &Tables) -> Result<TableFrames, AllocError>
+    fn new(alloc: Global, message: &Message, tables: &Tables) -> Result<BagTableFrames, AllocError>
         requires { IsBagInstallOf message.now tables.now }
         ensures { IfOk result (BagFramesCarryTables tables.now) }
     {
         let frames = split(alloc, message)?;
-        let said = with_trees(alloc, tables_in(alloc, &frames)?)?;
-        Ok(TableFrames {
+        let said = bag_tables_with_trees(alloc, tables_in_bag_frames(alloc, &frames)?)?;
+        Ok(BagTableFrames {
             said,
             frames,
             version: tables.version,
-            digest: tables_digest_of(tables),
+            digest: bag_tables_digest_of(tables),
         })
     }
 
     // The frames for the same tables under another version, without encoding or decoding them.
-    fn with_version(&self, alloc: Global, version: u32) -> Result<TableFrames, AllocError>
+    fn with_version(&self, alloc: Global, version: u32) -> Result<BagTableFrames, AllocError>
         ensures { IfOk result (λ kept. (t : Tables) → BagFramesCarryTables t self.now
             → BagFramesCarryTables (record t { version = version }) kept) }
     {
         let said = self.said.with_version(alloc, version)?;
         let frames = self.frames.with_version(alloc, version)?;
-        Ok(TableFrames {
+        Ok(BagTableFrames {
             said,
             frames,
             version,
@@ -78,14 +81,14 @@ impl TableFrames {
     {
         self.version == tables.version
             && self.digest == digest
-            && are_same_tables(self.said.tables(), tables)
+            && are_same_control_message_tables(self.said.tables(), tables)
     }
 
     // Whether they encode these tables, which have this digest, under some version.
     fn carry_rows(&self, tables: &Tables, digest: usize) -> bool
         ensures { IsTrue result → BagFramesCarryRows tables.now self.now }
     {
-        self.digest == digest && have_same_rows(self.said.tables(), tables)
+        self.digest == digest && have_same_message_table_rows(self.said.tables(), tables)
     }
 
     // Appends the first frame of an installation of these tables: only the receiver and
@@ -113,7 +116,7 @@ impl TableFrames {
             AreFrames message (first.now ∷ drop 1 self.now)) }
     {
         let tables = self.said.clone()?;
-        let (to, boot) = front_of(alloc, &first[HEADER_LEN..])?;
+        let (to, boot) = read_bag_install_front(alloc, &first[HEADER_LEN..])?;
         Ok(Message {
             to,
             body: Body::Install { boot, tables },
@@ -123,10 +126,10 @@ impl TableFrames {
 
 // The same tables. They get trees if their regions may partition all headers, as those of plans
 // do: trees over others might be far larger than the tables.
-fn with_trees(alloc: Global, tables: SharedTables) -> Result<SharedTables, AllocError>
+fn bag_tables_with_trees(alloc: Global, tables: SharedTables) -> Result<SharedTables, AllocError>
     ensures { IfOk result (λ grown. grown ≡ tables) }
 {
-    if are_regions_whole(tables.tables().parts.items()) {
+    if are_bag_regions_whole(tables.tables().parts.items()) {
         tables.with_trees(alloc)
     } else {
         Ok(tables)
@@ -134,7 +137,7 @@ fn with_trees(alloc: Global, tables: SharedTables) -> Result<SharedTables, Alloc
 }
 
 // Whether the regions together have as many headers as there are.
-fn are_regions_whole(rows: &[PartRow]) -> bool {
+fn are_bag_regions_whole(rows: &[PartRow]) -> bool {
     let mut headers: u128 = 0;
     for row in rows {
         let free = HEADER_BITS.saturating_sub(row.region.mask().count_ones());
@@ -144,20 +147,20 @@ fn are_regions_whole(rows: &[PartRow]) -> bool {
 }
 
 // The number of the frames that encode these tables; `None` if there are none.
-fn find(kept: &[TableFrames], tables: &Tables) -> Option<usize>
+fn find(kept: &[BagTableFrames], tables: &Tables) -> Option<usize>
     ensures there { IfSome result (λ number. number < length kept.now) }
     ensures carry { IfSome result (λ number. BagFramesCarryTables tables.now (get_or kept.now number [])) }
 {
-    let digest = tables_digest_of(tables);
+    let digest = bag_tables_digest_of(tables);
     kept.iter().rposition(|frames| frames.carry(tables, digest))
 }
 
 // The number of the frames that encode these tables under any version; `None` if there are none.
-fn find_kept_rows(kept: &[TableFrames], tables: &Tables) -> Option<usize>
+fn find_bag_kept_rows(kept: &[BagTableFrames], tables: &Tables) -> Option<usize>
     ensures there { IfSome result (λ number. number < length kept.now) }
     ensures carry { IfSome result (λ number. BagFramesCarryRows tables.now (get_or kept.now number [])) }
 {
-    let digest = tables_digest_of(tables);
+    let digest = bag_tables_digest_of(tables);
     kept.iter()
         .rposition(|frames| frames.carry_rows(tables, digest))
 }
@@ -165,24 +168,24 @@ fn find_kept_rows(kept: &[TableFrames], tables: &Tables) -> Option<usize>
 // The frames of an installation of these tables: those of the same tables under another version,
 // with this version written into them, or new ones.
 fn made(
-    kept: &[TableFrames],
+    kept: &[BagTableFrames],
     alloc: Global,
     message: &Message,
     tables: &Tables,
-) -> Result<TableFrames, AllocError>
+) -> Result<BagTableFrames, AllocError>
     requires { IsBagInstallOf message.now tables.now }
     ensures { IfOk result (BagFramesCarryTables tables.now) }
 {
-    match find_kept_rows(kept, tables) {
+    match find_bag_kept_rows(kept, tables) {
         Some(number) => Ok(kept[number].with_version(alloc, tables.version)?),
-        None => Ok(TableFrames::new(alloc, message, tables)?),
+        None => Ok(BagTableFrames::new(alloc, message, tables)?),
     }
 }
 
 // The number of the kept frames that encode the tables of this installation: those that exist, or
 // those that are made for it and kept from now on.
 fn keep(
-    kept: &mut Vec<TableFrames>,
+    kept: &mut Vec<BagTableFrames>,
     alloc: Global,
     message: &Message,
     tables: &Tables,
@@ -210,8 +213,8 @@ fn keep(
 ///
 /// # Errors
 /// Only out of memory.
-pub fn spell_install(
-    kept: &mut Vec<TableFrames>,
+pub fn spell_bag_install(
+    kept: &mut Vec<BagTableFrames>,
     first: &mut Vec<u8>,
     alloc: Global,
     message: &Message,

@@ -2,7 +2,7 @@
 use Rattle.std.proofs.Common.{[], ◌++◌, ◌+◌, ◌<◌, ◌∙◌, ◌∷◌, ◌≡◌, ◌≤◌, List, ap, append-nil, append_assoc, drop, drop_of_length-le, flat_map, get_or, length, map, remove, set, sym, ℕ}
 use Rattle.base.proofs.Exports.{drop_at_item, drop_removed, drop_set}
 use Rattle.policy_rules.specs.declared.packet.Leaving.{Leaving}
-use Rattle.meters.specs.Exports.{BoardValue, PortLeavings, Seen, board_after, meters_gone_after, gone_records, kept_meters, leaving_records, meters_after}
+use Rattle.meters.specs.Exports.{BoardValue, PortLeavings, Seen, board_after, meters_gone_after, gone_meter_records, kept_meters, leaving_records, meters_after}
 use Rattle.meters.specs.declared.flows.FlowRecord.{FlowRecord}
 use Rattle.meters.proofs.MetersKept.{kept-nothing, kept_on}
 
@@ -63,7 +63,7 @@ board_on ports left more meters old new until_now noted told =
     let kept : new.meters ≡ kept_meters ports (left ++ more) meters =
     noted ∙ ap (λ (board : BoardValue Seen). meters_after more board.meters) until_now
     ∙ sym (kept_on left more _) in
-    let gone : new.gone ≡ gone_records ports (left ++ more) meters =
+    let gone : new.gone ≡ gone_meter_records ports (left ++ more) meters =
     told ∙ ap (λ (board : BoardValue Seen). board.gone ++ meters_gone_after more board.meters) until_now
     ∙ sym (gone_on left more _) in
     λ i. record { meters = kept i; gone = gone i }

@@ -22,8 +22,8 @@ meters_gone_after (one ∷ left) meters =
     flat_map (leaving_records one) meters ++ meters_gone_after left (meters_after (one ∷ []) meters)
 
 -- the records of the meters that leave in a network with these ports
-abbrev pub gone_records : ℕ → PortLeavings → List Seen → List FlowRecord
-gone_records ports left meters = meters_gone_after left (filter (λ meter. has ports meter.port) meters)
+abbrev pub gone_meter_records : ℕ → PortLeavings → List Seen → List FlowRecord
+gone_meter_records ports left meters = meters_gone_after left (filter (λ meter. has ports meter.port) meters)
 
 -- the meters on a board, in order, and the records of those that left it
 pub record BoardValue (M : Type 0) : Type 0 where
@@ -37,7 +37,7 @@ seen_board seen board = record { meters = map seen board.meters; gone = board.go
 abbrev pub board_after : ℕ → PortLeavings → List Seen → BoardValue Seen
 board_after ports left meters = record {
   meters = kept_meters ports left meters;
-  gone = gone_records ports left meters;
+  gone = gone_meter_records ports left meters;
 }
 
 -- if the old board is one after some leavings, the new one is that after one more

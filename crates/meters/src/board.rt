@@ -33,7 +33,7 @@ impl<M: Meter> Board<M> {
             ≡ kept_meters ports [] (map M.seen meters.items) }
         ensures gone { result.gone ≡ [] }
     {
-        meters.retain(|meter| has_port(ports, meter.port()));
+        meters.retain(|meter| meter_mask_has_port(ports, meter.port()));
         let gone = Flows::new(Vec::new(*meters.allocator()));
         Board { meters, gone }
     }
@@ -84,7 +84,7 @@ impl<M: Meter> Board<M> {
 }
 
 /// Whether the mask has this port.
-fn has_port(ports: u64, port: u32) -> bool
+fn meter_mask_has_port(ports: u64, port: u32) -> bool
     ensures { result ≡ has ports port }
 {
     port < 64 && base::has(ports, port)

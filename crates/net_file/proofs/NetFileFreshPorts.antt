@@ -4,7 +4,7 @@ use Rattle.base.proofs.Exports.{list_all, list_all-map, list_any, list_any-appen
 use Rattle.toml.specs.Data.{Data, Members, as_integer, get_member}
 use Rattle.toml.specs.View.{view}
 use Rattle.toml.specs.declared.value.Value.{Value}
-use Rattle.net_file.specs.Exports.{IsPortMask, are_distinct_ports, are_new_net_ports, toml_array_in, has_port, have_port, toml_port_read, switch_ports_at, require_net_value}
+use Rattle.net_file.specs.Exports.{IsNetPortMask, are_distinct_ports, are_new_net_ports, toml_array_in, has_port, have_port, toml_port_read, net_switch_ports_at, require_net_value}
 use Rattle.net_file.specs.declared.net.SwitchRow.{SwitchRow}
 use Rattle.net_file.specs.declared.error.NetRefusal.TheVariants as refusal
 use Rattle.net_file.proofs.NetFilePortMasks.{in_mask, in_mask_with}
@@ -57,7 +57,7 @@ any_same s t (p ∷ ports) same = rw (same p, any_same s t ports same) refl
 
 -- the ports of an array are new where they are fresh behind the mask of the earlier switches
 pub are_new_is : (taken : ℕ) (earlier : List SwitchRow) (ports : List ℕ)
-    → IsPortMask taken (have_port earlier) → are_new_net_ports earlier ports ≡ are_fresh taken ports
+    → IsNetPortMask taken (have_port earlier) → are_new_net_ports earlier ports ≡ are_fresh taken ports
 are_new_is taken earlier ports mask =
     sym (are_fresh_is taken ports ∙ ap (λ b. are_distinct_ports ports && not b)
     (any_same (in_mask taken) (have_port earlier) ports mask))
@@ -99,7 +99,7 @@ pub ports_tested : (table : Members) (d : Data) (vs : List Value) (integers port
     → Some d ≡ get_member (codes "ports") table → toml_array_in d ≡ Ok (map view vs)
     → integers ≡ list_all (λ v. is_some (as_integer (view v))) vs
     → ports ≡ list_all (λ v. is_some (toml_port_read (view v))) vs
-    → switch_ports_at table ≡ require_net_value integers refusal.WrongType
+    → net_switch_ports_at table ≡ require_net_value integers refusal.WrongType
     (require_net_value ports refusal.Range (Ok (filter_map toml_port_read (map view vs))))
 ports_tested table d vs integers ports there values are_integers are_ports = rw (
   ← there,

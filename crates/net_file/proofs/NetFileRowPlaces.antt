@@ -4,7 +4,7 @@ use Rattle.base.proofs.Exports.{Any-from_list_any, and_parts, both_ways, bytes_e
 use Rattle.net_file.specs.declared.net.SwitchRow.{SwitchRow}
 use Rattle.net_file.specs.declared.net.LinkRow.{LinkRow}
 use Rattle.net_file.specs.declared.net.Net.{Net}
-use Rattle.net_file.specs.Exports.{AreApart, IsNetLink, IsNet, IsPlainNetByte, IsNetSwitchRow, NameLaws, NetLinkLaws, NetPortLaws, are_linked, are_name_bytes, has_port, have_port, is_net_label, is_name, is_name_byte, joins, net_port_owner, port_mask}
+use Rattle.net_file.specs.Exports.{AreApart, IsNetLink, IsNet, IsPlainNetByte, IsNetSwitchRow, NameLaws, NetLinkLaws, NetPortLaws, are_linked_in_net, are_name_bytes, has_port, have_port, is_net_label, is_name, is_name_byte, joins, net_port_owner, port_mask}
 use Rattle.net_file.proofs.NetFilePortMasks.{in_mask, in_mask_of, in_mask_past}
 
 -- ---- places
@@ -127,7 +127,7 @@ ports = record {
 
 -- ---- links
 
-pub linked_turn : (links : List LinkRow) (s x : ℕ) → are_linked links s x ≡ are_linked links x s
+pub linked_turn : (links : List LinkRow) (s x : ℕ) → are_linked_in_net links s x ≡ are_linked_in_net links x s
 linked_turn [] s x = refl
 linked_turn (link ∷ links) s x = rw (
   or_comm (link.one == s && link.two == x) (link.one == x && link.two == s),
@@ -153,7 +153,7 @@ joined_below count s x link sound joined =
           (eqb-true link.one x (and_parts (link.one == x) (link.two == s) back).0) sound.one
     ]
 
-linked_below : (net : Net) (s x : ℕ) → IsNet net → are_linked net.links s x ≡ true
+linked_below : (net : Net) (s x : ℕ) → IsNet net → are_linked_in_net net.links s x ≡ true
     → x < length net.switches
 linked_below net s x sound linked =
     let (place, link, within, here, joined) = Any-from_list_any (joins s x) net.links linked in
@@ -167,8 +167,8 @@ links = record {
       (λ k d within. not_joined (length net.switches) s _ (sound.links k d within));
   below = linked_below;
   mask = λ net s sound k. elim (cases_lt k 64) [
-    | inl small ↦ in_mask_of (are_linked net.links s) k small
-    | inr past ↦ in_mask_past _ k (mask_of_lt (are_linked net.links s)) past
+    | inl small ↦ in_mask_of (are_linked_in_net net.links s) k small
+    | inr past ↦ in_mask_past _ k (mask_of_lt (are_linked_in_net net.links s)) past
         ∙ sym (false_from_ne_true _ (λ linked. absurd
         (omega (arith, linked_below net s k sound linked, sound.few_switches))))
   ];

@@ -7,7 +7,7 @@ use Rattle.net_file.specs.declared.error.NetRefusal.TheVariants as refusal
 use Rattle.net_file.specs.declared.net.SwitchRow.{SwitchRow}
 use Rattle.net_file.specs.declared.net.LinkRow.{LinkRow}
 use Rattle.net_file.specs.declared.net.Net.{Net}
-use Rattle.net_file.specs.Exports.{AreApart, AreOther, IsNetLink, IsNet, IsNetSwitchRow, are_distinct_ports, are_linked, are_new_net_ports, toml_array_in, at_key, toml_document_of, link_end_read, toml_ends_in, has_port, have_net_switch_name, have_port, is_name, joins, net_link_array, net_link_of, net_link_with, toml_name_in, net_of, net_read, net_number_or_default, toml_number_stated, toml_number_within, net_value_of_type, toml_ports_in, require_net_value, net_rows_read, net_switch_array, switch_number, net_switch_read, net_switch_with, with_toml_value}
+use Rattle.net_file.specs.Exports.{AreApart, AreOther, IsNetLink, IsNet, IsNetSwitchRow, are_distinct_ports, are_linked_in_net, are_new_net_ports, toml_array_in, at_key, toml_document_of, link_end_read, toml_ends_in, has_port, have_net_switch_name, have_port, is_name, joins, net_link_array, net_link_of, net_link_with, toml_name_in, net_of, net_read, net_number_or_default, toml_number_stated, toml_number_within, net_value_of_type, toml_ports_in, require_net_value, net_rows_read, net_switch_array, switch_number, net_switch_read, net_switch_with, with_toml_value}
 use Rattle.base.specs.Exports.{in_row, small_number_mask}
 use Rattle.net_file.proofs.NetFilePortMasks.{in_mask, in_mask_of, in_mask_past}
 
@@ -204,7 +204,7 @@ end_below switches name n e = at (switch_number switches name) refl e where
 -- a link that joins no switches that an earlier one joins
 record IsNewLink (count : ℕ) (earlier : List LinkRow) (link : LinkRow) : Type 0 where
   pub sound : IsNetLink count link
-  pub other : are_linked earlier link.one link.two ≡ false
+  pub other : are_linked_in_net earlier link.one link.two ≡ false
 
 link_new : (switches : List SwitchRow) (earlier : List LinkRow) (d : Data) (link : LinkRow)
     → net_link_of switches earlier d ≡ Ok link → IsNewLink (length switches) earlier link
@@ -215,7 +215,7 @@ link_new switches earlier d link e =
     let (one, first, e2) = with_value_ok (link_end_read switches ends.0) _ link e1 in
     let (two, second, e3) = with_value_ok (link_end_read switches ends.1) _ link e2 in
     let (apart, e4) = require_ok (not (one == two)) refusal.SelfLink _ link e3 in
-    let (other, e5) = require_ok (not (are_linked earlier one two)) refusal.DuplicateLink _ link
+    let (other, e5) = require_ok (not (are_linked_in_net earlier one two)) refusal.DuplicateLink _ link
     e4 in
     subst (IsNewLink (length switches) earlier) (ok_value _ link e5) (record {
       sound = record {

@@ -16,5 +16,5 @@ abbrev pub joins : ℕ → ℕ → LinkRow → Bool
 joins s x link = (link.one == s && link.two == x) || (link.one == x && link.two == s)
 
 -- some link joins them
-abbrev pub are_linked : List LinkRow → ℕ → ℕ → Bool
-are_linked links s x = list_any (joins s x) links
+abbrev pub are_linked_in_net : List LinkRow → ℕ → ℕ → Bool
+are_linked_in_net links s x = list_any (joins s x) links

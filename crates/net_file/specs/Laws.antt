@@ -1,4 +1,4 @@
--- The laws of networks: `x_laws` of the crate ensures the record of each.
+-- The laws of networks: a function of `src` ensures each record.
 use Rattle.std.specs.Prelude.{◌<◌, ◌==◌, ◌≡◌, ◌≢◌, ◌≤◌, All, Bool, List, Some, codes, false, is_some, length, slice_get, true, ℕ}
 use Rattle.base.specs.Exports.{bit_at}
 use Rattle.net_file.specs.declared.net.SwitchRow.{SwitchRow}
@@ -6,7 +6,7 @@ use Rattle.net_file.specs.declared.net.LinkRow.{LinkRow}
 use Rattle.net_file.specs.declared.net.Net.{Net}
 use Rattle.net_file.specs.Net.{IsNet, is_name}
 use Rattle.net_file.specs.Owners.{have_net_switch_name, port_mask, switch_number, links_of}
-use Rattle.net_file.specs.Joins.{are_linked, has_port, net_port_owner}
+use Rattle.net_file.specs.Joins.{are_linked_in_net, has_port, net_port_owner}
 
 -- the byte is no comma, no blank and no line feed
 pub record IsPlainNetByte (byte : ℕ) : Type 0 where
@@ -43,13 +43,13 @@ pub record NetPortLaws : Type 0 where
       → (bit_at (port_mask net.switches) port == 1) ≡ is_some (net_port_owner net.switches port)
 
 -- the mask has exactly the bits for which the test is true
-abbrev pub IsPortMask : ℕ → (ℕ → Bool) → Type 0
-IsPortMask mask test = (k : ℕ) → (bit_at mask k == 1) ≡ test k
+abbrev pub IsNetPortMask : ℕ → (ℕ → Bool) → Type 0
+IsNetPortMask mask test = (k : ℕ) → (bit_at mask k == 1) ≡ test k
 
 pub record NetLinkLaws : Type 0 where
-  pub both_ways : (links : List LinkRow) (s x : ℕ) → are_linked links s x ≡ are_linked links x s
-  pub not_itself : (net : Net) (s : ℕ) → IsNet net → are_linked net.links s s ≡ false
-  pub below : (net : Net) (s x : ℕ) → IsNet net → are_linked net.links s x ≡ true
+  pub both_ways : (links : List LinkRow) (s x : ℕ) → are_linked_in_net links s x ≡ are_linked_in_net links x s
+  pub not_itself : (net : Net) (s : ℕ) → IsNet net → are_linked_in_net net.links s s ≡ false
+  pub below : (net : Net) (s x : ℕ) → IsNet net → are_linked_in_net net.links s x ≡ true
       → x < length net.switches
   pub mask : (net : Net) (s : ℕ) → IsNet net
-      → IsPortMask (links_of net.links s) (are_linked net.links s)
+      → IsNetPortMask (links_of net.links s) (are_linked_in_net net.links s)

@@ -62,8 +62,8 @@ pub record IsNet (net : Net) : Type 0 where
   pub cache : net.cache ≤ 65536
 
 -- one switch with all ports, and leaves of the greatest size
-abbrev pub solo_net : Net
-solo_net = record {
+abbrev pub net_of_one_switch : Net
+net_of_one_switch = record {
   switches = record { name = codes "s0"; ports = 2 ^ 64 - 1; room = 8192 } ∷ [];
   links = [];
   leaf_rules = 8192;
@@ -76,5 +76,5 @@ abbrev pub switch_name_of : Net → ℕ → List ℕ
 switch_name_of net s = option_map_or (λ row. row.name) (slice_get net.switches s) []
 
 -- the names of switches, each after a blank
-abbrev pub names_text : Net → List ℕ → List ℕ
-names_text net list = flat_map (λ s. codes " " ++ switch_name_of net s) list
+abbrev pub net_switch_names_text : Net → List ℕ → List ℕ
+net_switch_names_text net list = flat_map (λ s. codes " " ++ switch_name_of net s) list

@@ -3,16 +3,16 @@ use Rattle.std.specs.Prelude.{◌≡◌, Bool, List, None, Option, bytes_eq, pos
 use Rattle.base.specs.Exports.{list_any, small_number_mask}
 use Rattle.net_file.specs.declared.net.SwitchRow.{SwitchRow}
 use Rattle.net_file.specs.declared.ports.Ports.{Ports}
-use Rattle.net_file.specs.Joins.{net_port_owner, has_port, are_linked}
+use Rattle.net_file.specs.Joins.{net_port_owner, has_port, are_linked_in_net}
 use Rattle.net_file.specs.declared.net.LinkRow.{LinkRow}
 
 -- what the table says about a port
-abbrev pub port_owner : Ports → ℕ → Option ℕ
-port_owner ports port = slice_index_or ports.owners port None
+abbrev pub owner_in_net_ports : Ports → ℕ → Option ℕ
+owner_in_net_ports ports port = slice_index_or ports.owners port None
 
 -- the table says which of the switches has each port
-abbrev pub ArePortOwners : List SwitchRow → Ports → Type 0
-ArePortOwners switches ports = (port : ℕ) → port_owner ports port ≡ net_port_owner switches port
+abbrev pub AreNetPortOwners : List SwitchRow → Ports → Type 0
+AreNetPortOwners switches ports = (port : ℕ) → owner_in_net_ports ports port ≡ net_port_owner switches port
 
 -- the number of the switch with this name: its place, from 0
 abbrev pub switch_number : List SwitchRow → List ℕ → Option ℕ
@@ -31,4 +31,4 @@ port_mask switches = small_number_mask (have_port switches)
 
 -- the switches that a link joins to s
 abbrev pub links_of : List LinkRow → ℕ → ℕ
-links_of links s = small_number_mask (are_linked links s)
+links_of links s = small_number_mask (are_linked_in_net links s)

@@ -13,7 +13,7 @@ use Rattle.net_file.specs.declared.net.SwitchRow.{SwitchRow}
 use Rattle.net_file.specs.declared.net.LinkRow.{LinkRow}
 use Rattle.net_file.specs.declared.net.Net.{Net}
 use Rattle.net_file.specs.Owners.{have_net_switch_name, have_port, switch_number}
-use Rattle.net_file.specs.Joins.{are_linked}
+use Rattle.net_file.specs.Joins.{are_linked_in_net}
 
 -- ---- kinds of values
 
@@ -79,8 +79,8 @@ are_new_net_ports earlier ports = are_distinct_ports ports && not (list_any (hav
 abbrev pub switch_name_at : Members → Result (List ℕ) NetRefusal
 switch_name_at keys = at_key toml_name_in (Err refusal.MissingKey) keys (codes "name")
 
-abbrev pub switch_ports_at : Members → Result (List ℕ) NetRefusal
-switch_ports_at keys = at_key toml_ports_in (Ok []) keys (codes "ports")
+abbrev pub net_switch_ports_at : Members → Result (List ℕ) NetRefusal
+net_switch_ports_at keys = at_key toml_ports_in (Ok []) keys (codes "ports")
 
 -- a list of ports as a mask
 abbrev pub port_bits : List ℕ → ℕ
@@ -88,7 +88,7 @@ port_bits ports = small_number_mask (λ port. list_any (nat_eq port) ports)
 
 -- the switch that these keys state, after the earlier switches
 abbrev pub net_switch_with : List SwitchRow → Members → Result SwitchRow NetRefusal
-net_switch_with earlier keys = with_toml_value (switch_name_at keys) (λ name. with_toml_value (switch_ports_at keys) (λ ports.
+net_switch_with earlier keys = with_toml_value (switch_name_at keys) (λ name. with_toml_value (net_switch_ports_at keys) (λ ports.
     with_toml_value (net_number_or_default keys (codes "authority") 0 8192 0) (λ room.
     require_net_value (not (have_net_switch_name earlier name)) refusal.DuplicateName (
     require_net_value (are_new_net_ports earlier ports) refusal.DuplicatePort (
@@ -116,7 +116,7 @@ net_link_with switches earlier keys =
     with_toml_value (link_end_read switches ends.0) (λ one.
     with_toml_value (link_end_read switches ends.1) (λ two.
     require_net_value (not (one == two)) refusal.SelfLink (
-    require_net_value (not (are_linked earlier one two)) refusal.DuplicateLink (
+    require_net_value (not (are_linked_in_net earlier one two)) refusal.DuplicateLink (
     Ok (record { one = one; two = two }))))))
 
 abbrev pub net_link_of : List SwitchRow → List LinkRow → Data → Result LinkRow NetRefusal

@@ -1,5 +1,5 @@
 ghost use Rattle.std.specs.Prelude.{◌≡◌, ℕ, List, Ok};
-ghost use Rattle.net_file.specs.Exports.{IsNet, NameLaws, NetLinkLaws, NetPortLaws, net_of, solo_net};
+ghost use Rattle.net_file.specs.Exports.{IsNet, NameLaws, NetLinkLaws, NetPortLaws, net_of, net_of_one_switch};
 ghost use Rattle.net_file.specs.declared.net.Net.{Net};
 
 /// Names and numbers of switches correspond one to one, and no byte of a name is a comma, a blank
@@ -14,12 +14,12 @@ pub fn net_port_laws()
 {}
 
 /// Links go both ways, between two different switches of the network.
-pub fn link_laws()
+pub fn net_file_link_laws()
     ensures { NetLinkLaws }
 {}
 
 /// The network that a text states satisfies `IsNet`, and so does the network of one switch.
 pub fn net_laws()
     ensures stated { (bytes : List ℕ) (net : Net) → net_of bytes ≡ Ok net → IsNet net }
-    ensures solo { IsNet solo_net }
+    ensures solo { IsNet net_of_one_switch }
 {}

@@ -21,7 +21,7 @@ mod read;
 mod switches;
 
 pub use error::{NetError, NetRefusal};
-pub use laws::{link_laws, net_laws, net_port_laws, switch_name_laws};
+pub use laws::{net_file_link_laws, net_laws, net_port_laws, switch_name_laws};
 pub use net::{LinkRow, Links, Name, Net, SwitchRow, Switches, solo};
 pub use ports::Ports;
 pub use read::read_net;

@@ -1,6 +1,6 @@
 ghost use Rattle.std.specs.Prelude.{◌≡◌, ◌≤◌, ◌<◌, Ok, [], IfOk, IfErr, length, map, Err};
 ghost use Rattle.toml.specs.View.{table_view, view};
-ghost use Rattle.net_file.specs.Exports.{are_linked, link_end_read, toml_ends_in, net_link_array, net_link_of, net_links_in};
+ghost use Rattle.net_file.specs.Exports.{are_linked_in_net, link_end_read, toml_ends_in, net_link_array, net_link_of, net_links_in};
 ghost use Rattle.net_file.specs.Outcomes.{IsNetRowRead, toml_seen_values};
 ghost use Rattle.base.specs.Refusals.{IsCallRefusal};
 
@@ -46,7 +46,7 @@ fn toml_ends_in(value: &Value) -> Result<(&str, &str), NetRefusal>
 }
 
 // The number of the switch with this name; `UnknownName` if there is none.
-fn end_of(switches: &[SwitchRow], name: &str) -> Result<u32, NetRefusal>
+fn net_file_link_end(switches: &[SwitchRow], name: &str) -> Result<u32, NetRefusal>
     requires { length switches.now ≤ 64 }
     ensures { result ≡ link_end_read switches.now name.now }
 {
@@ -54,14 +54,14 @@ fn end_of(switches: &[SwitchRow], name: &str) -> Result<u32, NetRefusal>
 }
 
 // Whether one of the links joins these two switches.
-fn are_linked(links: &[LinkRow], one: u32, two: u32) -> bool
-    ensures { result ≡ are_linked links.now one two }
+fn are_linked_in_net(links: &[LinkRow], one: u32, two: u32) -> bool
+    ensures { result ≡ are_linked_in_net links.now one two }
 {
     links.iter().any(|link| link.joins(one, two))
 }
 
 // The link that a value states, or its first refusal; `earlier` are the links before it.
-fn read_link(
+fn read_net_link(
     switches: &[SwitchRow],
     earlier: &[LinkRow],
     value: &Value,
@@ -73,12 +73,12 @@ fn read_link(
         return Err(NetRefusal::MissingKey);
     };
     let (one, two) = toml_ends_in(value)?;
-    let one = end_of(switches, one)?;
-    let two = end_of(switches, two)?;
+    let one = net_file_link_end(switches, one)?;
+    let two = net_file_link_end(switches, two)?;
     if one == two {
         return Err(NetRefusal::SelfLink);
     }
-    if are_linked(earlier, one, two) {
+    if are_linked_in_net(earlier, one, two) {
         return Err(NetRefusal::DuplicateLink);
     }
     Ok(LinkRow { one, two })
@@ -103,7 +103,7 @@ pub fn read_links(
     let mut row = LINK_ROWS;
     for value in values {
         row += 1;
-        let link = match read_link(switches, &rows, value) {
+        let link = match read_net_link(switches, &rows, value) {
             Ok(link) => link,
             Err(refusal) => return Err(NetError::Refused(InRow { refusal, row })),
         };

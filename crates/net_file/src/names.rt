@@ -1,6 +1,6 @@
 ghost use Rattle.std.specs.Prelude.{◌≡◌, ◌++◌, OnOk, IsTrue};
 ghost use Rattle.std.specs.String.{string_bytes};
-ghost use Rattle.net_file.specs.Net.{IsNet, is_name, switch_name_of, names_text};
+ghost use Rattle.net_file.specs.Net.{IsNet, is_name, switch_name_of, net_switch_names_text};
 
 use crate::net::Net;
 use std::alloc::AllocError;
@@ -14,7 +14,7 @@ impl Net {
         ensures { result.now ≡ switch_name_of self.now s }
     {
         match self.switches.items().get(s as usize) {
-            Some(row) => text_of(row.name.bytes()),
+            Some(row) => net_name_text(row.name.bytes()),
             None => "",
         }
     }
@@ -26,7 +26,7 @@ impl Net {
     pub fn push_names(&self, text: &mut String, switches: &[u32]) -> Result<(), AllocError>
         requires { IsNet self.now }
         ensures { OnOk result (string_bytes text.new
-            ≡ string_bytes text.old ++ names_text self.now switches.now) }
+            ≡ string_bytes text.old ++ net_switch_names_text self.now switches.now) }
     {
         for s in switches {
             let name = self.name(*s);
@@ -38,7 +38,7 @@ impl Net {
 
 // A name as text.
 #[tactic(auto, using(crate::proofs::NetFileNames::name_is_text))]
-fn text_of(name: &[u8]) -> &str
+fn net_name_text(name: &[u8]) -> &str
     requires { IsTrue (is_name name.now) }
     ensures { result.now ≡ name.now }
 {

@@ -1,7 +1,7 @@
 ghost use Rattle.std.specs.Prelude.{◌≡◌, ◌≤◌, ◌<◌, ◌==◌, ℕ, false, IfOk, IfNone, IfSome, length};
-ghost use Rattle.net_file.specs.Exports.{ArePortOwners, IsNetLink, IsNet, joins, links_of, net_port_owner, port_mask, solo_net, switch_number};
+ghost use Rattle.net_file.specs.Exports.{AreNetPortOwners, IsNetLink, IsNet, joins, links_of, net_port_owner, port_mask, net_of_one_switch, switch_number};
 
-use crate::ports::{Ports, owners};
+use crate::ports::{Ports, net_port_owners};
 use base::{Items, has, with};
 use std::alloc::{AllocError, AllocFailed, Global};
 use std::marker::Model;
@@ -102,7 +102,7 @@ impl Name {
 }
 
 // The place of the switch with this name; `None` if no switch has it.
-fn place_of(switches: &[SwitchRow], name: &[u8]) -> Option<usize>
+fn net_switch_place(switches: &[SwitchRow], name: &[u8]) -> Option<usize>
     ensures place { result ≡ switch_number switches.now name.now }
     ensures there { IfSome result (λ place. place < length switches.now) }
 {
@@ -114,7 +114,7 @@ pub(crate) fn net_switch_number(switches: &[SwitchRow], name: &[u8]) -> Option<u
     requires { length switches.now ≤ 64 }
     ensures { result ≡ switch_number switches.now name.now }
 {
-    match place_of(switches, name) {
+    match net_switch_place(switches, name) {
         Some(place) => Some(place as u32),
         None => None,
     }
@@ -142,12 +142,12 @@ pub(crate) fn port_owner_in(switches: &[SwitchRow], port: u32) -> Option<u32>
     }
 }
 
-/// The network of one switch `s0` with all ports; its trees have one leaf.
+/// The network of one switch `s0` with all ports, on which a policy's cut tree has one leaf.
 ///
 /// # Errors
 /// Only out of memory.
 pub fn solo(alloc: Global) -> Result<Net, AllocError>
-    ensures net { IfOk result (λ net. net ≡ solo_net) }
+    ensures net { IfOk result (λ net. net ≡ net_of_one_switch) }
     ensures sound { IfOk result IsNet }
 {
     let mut rows = Vec::new(alloc);
@@ -203,9 +203,9 @@ impl Net {
     /// Which switch has each port.
     pub fn ports(&self) -> Ports
         requires { IsNet self.now }
-        ensures { ArePortOwners self.now.switches result }
+        ensures { AreNetPortOwners self.now.switches result }
     {
-        owners(self.switches.items())
+        net_port_owners(self.switches.items())
     }
 }
 

@@ -1,5 +1,5 @@
 ghost use Rattle.std.specs.Prelude.{◌≡◌, ◌<◌, ◌≤◌, ℕ, None, length};
-ghost use Rattle.net_file.specs.Exports.{net_port_owner, port_owner};
+ghost use Rattle.net_file.specs.Exports.{net_port_owner, owner_in_net_ports};
 
 use crate::net::{SwitchRow, port_owner_in};
 
@@ -15,7 +15,7 @@ pub struct Ports {
 impl Ports {
     /// The number of the switch that has the port; `None` if no switch has it.
     pub fn owner(&self, port: u32) -> Option<u32>
-        ensures { result ≡ port_owner self.now port }
+        ensures { result ≡ owner_in_net_ports self.now port }
     {
         if port < PORTS as u32 {
             self.owners[port as usize].map(u32::from)
@@ -26,10 +26,10 @@ impl Ports {
 }
 
 /// Which of the switches has each port.
-pub(crate) fn owners(switches: &[SwitchRow]) -> Ports
+pub(crate) fn net_port_owners(switches: &[SwitchRow]) -> Ports
     requires { length switches.now ≤ 64 }
-    ensures owners { (port : ℕ) → port < 64 → port_owner result port ≡ net_port_owner switches.now port }
-    ensures past { (port : ℕ) → 64 ≤ port → port_owner result port ≡ None }
+    ensures owners { (port : ℕ) → port < 64 → owner_in_net_ports result port ≡ net_port_owner switches.now port }
+    ensures past { (port : ℕ) → 64 ≤ port → owner_in_net_ports result port ≡ None }
 {
     let mut owners = [None; PORTS];
     for port in 0..PORTS {

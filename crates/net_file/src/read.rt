@@ -13,7 +13,7 @@ use std::alloc::Global;
 use toml::Table;
 
 // The network that a document states, or its first refusal.
-fn read_table(alloc: Global, table: &Table) -> Result<Net, NetError>
+fn read_net_document(alloc: Global, table: &Table) -> Result<Net, NetError>
     ensures net { IfOk result (λ net. net_read (table_view table.now) ≡ Ok net) }
     ensures refused { IfErr result (IsCallRefusal (net_read (table_view table.now))) }
 {
@@ -53,5 +53,5 @@ pub fn read_net(alloc: Global, bytes: &[u8]) -> Result<Net, NetError>
     ensures refused { IfErr result (IsCallRefusal (net_of bytes.now)) }
     ensures sound { IfOk result IsNet }
 {
-    read_table(alloc, &read_document(alloc, bytes)?)
+    read_net_document(alloc, &read_document(alloc, bytes)?)
 }

@@ -2,12 +2,14 @@ ghost use Rattle.std.specs.Prelude.{◌≡◌, ◌≤◌, ◌<◌, Ok, [], IfOk,
 ghost use Rattle.std.specs.List.{list_all};
 ghost use Rattle.toml.specs.Data.{as_integer};
 ghost use Rattle.toml.specs.View.{table_view, view};
-ghost use Rattle.net_file.specs.Exports.{IsPortMask, are_name_bytes, are_new_net_ports, have_net_switch_name, have_port, is_net_label, is_name, is_name_byte, switch_name_at, port_bits, toml_port_read, switch_ports_at, toml_ports_of, net_row_stated, net_switch_array, net_switch_read, net_switch_with, switches_read};
+ghost use Rattle.net_file.specs.Exports.{IsNetPortMask, are_name_bytes, are_new_net_ports, have_net_switch_name, have_port, is_net_label, is_name, is_name_byte, switch_name_at, port_bits, toml_port_read, net_switch_ports_at, toml_ports_of, net_row_stated, net_switch_array, net_switch_read, net_switch_with, switches_read};
 ghost use Rattle.net_file.specs.Outcomes.{IsNetRowRead, toml_seen_values};
 ghost use Rattle.base.specs.Refusals.{IsCallRefusal, in_row};
 
 use crate::error::{NetError, NetRefusal};
-use crate::keys::{setting_of, toml_array_in, toml_table_in, toml_text_in, toml_value_at, within};
+use crate::keys::{
+    setting_of, toml_array_in, toml_number_in_range, toml_table_in, toml_text_in, toml_value_at,
+};
 use crate::net::{Name, SwitchRow};
 use base::{InRow, MAX_SWITCHES, has, with};
 use std::alloc::Global;
@@ -91,7 +93,7 @@ fn toml_port_of(value: &Value) -> Option<u32>
     ensures port { result ≡ toml_port_read (view value.now) }
     ensures small { IfSome result (λ port. port < 64) }
 {
-    within(0, 63, value.as_integer()?)
+    toml_number_in_range(0, 63, value.as_integer()?)
 }
 
 // Whether each value is an integer.
@@ -111,7 +113,7 @@ fn are_ports(values: &[Value]) -> bool
 // The values of the array `ports`, each of which is a port; none without the key.
 fn read_ports(keys: &Table) -> Result<&[Value], NetRefusal>
     ensures { IsNetRowRead (λ values. toml_ports_of (toml_seen_values values))
-        (switch_ports_at (table_view keys.now)) result }
+        (net_switch_ports_at (table_view keys.now)) result }
 {
     let Some(value) = toml_value_at(keys, "ports") else {
         return Ok(&[]);
@@ -134,8 +136,8 @@ fn have_net_switch_name(rows: &[SwitchRow], name: &[u8]) -> bool
 }
 
 // The mask of the ports; `None` if one occurs twice or is in `taken`, the earlier ports.
-fn new_ports(values: &[Value], earlier: &[SwitchRow], taken: u64) -> Option<u64>
-    requires { IsPortMask taken (have_port earlier.now) }
+fn new_net_ports(values: &[Value], earlier: &[SwitchRow], taken: u64) -> Option<u64>
+    requires { IsNetPortMask taken (have_port earlier.now) }
     ensures new { is_some result ≡ are_new_net_ports earlier.now (toml_ports_of (map view values.now)) }
     ensures mask { IfSome result (λ mask. mask ≡ port_bits (toml_ports_of (map view values.now))) }
 {
@@ -166,7 +168,7 @@ fn read_switch_keys<'a>(
     taken: u64,
     keys: &'a Table,
 ) -> Result<Stated<'a>, NetRefusal>
-    requires { IsPortMask taken (have_port earlier.now) }
+    requires { IsNetPortMask taken (have_port earlier.now) }
     ensures { IsNetRowRead net_row_stated (net_switch_with earlier.now (table_view keys.now)) result }
 {
     let name = read_name(keys)?;
@@ -175,7 +177,7 @@ fn read_switch_keys<'a>(
     if have_net_switch_name(earlier, name.as_bytes()) {
         return Err(NetRefusal::DuplicateName);
     }
-    let ports = new_ports(values, earlier, taken).ok_or(NetRefusal::DuplicatePort)?;
+    let ports = new_net_ports(values, earlier, taken).ok_or(NetRefusal::DuplicatePort)?;
     Ok(Stated { name, ports, room })
 }
 
@@ -187,7 +189,7 @@ fn read_switch(
     value: &Value,
     row: u32,
 ) -> Result<SwitchRow, NetError>
-    requires { IsPortMask taken (have_port earlier.now) }
+    requires { IsNetPortMask taken (have_port earlier.now) }
     ensures switch { IfOk result (λ switch. net_switch_read earlier.now (view value.now) ≡ Ok switch) }
     ensures refused { IfErr result (IsCallRefusal (in_row row (net_switch_read earlier.now
         (view value.now)))) }

@@ -14,7 +14,7 @@ use Rattle.failover.specs.declared.advert.Advert.{Advert}
 use Rattle.switch_table.specs.Exports.{AreSoundSwitchTables}
 use Rattle.switch_table.specs.declared.tables.PartRow.{PartRow}
 use Rattle.switch_table.specs.declared.tables.Tables.{Tables}
-use Rattle.switch_core.specs.Exports.{CanSwitchLookUp, IsAtAuthoritySwitch, PacketStandsAtSwitch, SwitchValue, new_switch, own_part}
+use Rattle.switch_core.specs.Exports.{CanSwitchLookUp, IsSwitchAuthorityForLeg, SwitchStandsAtRoutePlace, SwitchValue, new_switch, own_part}
 use Rattle.tunnel.specs.Exports.{IsTunnelPlaceOnRoute}
 
 abbrev pub whole_row : PartRow
@@ -48,7 +48,7 @@ own_whole t auth header = rw auth (any_holds (number_of header))
 -- a switch that begins with them
 pub at_authority : (t : Tables) (capacity : ℕ) (base : List (Option Advert)) →
     ((header : Header) → IsSomeAnd (own_part t 0) (λ part. IsTrue (is_in_policy_partition header part))) →
-    (header : Header) → IsAtAuthoritySwitch (new_switch 1 capacity t base) header (Seek 1 0)
+    (header : Header) → IsSwitchAuthorityForLeg (new_switch 1 capacity t base) header (Seek 1 0)
 at_authority t capacity base own header = by_test (t.version == 1) where
   by_test : (test : Bool) → IfSome (cond test (Some t) None)
       (λ tables. IsSomeAnd (own_part tables 0) (λ part. IsTrue (is_in_policy_partition header part)))
@@ -61,6 +61,6 @@ looks_up t capacity base version serving = rw (eq-eqb t.version 1 version) refl
 
 -- a packet is at the switch that has this number
 pub stands : (s : SwitchValue) (route : List ℕ) (place at number : ℕ) → IsTunnelPlaceOnRoute route place →
-    at ≡ get_or route place 0 → number ≡ s.number → (at == number) ≡ true → PacketStandsAtSwitch s route place
+    at ≡ get_or route place 0 → number ≡ s.number → (at == number) ≡ true → SwitchStandsAtRoutePlace s route place
 stands s route place at number on is own same = slice_get-get_or route place 0 on.within
     ∙ ap Some (sym is ∙ eqb-true at number same ∙ own)

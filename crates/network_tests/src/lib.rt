@@ -1,6 +1,7 @@
-//! Worked values of the network: of a switch that decides, and of a full cache. Of the wire:
-//! encodings byte by byte, bytes that are no encoding, and frames in another order than theirs. And
-//! of a world's steps, of a replay by one call, of traces, and of loads.
+//! Worked values of the network: switches, caches, the wire, worlds, replays, traces and loads.
+//!
+//! Of the wire: encodings byte by byte, bytes that are no encoding, and frames in another order
+//! than theirs.
 //!
 //! They make the calls that no example shows, with ample memory, on values that come from outside.
 //! There are only tests here, so that none of those crates is proved a second time together with

@@ -2,15 +2,15 @@
 use Rattle.std.proofs.Common.{[], ◌<◌, ◌∙◌, ◌∷◌, ◌≡◌, ◌≤◌, ◌⊎◌, All, Contains, IsTrue, List, None, Option, Some, ap, arith, eqb-true, false, inl, inr, is_some, length, refl, rules, subst, sym, unwrap_or, ℕ}
 use Rattle.base.proofs.Exports.{All-contains, Any-from_list_any, find-there, some_same}
 use Rattle.five_tuple.specs.Exports.{IsHeader, number_of}
-use Rattle.update_machine.specs.Exports.{Action, AuthorityRule, CacheEntry, Decision, Exit, Found, JournalItemsHaveCauses, Header, How, IsSetting, Item, Leg, NamesSettingPort, Seek, Setting, Tables, journal_cache_of, journal_current_mark, journal_found_down, lookup_at, no_switch, owner, policy_at, journal_retired_mark, journal_route_from, journal_stamp_of, targets_of}
-use Rattle.net_file.specs.Exports.{IsNet, are_linked, net_port_owner}
+use Rattle.update_machine.specs.Exports.{Action, AuthorityRule, CacheEntry, Decision, Exit, Found, JournalItemsHaveCauses, Header, How, IsSetting, Item, Leg, NamesSettingPort, Seek, Setting, Tables, journal_cache_of, journal_current_mark, journal_found_down, lookup_at, no_switch, owner, policy_at, journal_retired_mark, journal_route_from, journal_stamp_of, journal_leg_targets}
+use Rattle.net_file.specs.Exports.{IsNet, are_linked_in_net, net_port_owner}
 use Rattle.net_file.proofs.NetFileRowPlaces.{joined_below}
 use Rattle.policy_rules.specs.Exports.{scan}
 use Rattle.switch_table.specs.Exports.{Hosted, first_entry, table_lookup}
 use Rattle.ternary.specs.Exports.{holds}
 use Rattle.control_laws.specs.Exports.{HasControlItemCause, AdvertisedLinksAreThere}
 use Rattle.control_laws.proofs.Exports.{HasBothCauses}
-use Rattle.packet_laws.specs.Exports.{AuthorityDecidesPacket, PacketRouteAvoidsFound, Blocked, CacheDecidesPacket, CameIn, PacketDecidesBy, HasKeptPacketFacts, IsPacketAt, IsPacketDecided, IsPacketLookedUp, IsPacketOnLeg, IsPacketOnWay, IsPacketPartitionOf, IsPacketRedirectedHere, IsRightEntry, IsRightlyDecided, IsSoughtByPacket, IsPacketUnderWay, Judged, PacketRouteLeadsToTarget, PacketMeetsDown, PacketMovesOver, OnWay, PacketFacts, PacketStage, PacketTakesDetour, PacketTakesExit, PacketTakesRoute, packet_facts_after, packet_stage_of, packet_facts_of}
+use Rattle.packet_laws.specs.Exports.{AuthorityDecidesPacket, PacketRouteAvoidsFound, Blocked, CacheDecidesPacket, CameIn, PacketDecidesBy, HasKeptPacketFacts, IsPacketAt, IsPacketDecided, IsPacketLookedUp, IsPacketOnLeg, IsPacketOnWay, IsPacketPartitionOf, IsPacketRedirectedHere, IsRightPacketCacheEntry, IsPacketRightlyDecided, IsSoughtByPacket, IsPacketUnderWay, Judged, PacketRouteLeadsToTarget, PacketMeetsDown, PacketMovesOver, OnWay, PacketFacts, PacketStage, PacketTakesDetour, PacketTakesExit, PacketTakesRoute, packet_facts_after, packet_stage_of, packet_facts_of}
 use Rattle.packet_laws.proofs.PacketHeaderLookups.{FindsTargets, IsHere, decision_in, found_in, here_of, leg_in, next_in, redirect_found, rules_of, scan_named, seeking_of}
 use Rattle.packet_laws.proofs.PacketBlocks.{WhenDecided}
 use Rattle.packet_laws.proofs.PacketKnownRoutes.{IsWay, route_way}
@@ -41,7 +41,7 @@ pub gone : (setting : Setting) (before : List Item) (facts : PacketFacts) (stage
 gone setting before facts stage ended = search rules
 
 linked_there : (setting : Setting) (one two : ℕ) → IsNet setting.net
-    → IsTrue (are_linked setting.net.links one two) → two < length setting.net.switches
+    → IsTrue (are_linked_in_net setting.net.links one two) → two < length setting.net.switches
 linked_there setting one two net linked = search (rules, Any-from_list_any, joined_below)
 
 -- ---- undecided packets
@@ -99,7 +99,7 @@ redirected_to setting before i s version partition here takes =
 -- whose targets the leg to it has
 seek_targets : (setting : Setting) (before : List Item) (header : Header) (version partition : ℕ)
     (hosted : Hosted) → IsPacketPartitionOf setting before header version partition hosted
-    → targets_of setting before (Seek version partition) ≡ hosted.1
+    → journal_leg_targets setting before (Seek version partition) ≡ hosted.1
 seek_targets setting before header version partition hosted own = cc own.found
 
 -- a packet that takes a route where it is
@@ -157,7 +157,7 @@ exiting_after setting before i mark route knows exits =
     let s : ℕ = exits.by.switch in
     let out = exits.by.takes in
     let here : IsHere setting before i s = here_known setting before i s knows exits.by.at in
-    let judged : IsRightlyDecided setting before facts here.under.header =
+    let judged : IsPacketRightlyDecided setting before facts here.under.header =
     knows.kept.judged here.travelling out.judged here.under.header here.under.entered in
     let decided = decision_in before i (Some out.decision) out.decided in
     let home : List ℕ = owner setting exits.port ∷ [] in
@@ -179,7 +179,7 @@ exiting_after setting before i mark route knows exits =
 -- on its leg with another route
 leg_by : (setting : Setting) (before : List Item) (facts : PacketFacts) (route : List ℕ)
     (header : Header) (leg : Leg) → IsPacketOnLeg setting before facts header leg
-    → PacketRouteLeadsToTarget setting (targets_of setting before leg) route
+    → PacketRouteLeadsToTarget setting (journal_leg_targets setting before leg) route
     → IsPacketOnLeg setting before (record facts { route = route }) header leg
 leg_by setting before facts route header (Seek version partition) on leads = record {
   undecided = on.undecided;
@@ -197,7 +197,7 @@ rerouted_after setting before i mark route knows turns =
     let here : IsHere setting before i s = here_known setting before i s knows turns.at in
     let was = knows.kept.on_way here.travelling (inr turns.blocked.blocked) in
     let leg = some_same _ was.leg turns.leg was.takes (leg_in before i _ turns.blocked.takes) in
-    let targets : List ℕ = targets_of setting before turns.leg in
+    let targets : List ℕ = journal_leg_targets setting before turns.leg in
     let way = route_way setting before s targets facts.found route knows.links
     (subst (λ down. journal_route_from setting before s targets down ≡ Some route) (found_in before i)
     turns.leads) in
@@ -300,7 +300,7 @@ has_cached setting before s header entry answer = search (rules, find-there, cac
 
 cache_decides : (setting : Setting) (before : List Item) (i s version : ℕ) (rule : Option ℕ)
     (act : Action) (message : ℕ) → IsSetting setting → (here : IsHere setting before i s)
-    → All (IsRightEntry setting before) (journal_cache_of setting before s).entries
+    → All (IsRightPacketCacheEntry setting before) (journal_cache_of setting before s).entries
     → CacheDecidesPacket setting before i s version rule act message
     → DecidesRightly setting before (packet_facts_of before i) here.under.header version rule act
 cache_decides setting before i s version rule act message is here right by =
@@ -308,7 +308,7 @@ cache_decides setting before i s version rule act message is here right by =
     let header : Header = here.under.header in
     let cached = has_cached setting before s header entry
     (ap (lookup_at setting before s) (sym here.header) ∙ by.answer) in
-    let own = All-contains (IsRightEntry setting before) (journal_cache_of setting before s).entries entry
+    let own = All-contains (IsRightPacketCacheEntry setting before) (journal_cache_of setting before s).entries entry
     right cached.there in
     let stamp : entry.version ≡ journal_stamp_of before s = cached.stamp in
     let match = ap (λ v. scan (policy_at setting before v) header) by.of_version
@@ -356,7 +356,7 @@ pub record IsDecidedNow (setting : Setting) (before : List Item) (i s version : 
 pub decided_now : (setting : Setting) (before : List Item) (i s version : ℕ) (rule : Option ℕ)
     (act : Action) (by : How) → Knows setting before i (packet_stage_of before i)
     → (here : IsHere setting before i s)
-    → All (IsRightEntry setting before) (journal_cache_of setting before s).entries
+    → All (IsRightPacketCacheEntry setting before) (journal_cache_of setting before s).entries
     → PacketDecidesBy setting before i s version rule act by
     → IsDecidedNow setting before i s version rule act here.under.header
 decided_now setting before i s version rule act (How.Cached message) knows here right decides =
@@ -372,7 +372,7 @@ decided_now setting before i s version rule act (How.Authority home partition) k
 
 pub decided_after : (setting : Setting) (before : List Item) (i mark version : ℕ) (rule : Option ℕ)
     (act : Action) (by : How) → Knows setting before i (packet_stage_of before i)
-    → ((s : ℕ) → All (IsRightEntry setting before) (journal_cache_of setting before s).entries)
+    → ((s : ℕ) → All (IsRightPacketCacheEntry setting before) (journal_cache_of setting before s).entries)
     → IsPacketDecided setting before i version rule act by → HasKeptPacketFacts setting before
     (packet_facts_after mark (Item.Decided i version rule act by) (packet_facts_of before i)) (Some Judged)
 decided_after setting before i mark version rule act by knows right decided =
@@ -381,7 +381,7 @@ decided_after setting before i mark version rule act by knows right decided =
     let s : ℕ = decided.switch in
     let here : IsHere setting before i s = here_known setting before i s knows decided.at in
     let now = decided_now setting before i s version rule act by knows here (right s) decided.by in
-    let judged : IsRightlyDecided setting before after here.under.header = record {
+    let judged : IsPacketRightlyDecided setting before after here.under.header = record {
       decision = record { version = version; rule = rule; action = act };
       decided = refl;
       not_retired = now.rightly.not_retired;
@@ -396,7 +396,7 @@ decided_after setting before i mark version rule act by knows right decided =
         mark = here.under.mark;
       };
       came_in = λ travels is. absurd cc;
-      judged = λ travels is header entered. subst (IsRightlyDecided setting before after)
+      judged = λ travels is header entered. subst (IsPacketRightlyDecided setting before after)
           (some_same facts.header here.under.header header here.under.entered entered) judged;
       on_way = λ travels is. grind arith;
       avoids = λ travels is. absurd cc;

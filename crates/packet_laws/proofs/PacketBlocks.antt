@@ -1,11 +1,11 @@
 -- The blocks of a packet's items have their causes, whatever journal they follow.
 use Rattle.std.proofs.Common.{[], ◌++◌, ◌∙◌, ◌∷◌, ◌≡◌, ◌⊎◌, Bool, IsTrue, List, None, Option, Some, false, inl, inr, refl, rules, slice_get, subst, sym, true, unwrap_or, ℕ}
 use Rattle.base.proofs.Exports.{option_or}
-use Rattle.update_machine.specs.Exports.{Action, AuthorityRule, Decision, Exit, Found, JournalItemsHaveCauses, Header, How, Item, Leg, Lose, Message, Seek, Setting, journal_leg_arrival_items, machine_arrive_items, machine_authority_items, journal_authority_rule, journal_cache_items, journal_decision_of, end_items, first_place, journal_found_down, found_items, item_gives_decision, item_gives_serving, item_gives_standing, item_gives_travelling, go_on, journal_packet_header_at, journal_packet_header, holds_version, machine_hop_items, in_turn, journal_items_then, machine_leg_items, journal_leg_of, lookup_at, lookup_items, lose_items, move_items, near, next_switch, nothing, packet_items, journal_plan_at, journal_present_step, journal_reroute_by, reroute_items, journal_packet_route, journal_route_in, route_place, machine_sent_items_from, serves, journal_stamp_of, standing, stuck_on_leg_items, takes_route, travels}
+use Rattle.update_machine.specs.Exports.{Action, AuthorityRule, Decision, Exit, Found, JournalItemsHaveCauses, Header, How, Item, Leg, Lose, Message, Seek, Setting, journal_leg_arrival_items, machine_arrive_items, machine_authority_items, journal_authority_rule, journal_cache_items, journal_decision_of, machine_end_items, first_place, journal_found_down, found_items, machine_item_gives_decision, machine_item_gives_serving, machine_item_gives_standing, machine_item_gives_travelling, go_on, journal_packet_header_at, journal_packet_header, holds_version, machine_hop_items, in_turn, journal_items_then, machine_leg_items, journal_leg_of, lookup_at, machine_lookup_items, lose_items, machine_move_items, near, journal_next_switch, nothing, machine_packet_items, journal_plan_at, journal_present_step, journal_reroute_by, machine_reroute_items, journal_packet_route, journal_route_in, route_place, machine_sent_items_from, serves, journal_stamp_of, standing, machine_stuck_on_leg_item, machine_takes_route, travels}
 use Rattle.base.specs.Exports.{has}
 use Rattle.update_machine.proofs.Exports.{folded_append, have_append, have_first, last_given_append, lookup_stays, near_stays, policies_keep, switch_keeps}
 use Rattle.control_laws.proofs.Exports.{last_more, own, serving_more}
-use Rattle.packet_laws.specs.Exports.{ArePacketsResting, PacketArrivesHere, AuthorityFinds, Blocked, CameIn, IsPacketAt, IsPacketLookedUp, IsPacketLookedUpBy, PacketIsOfRow, Judged, OnWay, HasPacketItemCause, ReachesAuthority, PacketStage, PacketTakesLeg, gives_packet_stage, packet_stage_of}
+use Rattle.packet_laws.specs.Exports.{ArePacketsResting, PacketArrivesHere, AuthorityFinds, Blocked, CameIn, IsPacketAt, IsPacketLookedUp, IsPacketLookedUpBy, PacketIsOfRow, Judged, OnWay, HasPacketItemCause, PacketReachesAuthority, PacketStage, PacketTakesLeg, gives_packet_stage, packet_stage_of}
 use Rattle.packet_laws.proofs.PacketKnownRoutes.{first_usable}
 
 abbrev pub Ways : Setting → List Item → List Item → Type 0
@@ -14,19 +14,19 @@ Ways setting journal items = JournalItemsHaveCauses (HasPacketItemCause setting)
 -- ---- what stays behind one more item
 
 pub travels_more : (before : List Item) (next : Item) (i : ℕ)
-    → travels (before ++ next ∷ []) i ≡ unwrap_or (item_gives_travelling i next) (travels before i)
+    → travels (before ++ next ∷ []) i ≡ unwrap_or (machine_item_gives_travelling i next) (travels before i)
 unfolding travels
-travels_more before next i = last_more (item_gives_travelling i) before next false
+travels_more before next i = last_more (machine_item_gives_travelling i) before next false
 
 -- an item with which it ends
-pub ended : (before : List Item) (next : Item) (i : ℕ) → item_gives_travelling i next ≡ Some false
+pub ended : (before : List Item) (next : Item) (i : ℕ) → machine_item_gives_travelling i next ≡ Some false
     → travels (before ++ next ∷ []) i ≡ false
 ended before next i ends = rw (travels_more before next i, ends) refl
 
 pub standing_more : (before : List Item) (next : Item) (i : ℕ)
-    → standing (before ++ next ∷ []) i ≡ option_or (item_gives_standing i next) (standing before i)
+    → standing (before ++ next ∷ []) i ≡ option_or (machine_item_gives_standing i next) (standing before i)
 unfolding standing
-standing_more before next i = last_given_append (item_gives_standing i) before (next ∷ [])
+standing_more before next i = last_given_append (machine_item_gives_standing i) before (next ∷ [])
 
 pub stage_next : (before : List Item) (next : Item) (i : ℕ)
     → packet_stage_of (before ++ next ∷ []) i ≡ option_or (gives_packet_stage i next) (packet_stage_of before i)
@@ -42,8 +42,8 @@ pub stage_stays : (before : List Item) (next : Item) (i : ℕ) → gives_packet_
 stage_stays before next i tells = rw (stage_next before next i, tells) refl
 
 -- an item that leaves a packet where it is
-pub still : (before : List Item) (next : Item) (i s : ℕ) → item_gives_travelling i next ≡ None
-    → item_gives_standing i next ≡ None → item_gives_serving s next ≡ None → IsPacketAt before i s
+pub still : (before : List Item) (next : Item) (i s : ℕ) → machine_item_gives_travelling i next ≡ None
+    → machine_item_gives_standing i next ≡ None → machine_item_gives_serving s next ≡ None → IsPacketAt before i s
     → IsPacketAt (before ++ next ∷ []) i s
 still before next i s travelling stands serving at =
     search (rules, travels_more, standing_more, serving_more)
@@ -53,7 +53,7 @@ still before next i s travelling stands serving at =
 takes_cause : (setting : Setting) (journal : List Item) (i s : ℕ) (leg : Leg) (route : List ℕ)
     → IsPacketAt journal i s → PacketTakesLeg setting journal i s leg
     → journal_packet_route setting journal i s leg ≡ Some route
-    → HasPacketItemCause setting journal (takes_route i leg route)
+    → HasPacketItemCause setting journal (machine_takes_route i leg route)
 takes_cause setting journal i s (Seek version partition) route at takes leads =
     record { switch = s; at = at; takes = takes; leads = leads }
 takes_cause setting journal i s (Exit port) route at takes leads =
@@ -74,8 +74,8 @@ pub record IsDecidedHere (journal : List Item) (i s : ℕ) (decision : Decision)
 
 pub end_ways : (setting : Setting) (journal : List Item) (i s : ℕ) (decision : Decision)
     (act : Action) → IsDecidedHere journal i s decision → decision.action ≡ act
-    → Ways setting journal (end_items setting i s act journal)
-unfolding end_items
+    → Ways setting journal (machine_end_items setting i s act journal)
+unfolding machine_end_items
 end_ways setting journal i s decision act here says = search (rules, leg_ways)
 
 -- ---- decisions
@@ -88,7 +88,7 @@ judged_now journal i s version rule act by at =
     let decided : Item = Item.Decided i version rule act by in record {
       at = still journal decided i s refl refl refl at;
       judged = stage_more journal decided i Judged (rw (own i) refl);
-      decided = rw (last_given_append (item_gives_decision i) journal (decided ∷ []), own i) refl;
+      decided = rw (last_given_append (machine_item_gives_decision i) journal (decided ∷ []), own i) refl;
     }
 
 judged_on : (journal : List Item) (i s number : ℕ) (message : Message) (decision : Decision)
@@ -99,7 +99,7 @@ judged_on journal i s number message decision here =
     let sent : Item = Item.Sent number message in record {
       at = still journal sent i s refl refl refl here.at;
       judged = stage_stays journal sent i refl ∙ here.judged;
-      decided = last_given_append (item_gives_decision i) journal (sent ∷ []) ∙ here.decided;
+      decided = last_given_append (machine_item_gives_decision i) journal (sent ∷ []) ∙ here.decided;
     }
 
 header_more : (journal : List Item) (i version : ℕ) (rule : Option ℕ) (act : Action) (by : How)
@@ -149,14 +149,14 @@ cache_ways : (setting : Setting) (journal : List Item) (i s : ℕ) (found : Auth
     } in
     IsDecidedHere journal i s decision → AuthorityFinds setting journal i s found.version found
     → Ways setting journal
-    (in_turn (journal_cache_items setting i s found ∷ end_items setting i s found.rule.action ∷ []) journal)
+    (in_turn (journal_cache_items setting i s found ∷ machine_end_items setting i s found.rule.action ∷ []) journal)
 unfolding journal_cache_items machine_sent_items_from
 cache_ways setting journal i s found here finds = search (rules, have_append, end_ways, judged_on)
 
 -- the packet is looked up or arrives where its rule is found
 abbrev pub WhenDecided : List Item → ℕ → ℕ → ℕ → Type 0
 WhenDecided journal i s version =
-    IsPacketLookedUpBy journal i s version ⊎ ReachesAuthority journal i s version
+    IsPacketLookedUpBy journal i s version ⊎ PacketReachesAuthority journal i s version
 
 pub authority_ways : (setting : Setting) (journal : List Item) (i s version : ℕ)
     (o : Option AuthorityRule) → IsPacketAt journal i s → WhenDecided journal i s version
@@ -172,7 +172,7 @@ authority_ways setting journal i s version (Some found) at when finds =
     have_first (HasPacketItemCause setting)
     (Item.Decided i found.version found.rule.rule found.rule.action
     (How.Authority s found.part.number))
-    (in_turn (journal_cache_items setting i s found ∷ end_items setting i s found.rule.action ∷ []))
+    (in_turn (journal_cache_items setting i s found ∷ machine_end_items setting i s found.rule.action ∷ []))
     journal
     (record {
       switch = s;
@@ -204,7 +204,7 @@ found_ways : (setting : Setting) (journal : List Item) (i s : ℕ) (what : Found
 found_ways setting journal i s (Found.Cached entry) at looked answer =
     have_first (HasPacketItemCause setting)
     (Item.Decided i entry.version entry.rule entry.action (How.Cached entry.message))
-    (end_items setting i s entry.action) journal
+    (machine_end_items setting i s entry.action) journal
     (record { switch = s; at = at; by = search (rules, looked, answer) }) (end_ways setting _ i s
     (record { version = entry.version; rule = entry.rule; action = entry.action }) entry.action
     (judged_now journal i s entry.version entry.rule entry.action (How.Cached entry.message) at)
@@ -225,8 +225,8 @@ found_ways setting journal i s (Found.Redirect partition targets) at looked answ
     search (rules, leg_ways)
 
 pub lookup_ways : (setting : Setting) (journal : List Item) (i s : ℕ) → IsPacketAt journal i s
-    → IsPacketLookedUp journal i s → Ways setting journal (lookup_items setting i s journal)
-unfolding lookup_items
+    → IsPacketLookedUp journal i s → Ways setting journal (machine_lookup_items setting i s journal)
+unfolding machine_lookup_items
 lookup_ways setting journal i s at looked = search (rules, found_ways)
 
 -- ---- on the way
@@ -237,7 +237,7 @@ unfolding machine_arrive_items
 arrive_ways setting journal i s at arrives = by_leg (journal_leg_of journal i) refl where
   by_held : (version partition : ℕ) (b : Bool) → journal_leg_of journal i ≡ Some (Seek version partition)
       → holds_version journal s version ≡ b → Ways setting journal (elim b [
-        | false ↦ lookup_items setting i s journal
+        | false ↦ machine_lookup_items setting i s journal
         | true ↦ machine_authority_items setting i s (journal_authority_rule setting journal version partition
             (first_place setting journal version partition (journal_packet_header_at journal i))) journal
       ])
@@ -272,19 +272,19 @@ arrive_ways setting journal i s at arrives = by_leg (journal_leg_of journal i) r
 
 -- behind a new route the packet is at its first place
 route_now : (journal : List Item) (i : ℕ) (route : List ℕ)
-    → next_switch (journal ++ Item.Rerouted i route ∷ []) i ≡ slice_get route 1
-unfolding next_switch journal_route_in route_place
+    → journal_next_switch (journal ++ Item.Rerouted i route ∷ []) i ≡ slice_get route 1
+unfolding journal_next_switch journal_route_in route_place
 route_now journal i route = rw (last_given_append, folded_append, own) refl
 
 go_on_ways : (setting : Setting) (journal : List Item) (i s : ℕ) → IsPacketAt journal i s
     → packet_stage_of journal i ≡ Some OnWay
-    → ((next : ℕ) → next_switch journal i ≡ Some next → IsTrue (has (near setting journal s) next))
+    → ((next : ℕ) → journal_next_switch journal i ≡ Some next → IsTrue (has (near setting journal s) next))
     → Ways setting journal (go_on setting i s journal)
 go_on_ways setting journal i s at moving usable = search (rules, arrive_ways)
 
 reroute_ways : (setting : Setting) (journal : List Item) (i s : ℕ) → IsPacketAt journal i s
-    → packet_stage_of journal i ≡ Some Blocked → Ways setting journal (reroute_items setting i s journal)
-unfolding reroute_items
+    → packet_stage_of journal i ≡ Some Blocked → Ways setting journal (machine_reroute_items setting i s journal)
+unfolding machine_reroute_items
 reroute_ways setting journal i s at blocked = by_leg (journal_leg_of journal i) refl where
   detour : (leg : Leg) (route : List ℕ) → journal_leg_of journal i ≡ Some leg
       → journal_packet_route setting journal i s leg ≡ Some route
@@ -305,7 +305,7 @@ reroute_ways setting journal i s at blocked = by_leg (journal_leg_of journal i) 
 
   by_route : (leg : Leg) (o : Option (List ℕ)) → journal_leg_of journal i ≡ Some leg
       → journal_packet_route setting journal i s leg ≡ o → Ways setting journal (elim o [
-        | None ↦ stuck_on_leg_items setting journal i s leg ∷ []
+        | None ↦ machine_stuck_on_leg_item setting journal i s leg ∷ []
         | Some route ↦ journal_items_then (Item.Rerouted i route ∷ []) (go_on setting i s) journal
       ])
   by_route leg None takes none = (
@@ -326,27 +326,27 @@ reroute_ways setting journal i s at blocked = by_leg (journal_leg_of journal i) 
   by_leg (Some leg) e = by_route leg (journal_packet_route setting journal i s leg) e refl
 
 move_ways : (setting : Setting) (journal : List Item) (i s : ℕ) → IsPacketAt journal i s
-    → packet_stage_of journal i ≡ Some OnWay → Ways setting journal (move_items setting i s journal)
-unfolding move_items
-move_ways setting journal i s at moving = by_next (next_switch journal i) refl where
-  by_link : (next : ℕ) (b : Bool) → next_switch journal i ≡ Some next
+    → packet_stage_of journal i ≡ Some OnWay → Ways setting journal (machine_move_items setting i s journal)
+unfolding machine_move_items
+move_ways setting journal i s at moving = by_next (journal_next_switch journal i) refl where
+  by_link : (next : ℕ) (b : Bool) → journal_next_switch journal i ≡ Some next
       → has (near setting journal s) next ≡ b → Ways setting journal (elim b [
         | true ↦ Item.Hopped i next ∷ []
-        | false ↦ journal_items_then (Item.FoundDown i s next ∷ []) (reroute_items setting i s) journal
+        | false ↦ journal_items_then (Item.FoundDown i s next ∷ []) (machine_reroute_items setting i s) journal
       ])
   by_link next true goes_on e =
       (record { switch = s; at = at; moving = moving; goes_on = goes_on; usable = e }, tt)
   by_link next false goes_on e = let met : Item = Item.FoundDown i s next in
-      have_first (HasPacketItemCause setting) met (reroute_items setting i s) journal
+      have_first (HasPacketItemCause setting) met (machine_reroute_items setting i s) journal
       (record { at = at; moving = moving; goes_on = goes_on; unusable = e })
       (reroute_ways setting (journal ++ met ∷ []) i s (still journal met i s refl refl refl at)
       (stage_more journal met i Blocked (rw (own i) refl)))
 
-  by_next : (o : Option ℕ) → next_switch journal i ≡ o → Ways setting journal (elim o [
+  by_next : (o : Option ℕ) → journal_next_switch journal i ≡ o → Ways setting journal (elim o [
     | None ↦ machine_arrive_items setting i s journal
     | Some next ↦ elim (has (near setting journal s) next) [
       | true ↦ Item.Hopped i next ∷ []
-      | false ↦ journal_items_then (Item.FoundDown i s next ∷ []) (reroute_items setting i s) journal
+      | false ↦ journal_items_then (Item.FoundDown i s next ∷ []) (machine_reroute_items setting i s) journal
     ]
   ])
   by_next None e = arrive_ways setting journal i s at (record { moving = moving; last = e })
@@ -359,16 +359,16 @@ entered_at : (journal : List Item) (i s : ℕ) (header : Header) → IsTrue (ser
 entered_at journal i s header serving = search (rules, travels_more, standing_more, serving_more)
 
 pub packet_ways : (setting : Setting) (journal : List Item) (i s : ℕ) (header : Header)
-    → PacketIsOfRow journal i s header → Ways setting journal (packet_items setting i s header journal)
-unfolding packet_items
+    → PacketIsOfRow journal i s header → Ways setting journal (machine_packet_items setting i s header journal)
+unfolding machine_packet_items
 packet_ways setting journal i s header of_row = by_serving (serves journal s) refl where
   by_serving : (b : Bool) → serves journal s ≡ b → Ways setting journal (elim b [
     | false ↦ Item.Closed i s ∷ []
-    | true ↦ journal_items_then (Item.Entered i s header ∷ []) (lookup_items setting i s) journal
+    | true ↦ journal_items_then (Item.Entered i s header ∷ []) (machine_lookup_items setting i s) journal
   ])
   by_serving false e = (((header, of_row), e), tt)
   by_serving true e = let entered : Item = Item.Entered i s header in
-      have_first (HasPacketItemCause setting) entered (lookup_items setting i s) journal (of_row, e)
+      have_first (HasPacketItemCause setting) entered (machine_lookup_items setting i s) journal (of_row, e)
       (lookup_ways _ _ i s (entered_at _ i s _ e) (inl (stage_more _ _ i CameIn (rw (own i) refl))))
 
 pub hop_ways : (setting : Setting) (journal : List Item) (i : ℕ) → ArePacketsResting journal

@@ -6,7 +6,7 @@ use Rattle.base.proofs.Exports.{All-from_recursion, nat_tests}
 use Rattle.failover.specs.Exports.{no_links}
 use Rattle.base.specs.Exports.{has, small_number_mask, number_set_where, switches}
 use Rattle.partition.specs.Plan.{Hosted}
-use Rattle.update_machine.specs.Exports.{AreMachineLegTargets, Authority, Crash, Deliver, Drop, Exit, HasCause, Hop, IsSettingPlanOf, Item, Leads, LinkDown, NoAuthority, NoRoute, Out, Packet, Restart, Rule, Seek, Setting, Update, acked_stamp, journal_claim_of, controller_heard, journal_current_mark, journal_decision_of, journal_packet_header, is_link_up_in_journal, is_member, is_open, is_over, is_up, journal_known_boot, message_of, near, journal_next_policy, journal_next_retired, next_switch, opened_at, journal_present_step, journal_retired_mark, journal_route_in, route_place, serves, standing}
+use Rattle.update_machine.specs.Exports.{AreMachineLegTargets, Authority, Crash, Deliver, Drop, Exit, HasMachineCause, Hop, IsSettingPlanOf, Item, Leads, LinkDown, NoAuthority, NoRoute, Out, Packet, Restart, Rule, Seek, Setting, Update, acked_stamp, journal_claim_of, journal_controller_heard, journal_current_mark, journal_decision_of, journal_packet_header, is_link_up_in_journal, is_member, is_open, is_over, is_up, journal_known_boot, journal_message_of, near, journal_next_policy, journal_next_retired, journal_next_switch, journal_opened_at, journal_present_step, journal_retired_mark, journal_route_in, route_place, serves, standing}
 use Rattle.ternary.specs.Exports.{holds}
 use Rattle.update_machine.proofs.Exports.{all_dropped, any_word, ends_within, first_alone, line_of_three, of_first, of_second, on, one, open_net, other, plan_p, ring, rule}
 use Rattle.packet_laws.specs.Exports.{PacketMovesOver, StrongCause, entry_mark}
@@ -72,7 +72,7 @@ own_targets journal version rules undecided entered planned = (
 stuck_at : (journal : List Item) (version : ℕ) → standing journal 1 ≡ Some 0
     → IsTrue (serves journal 0) → IsFalse (is_link_up_in_journal journal 0 1)
     → AreMachineLegTargets open_net journal 1 (Seek version 0) (1 ∷ [])
-    → HasCause open_net journal (seeking version)
+    → HasMachineCause open_net journal (seeking version)
 stuck_at journal version stands serving down own = record {
   stands = stands;
   serving = serving;
@@ -84,7 +84,7 @@ stuck_at journal version stands serving down own = record {
 abbrev lets_out : List Rule
 lets_out = rule any_word 0 (Some 100) (Out 2) ∷ rule any_word 1 None Drop ∷ []
 
-stuck_have_causes : HasCause open_net retired (seeking 1) × HasCause open_net to_come (seeking 2)
+stuck_have_causes : HasMachineCause open_net retired (seeking 1) × HasMachineCause open_net to_come (seeking 2)
 unfolding standing serves is_link_up_in_journal journal_packet_header journal_decision_of
 stuck_have_causes = (
   stuck_at retired 1 refl refl refl (own_targets retired 1 lets_out refl refl (of_first retired)),
@@ -105,7 +105,7 @@ not_stuck_by_no_version : StrongCause open_net to_come (seeking 7) → ⊥
 unfolding journal_current_mark
 not_stuck_by_no_version cause = absurd (omega (arith, cause.1.rightly.current))
 
-not_stuck_seeking_once_decided : HasCause open_net decided (seeking 1) → ⊥
+not_stuck_seeking_once_decided : HasMachineCause open_net decided (seeking 1) → ⊥
 unfolding journal_decision_of
 not_stuck_seeking_once_decided cause = let none = cause.own_leg.0 in absurd cc
 
@@ -123,8 +123,8 @@ entered = Item.Row 1 (Packet 0 one) ∷ Item.Entered 1 0 one ∷ []
 its_part : (k : ℕ) (hosted : Hosted) → k < 1 → get_or plan_p k hosted ≡ hosted → hosted.1 ≡ 1 ∷ []
 its_part k hosted within e = search rules
 
-not_stuck_where_a_way_is_known : HasCause open_net entered (seeking 1) → ⊥
-unfolding is_link_up_in_journal serves journal_claim_of message_of
+not_stuck_where_a_way_is_known : HasMachineCause open_net entered (seeking 1) → ⊥
+unfolding is_link_up_in_journal serves journal_claim_of journal_message_of
 not_stuck_where_a_way_is_known cause =
     let own = cause.own_leg in
     let plan : own.3 ≡ plan_p = first_alone entered own.3 own.4 in
@@ -179,7 +179,7 @@ not_hopped_where_no_link_leads : StrongCause line_of_three leap (Item.Hopped 1 2
 unfolding near standing has small_number_mask number_set_where switches is_link_up_in_journal serves
 not_hopped_where_no_link_leads cause = search (rules, hops_over_usable)
 
-not_found_down_where_no_link_is : HasCause line_of_three leap (Item.FoundDown 1 0 2) → ⊥
+not_found_down_where_no_link_is : HasMachineCause line_of_three leap (Item.FoundDown 1 0 2) → ⊥
 not_found_down_where_no_link_is cause = let linked : false ≡ true = cause.linked in absurd cc
 
 -- over a link that failed
@@ -194,36 +194,36 @@ not_hopped_over_a_failed_link cause = search (rules, hops_over_usable)
 -- ---- what fails
 
 -- a switch that no row crashes doesn't go down, and a link that no row fails doesn't change
-not_down_for_nothing : HasCause open_net (Item.Row 1 (Deliver 7) ∷ []) (Item.Down 0) → ⊥
+not_down_for_nothing : HasMachineCause open_net (Item.Row 1 (Deliver 7) ∷ []) (Item.Down 0) → ⊥
 unfolding journal_present_step
 not_down_for_nothing crashes = absurd cc
 
-not_booted_for_nothing : HasCause open_net (Item.Row 1 (Crash 0) ∷ []) (Item.Booted 0 2) → ⊥
+not_booted_for_nothing : HasMachineCause open_net (Item.Row 1 (Crash 0) ∷ []) (Item.Booted 0 2) → ⊥
 unfolding journal_present_step
 not_booted_for_nothing cause = let restarts = cause.0 in absurd cc
 
-not_booted_while_it_serves : HasCause open_net (Item.Row 1 (Restart 0) ∷ []) (Item.Booted 0 2) → ⊥
+not_booted_while_it_serves : HasMachineCause open_net (Item.Row 1 (Restart 0) ∷ []) (Item.Booted 0 2) → ⊥
 unfolding serves
 not_booted_while_it_serves cause = let closed : true ≡ false = cause.1 in absurd cc
 
 -- nor is a policy submitted that no row updates to
-not_submitted_for_nothing : HasCause open_net (Item.Row 1 (Deliver 7) ∷ []) (Item.Submitted 2 2) → ⊥
+not_submitted_for_nothing : HasMachineCause open_net (Item.Row 1 (Deliver 7) ∷ []) (Item.Submitted 2 2) → ⊥
 unfolding journal_present_step
 not_submitted_for_nothing updates = absurd cc
 
-not_failed_for_nothing : HasCause open_net (Item.Row 1 (LinkDown 0 2) ∷ [])
+not_failed_for_nothing : HasMachineCause open_net (Item.Row 1 (LinkDown 0 2) ∷ [])
     (Item.LinkIs 0 1 false) → ⊥
 unfolding journal_present_step
 not_failed_for_nothing h0 = search rules
 
-failed_by_its_row : HasCause open_net (Item.Row 1 (LinkDown 1 0) ∷ []) (Item.LinkIs 0 1 false)
+failed_by_its_row : HasMachineCause open_net (Item.Row 1 (LinkDown 1 0) ∷ []) (Item.LinkIs 0 1 false)
 unfolding journal_present_step
 failed_by_its_row = inr refl
 
 -- by another way than its route
 not_hopped_off_its_route : StrongCause ring (Item.Row 1 (Packet 0 one) ∷ Item.Entered 1 0 one
     ∷ Item.Seeking 1 1 0 (0 ∷ 1 ∷ 3 ∷ []) ∷ Item.Row 2 (Hop 1) ∷ []) (Item.Hopped 1 2) → ⊥
-unfolding next_switch journal_route_in route_place
+unfolding journal_next_switch journal_route_in route_place
 not_hopped_off_its_route cause = search rules
 
 -- ---- decisions and losses
@@ -238,7 +238,7 @@ not_decided_by_a_version_to_come cause = absurd (omega (arith, cause.1.0.current
 abbrev uncrashed : List Item
 uncrashed = Item.Row 1 (Packet 0 one) ∷ Item.Entered 1 0 one ∷ Item.Row 2 (Crash 0) ∷ []
 
-lost_has_cause : HasCause open_net uncrashed (Item.Lost 1)
+lost_has_cause : HasMachineCause open_net uncrashed (Item.Lost 1)
 unfolding journal_present_step standing
 lost_has_cause = inr (record { switch = 0; crashes = refl; stands = refl })
 
@@ -257,6 +257,6 @@ not_submitted_without_a_file cause = cc cause.1.policy
 -- a mark that isn't below the stamp that each member acknowledged
 not_retired_while_stamped : StrongCause open_net
     (Item.Row 1 (Update 2) ∷ Item.Submitted 2 2 ∷ Item.Current 2 ∷ []) (Item.Retired 1) → ⊥
-unfolding journal_next_retired acked_stamp is_member is_over journal_known_boot opened_at controller_heard
+unfolding journal_next_retired acked_stamp is_member is_over journal_known_boot journal_opened_at journal_controller_heard
     journal_current_mark
 not_retired_while_stamped cause = let least : 1 ≡ 0 = cause.1.least in absurd (omega (arith, least))

@@ -1,20 +1,20 @@
 -- The cache rule of the rule by which a partition of a plan decides a header is right: the policy
 -- decides each header of its word so.
 use Rattle.std.proofs.Common.{[], ◌&&◌, ◌++◌, ◌<◌, ◌==◌, ◌^◌, ◌||◌, ◌∙◌, ◌∷◌, ◌≡◌, ◌≤◌, ◌⊎◌, All, Bool, Contains, IsNone, IsSomeAnd, IsTrue, List, None, Option, Some, ap, arith, cond, drop, eqb-true, false, find, if◌then◌else◌, inl, inr, length, map, mod-eq_of_lt, nat_le, nat_lt, option_map, refl, slice_get, subst, suc, sym, take, true, zero, ℕ, rules}
-use Rattle.update_machine.specs.Exports.{Action, Body, CacheEntry, CacheRule, Exit, SettingHasPlan, JournalItemsHaveCauses, Header, Hit, IsSetting, Item, Leg, OpenAt, Partition, Row, Rule, Seek, Setting, Stamp, VersionsAreNumbered, journal_body_to_switch, machine_cache_after, journal_cache_of, machine_cache_carried_from, changes_journal_cache, journal_current_mark, journal_plan_at, policy_at, policy_in, raised_from, journal_retired_mark, journal_stamp_of, touched_by, journal_version_count}
+use Rattle.update_machine.specs.Exports.{Action, Body, CacheEntry, CacheRule, Exit, SettingHasPlan, JournalItemsHaveCauses, Header, Hit, IsSetting, Item, Leg, OpenAt, Partition, Row, Rule, Seek, Setting, Stamp, JournalVersionsAreNumbered, journal_body_to_switch, machine_cache_after, journal_cache_of, machine_cache_carried_from, changes_journal_cache, journal_current_mark, journal_plan_at, policy_at, policy_in, raised_from, journal_retired_mark, journal_stamp_of, machine_touched_by, journal_version_count}
 use Rattle.policy_rules.specs.Exports.{IsFirstMatch, first_rule, policy_hit_of_rule, is_held, is_in_policy_partition, scan}
 use Rattle.policy_rules.proofs.PolicyRulesCallerLemmas.{first_match-only, first_match-scan, none_from_not_some}
 use Rattle.update_machine.proofs.Exports.{folded_append, plan_stays, policy_stays, touched_apart, versions_own}
 use Rattle.base.proofs.Exports.{All-append, All-contains, All-drop, All-filter, All-push, All-tail, All-take, All-weaker, and_mask, get_or_from_slice_get, list_any, option_map_or, same_Some, slice_get-map, slice_get_within}
-use Rattle.cache_maker.specs.Independent.{IsIndependentCacheWord, is_independent, widen, widening_of}
+use Rattle.cache_maker.specs.Independent.{IsIndependentCacheWord, is_cache_word_independent, widen, widening_of}
 use Rattle.cache_maker.proofs.IndependentCacheWords.{test_true}
 use Rattle.five_tuple.specs.Exports.{IsHeader, number_of}
 use Rattle.switch_table.specs.Exports.{CacheValue, Hosted, WasCacheEntryCarried, cache_after_carry, cache_after_raise, cache_word_meets_touched, newest_cache_entries, part_of, same_key}
-use Rattle.ternary.specs.Exports.{WordValue, word_covers_of, exact_word, free_of, holds, meet_of}
+use Rattle.ternary.specs.Exports.{WordValue, word_covers_of, exact_word, ternary_with_bit_freed, holds, meet_of}
 use Rattle.ternary.proofs.TernaryCallerLemmas.{covers_held, meet_disjoint}
 use Rattle.packet_laws.proofs.PacketHeaderLookups.{Finds, IsPlanned}
 use Rattle.switch_table.proofs.CacheCarryLemmas.{only_carried}
-use Rattle.packet_laws.specs.Exports.{HasKeptPacketFacts, IsPacketOnLeg, IsPacketOnWay, IsPacketPartitionOf, IsRightEntry, IsRightPacketRule, IsRightlyDecided, IsSoughtByPacket, IsToldStamp, IsPacketUnderWay, PacketFacts, PacketStage}
+use Rattle.packet_laws.specs.Exports.{HasKeptPacketFacts, IsPacketOnLeg, IsPacketOnWay, IsPacketPartitionOf, IsRightPacketCacheEntry, IsRightPacketRule, IsPacketRightlyDecided, IsSoughtByPacket, IsToldToStampPackets, IsPacketUnderWay, PacketFacts, PacketStage}
 use Rattle.control_laws.specs.Exports.{HasControlItemCause}
 use Rattle.control_laws.proofs.Exports.{bounded, caused_numbered, current_rises, retired_rises}
 
@@ -113,17 +113,17 @@ widened_settles : (setting : Setting) (rows : List Row) (plan : List Hosted) (he
 unfolding widening_of
 widened_settles setting rows plan header hosted finds zero is sound = search (rules, exact_settles)
 widened_settles setting rows plan header hosted finds (suc n) is sound =
-    by_test (is_independent hosted.0.region hosted.0.rules finds.place (free_of before n)) refl
+    by_test (is_cache_word_independent hosted.0.region hosted.0.rules finds.place (ternary_with_bit_freed before n)) refl
     (widened_settles setting rows plan header hosted finds n is sound)
   where
     before : WordValue
     before = widening_of (number_of header) hosted.0.region hosted.0.rules finds.place n
 
-    by_test : (b : Bool) → is_independent hosted.0.region hosted.0.rules finds.place
-        (free_of before n) ≡ b → Settles rows finds.rule before
-        → Settles rows finds.rule (if b then free_of before n else before)
+    by_test : (b : Bool) → is_cache_word_independent hosted.0.region hosted.0.rules finds.place
+        (ternary_with_bit_freed before n) ≡ b → Settles rows finds.rule before
+        → Settles rows finds.rule (if b then ternary_with_bit_freed before n else before)
     by_test true independent settled = independent_settles setting rows plan header hosted finds _
-        is (test_true hosted.0.region hosted.0.rules finds.place (free_of before n) independent)
+        is (test_true hosted.0.region hosted.0.rules finds.place (ternary_with_bit_freed before n) independent)
     by_test false other settled = settled
 
 -- ---- the cache rule
@@ -140,22 +140,22 @@ cache_rule_right setting rows plan header hosted finds is sound = search (rules,
 module _ (setting : Setting) (before : List Item) (version : ℕ) (cache : CacheValue)
     (is : IsSetting setting) (has : SettingHasPlan setting before version)
     (current : version ≤ journal_current_mark before)
-    (all : All (IsRightEntry setting before) cache.entries) where
+    (all : All (IsRightPacketCacheEntry setting before) cache.entries) where
   abbrev touched : List WordValue
-  touched = touched_by setting before version
+  touched = machine_touched_by setting before version
 
-  there : (old : CacheEntry) → Contains cache.entries old → IsRightEntry setting before old
-  there old inside = All-contains (IsRightEntry setting before) cache.entries old all inside
+  there : (old : CacheEntry) → Contains cache.entries old → IsRightPacketCacheEntry setting before old
+  there old inside = All-contains (IsRightPacketCacheEntry setting before) cache.entries old all inside
 
   -- an entry of the version before whose word meets no touched word
   over : (entry : CacheEntry) → WasCacheEntryCarried version touched cache entry
-      → IsRightEntry setting before entry
+      → IsRightPacketCacheEntry setting before entry
   over entry went =
       let old = went.old in
       let next : suc old.version ≡ version = omega (arith, went.before) in
-      let apart = subst (λ v. cache_word_meets_touched (touched_by setting before v) old.word ≡ false) (sym next)
+      let apart = subst (λ v. cache_word_meets_touched (machine_touched_by setting before v) old.word ≡ false) (sym next)
       went.apart in
-      subst (IsRightEntry setting before) (sym went.is) (record {
+      subst (IsRightPacketCacheEntry setting before) (sym went.is) (record {
         known = omega (arith, went.before);
         current = current;
         decides = λ header sound held. first_match_by_scan (policy_at setting before version) header
@@ -168,13 +168,13 @@ module _ (setting : Setting) (before : List Item) (version : ℕ) (cache : Cache
       })
 
   each : (entry : CacheEntry) → ((version ≤ entry.version) × Contains cache.entries entry)
-      ⊎ WasCacheEntryCarried version touched cache entry → IsRightEntry setting before entry
+      ⊎ WasCacheEntryCarried version touched cache entry → IsRightPacketCacheEntry setting before entry
   each entry (inl stays) = there entry stays.1
   each entry (inr went) = over entry went
 
-  pub carried_right : All (IsRightEntry setting before) (cache_after_carry version touched cache).entries
+  pub carried_right : All (IsRightPacketCacheEntry setting before) (cache_after_carry version touched cache).entries
   carried_right = All-weaker (λ entry. ((version ≤ entry.version) × Contains cache.entries entry)
-      ⊎ WasCacheEntryCarried version touched cache entry) (IsRightEntry setting before) each _
+      ⊎ WasCacheEntryCarried version touched cache entry) (IsRightPacketCacheEntry setting before) each _
       (only_carried version touched cache)
 
 -- ---- what is known of packets and of cache rules is known behind one more item, too
@@ -197,7 +197,7 @@ grows setting before next have cause = record {
   policy = λ v above below. policy_stays setting before (next ∷ []) v numbers (there v below);
   plan = λ v above below. plan_stays setting before (next ∷ []) v numbers (there v below);
 } where
-  numbers : VersionsAreNumbered before
+  numbers : JournalVersionsAreNumbered before
   numbers = caused_numbered setting before have
 
   there : (v : ℕ) → v ≤ journal_current_mark before → v ≤ journal_version_count before
@@ -258,8 +258,8 @@ way_on setting before after facts grow way = record {
 }
 
 judged_on : (setting : Setting) (before after : List Item) (facts : PacketFacts)
-    (header : Header) → Grows setting before after → IsRightlyDecided setting before facts header
-    → IsRightlyDecided setting after facts header
+    (header : Header) → Grows setting before after → IsPacketRightlyDecided setting before facts header
+    → IsPacketRightlyDecided setting after facts header
 judged_on setting before after facts header grow judged = record {
   decision = judged.decision;
   decided = judged.decided;
@@ -327,8 +327,8 @@ carried_holds P touched earlier version cache carries all = search rules
 -- the stamps that the switch is told of carry it
 abbrev pub StampsCarry : (CacheEntry → Type 0) → Setting → List Item → ℕ → Type 0
 StampsCarry P setting before s = (number boot version : ℕ) (touched : List WordValue)
-    → IsToldStamp before s number boot version touched
-    → IsCarried P version (touched_by setting before version)
+    → IsToldToStampPackets before s number boot version touched
+    → IsCarried P version (machine_touched_by setting before version)
 
 -- and the cache rules that are said to it bring it
 abbrev pub RulesBring : (CacheEntry → Type 0) → List Item → ℕ → Type 0
@@ -339,7 +339,7 @@ RulesBring P before s = (number version : ℕ) (word : WordValue) (rule : Option
 told_holds : (P : CacheEntry → Type 0) (setting : Setting) (s : ℕ) (before : List Item)
     (stamp number : ℕ) (cache : CacheValue) (body : Body) → journal_body_to_switch before s number
     ≡ Some body → StampsCarry P setting before s → RulesBring P before s → Holds P cache
-    → Holds P (machine_cache_after (touched_by setting before) (journal_stamp_of before s) stamp number cache body)
+    → Holds P (machine_cache_after (machine_touched_by setting before) (journal_stamp_of before s) stamp number cache body)
 told_holds P setting s before stamp number cache (CacheRule version word rule action) said carries
     brings all = by_test (nat_lt version stamp
     || list_any (same_key (entry_of number version word rule action)) cache.entries)
@@ -375,7 +375,7 @@ changed_holds P setting s before cache (Item.Expired switch place message) carri
 changed_holds P setting s before cache (Item.Delivered number) carries brings all = by_said _ refl
   where
     by_said : (o : Option Body) → journal_body_to_switch before s number ≡ o → Holds P (option_map_or
-        (machine_cache_after (touched_by setting before) (journal_stamp_of before s)
+        (machine_cache_after (machine_touched_by setting before) (journal_stamp_of before s)
         (journal_stamp_of (before ++ Item.Delivered number ∷ []) s) number cache) o cache)
     by_said None e = all
     by_said (Some body) e = told_holds P setting s before _ number cache body e carries brings all

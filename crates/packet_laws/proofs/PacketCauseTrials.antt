@@ -1,10 +1,10 @@
 -- Causes of packets' items on journals of few items, which must fail: what no switch writes.
 use Rattle.std.proofs.Common.{[], ◌∷◌, ◌≡◌, IsTrue, List, None, Some, arith, false, inr, refl, rules, subst, sym, true}
-use Rattle.failover.specs.Exports.{has_link, no_links, with_link}
+use Rattle.failover.specs.Exports.{has_route_link, no_links, with_link}
 use Rattle.base.specs.Exports.{has}
-use Rattle.update_machine.specs.Exports.{Cached, Crash, Drop, Exit, Item, NoAuthority, NoRoute, Out, Packet, Seek, journal_boot_of, journal_found_down, journal_packet_header, heard, is_up, journal_leg_of, journal_next_packet, next_switch, journal_present_step, journal_route_in, route_place, serves, journal_stamp_of, standing, travels}
+use Rattle.update_machine.specs.Exports.{Cached, Crash, Drop, Exit, Item, NoAuthority, NoRoute, Out, Packet, Seek, journal_boot_of, journal_found_down, journal_packet_header, heard, is_up, journal_leg_of, journal_next_packet, journal_next_switch, journal_present_step, journal_route_in, route_place, serves, journal_stamp_of, standing, travels}
 use Rattle.update_machine.proofs.Exports.{one, open_net}
-use Rattle.packet_laws.specs.Exports.{ArePacketsResting, IsAtEnd, IsPacketLookedUp, HasPacketItemCause, StrongCause, ends_with_row, fallen_switch, packet_stage_of}
+use Rattle.packet_laws.specs.Exports.{ArePacketsResting, IsAtEnd, IsPacketLookedUp, HasPacketItemCause, StrongCause, packet_law_ends_with_row, packet_fallen_switch, packet_stage_of}
 
 -- a packet entered at switch 0
 abbrev in_at_0 : List Item
@@ -90,7 +90,7 @@ not_looked_up_by_an_older_version causes = omega (arith, causes.1.0 2 0 refl)
 -- a new route over a link that was found down
 not_rerouted_over_a_link_found_down : StrongCause open_net (Item.Entered 1 0 one ∷ Item.Seeking 1 1
     0 (0 ∷ 1 ∷ []) ∷ Item.FoundDown 1 0 1 ∷ []) (Item.Rerouted 1 (0 ∷ 1 ∷ [])) → ⊥
-unfolding journal_found_down with_link has_link has
+unfolding journal_found_down with_link has_route_link has
 not_rerouted_over_a_link_found_down causes =
     let up : true ≡ false = causes.1.by.avoids 0 0 1 refl refl in cc
 
@@ -102,14 +102,14 @@ seeking = Item.Entered 1 0 one ∷ Item.Seeking 1 1 0 (0 ∷ 1 ∷ []) ∷ []
 
 -- it goes on from switch 0
 not_at_first : IsAtEnd seeking 1 0 one (Seek 1 0) → ⊥
-unfolding next_switch journal_route_in route_place
+unfolding journal_next_switch journal_route_in route_place
 not_at_first at = let last : Some 1 ≡ None = at.arrives.last in cc
 
 abbrev moved : List Item
 moved = Item.Entered 1 0 one ∷ Item.Seeking 1 1 0 (0 ∷ 1 ∷ []) ∷ Item.Hopped 1 1 ∷ []
 
 at_end : IsAtEnd moved 1 1 one (Seek 1 0)
-unfolding travels packet_stage_of next_switch journal_route_in route_place standing journal_packet_header journal_leg_of
+unfolding travels packet_stage_of journal_next_switch journal_route_in route_place standing journal_packet_header journal_leg_of
 at_end = search rules
 
 -- in the middle of a hop: it found the link down, and switch 0 is another target
@@ -118,19 +118,19 @@ rerouted = Item.Entered 1 0 one ∷ Item.Seeking 1 1 0 (0 ∷ 1 ∷ []) ∷ Item
     ∷ Item.Rerouted 1 (0 ∷ []) ∷ []
 
 at_another_target : IsAtEnd rerouted 1 0 one (Seek 1 0)
-unfolding travels packet_stage_of next_switch journal_route_in route_place standing journal_packet_header journal_leg_of
+unfolding travels packet_stage_of journal_next_switch journal_route_in route_place standing journal_packet_header journal_leg_of
 at_another_target = search rules
 
 -- ---- packets enter by a row of their own, and are lost in a crash that happened: on journals of
 -- few items.
 
 in_by_its_row : HasPacketItemCause open_net (Item.Row 1 (Packet 0 one) ∷ []) (Item.Entered 1 0 one)
-unfolding journal_next_packet journal_present_step ends_with_row serves
+unfolding journal_next_packet journal_present_step packet_law_ends_with_row serves
 in_by_its_row = (record { number = refl; row = refl; behind = refl }, refl)
 
 not_two_by_one_row : HasPacketItemCause open_net (Item.Row 1 (Packet 0 one) ∷ Item.Entered 1 0 one ∷ [])
     (Item.Entered 2 0 one) → ⊥
-unfolding ends_with_row
+unfolding packet_law_ends_with_row
 not_two_by_one_row way = let last : false ≡ true = way.0.behind in cc
 
 -- the switch goes down, and its packet is lost
@@ -138,7 +138,7 @@ abbrev crashed : List Item
 crashed = Item.Row 1 (Packet 0 one) ∷ Item.Entered 1 0 one ∷ Item.Row 2 (Crash 0) ∷ Item.Down 0 ∷ []
 
 lost_with_it : HasPacketItemCause open_net crashed (Item.Lost 1)
-unfolding travels journal_present_step fallen_switch is_up standing
+unfolding travels journal_present_step packet_fallen_switch is_up standing
 lost_with_it = record {
   travelling = refl;
   how = inr (record { switch = 0; crashes = refl; fell = refl; down = refl; stands = refl });
@@ -150,5 +150,5 @@ down_already = Item.Row 1 (Packet 0 one) ∷ Item.Entered 1 0 one ∷ Item.Row 2
     ∷ Item.Row 3 (Crash 0) ∷ Item.Nothing ∷ []
 
 not_lost_when_it_was_down : HasPacketItemCause open_net down_already (Item.Lost 1) → ⊥
-unfolding journal_present_step fallen_switch
+unfolding journal_present_step packet_fallen_switch
 not_lost_when_it_was_down way = search rules

@@ -1,9 +1,9 @@
 -- Each hop of a drain leaves fewer to be taken, and so a drain ends.
 use Rattle.std.proofs.Common.{[], ◌&&◌, ◌*◌, ◌++◌, ◌+◌, ◌-◌, ◌<◌, ◌==◌, ◌∙◌, ◌∷◌, ◌≡◌, ◌≢◌, ◌≤◌, Bool, List, None, Option, Some, ap, append_assoc, arith, eq-eqb, eqb-true, false, find, length, ne_eqb, option_map, refl, subst, sum_by, sym, true, ℕ, rules}
 use Rattle.base.proofs.Exports.{and_parts, cases_eq, length-range_with_len, range_with_len, sum_by-cons}
-use Rattle.update_machine.specs.Exports.{AreAllMachineEventSteps, AreFirstMachineEventSteps, JournalItemsHaveCauses, Hop, IsJournalReached, IsSetting, Item, Setting, Step, StepOfRow, journal_after_steps, concerns_steps, count_of, item_gives_step, machine_hop_items, is_packet, journal_next_hop, journal_next_packet, next_travelling, journal_packets, piece, journal_present_step, step_items, travels}
+use Rattle.update_machine.specs.Exports.{AreAllMachineEventSteps, AreFirstMachineEventSteps, JournalItemsHaveCauses, Hop, IsJournalReached, IsSetting, Item, Setting, Step, StepOfRow, journal_after_steps, item_concerns_steps, count_of, machine_item_gives_step, machine_hop_items, is_packet, journal_next_hop, journal_next_packet, next_travelling, journal_packets, piece, journal_present_step, machine_step_items, travels}
 use Rattle.update_machine.proofs.Exports.{AreOf, Nears, have_append, last_given_append, loop_ends, packet_keeps, step_stays}
-use Rattle.control_laws.specs.Exports.{HoldsReached}
+use Rattle.control_laws.specs.Exports.{ControlLawHoldsReached}
 use Rattle.control_laws.proofs.Exports.{AreKept, Both, IsCarried, NamesOwn, OfSettings, behind_piece, carried_on, fact_on, have_both, have_weaker, reached_by, reached_carries, setting_carries}
 use Rattle.packet_laws.proofs.PacketsSpared.{IsNoRow, piece_ways, row_rests}
 use Rattle.packet_laws.proofs.PacketsAtRest.{IsSettled, IsWayItem, no_rows, piece_causes, piece_settled, settled_at_first}
@@ -53,20 +53,20 @@ row_off journal row step j stays off = search (rules, asked_more)
 step_off : (setting : Setting) (journal : List Item) (row : ℕ) (step : Step) (j : ℕ)
     → IsSetting setting → NamesOwn setting step → IsReady setting journal
     → let here = journal ++ Item.Row row step ∷ [] in
-    is_asked (here ++ step_items setting journal step here) j ≡ false
+    is_asked (here ++ machine_step_items setting journal step here) j ≡ false
 step_off setting journal row (Hop i) j is own ready = by_test ((i == j) && travels journal j) refl
   where
     here : List Item
     here = journal ++ Item.Row row (Hop i) ∷ []
 
     by_test : (b : Bool) → ((i == j) && travels journal j) ≡ b
-        → is_asked (here ++ step_items setting journal (Hop i) here) j ≡ false
+        → is_asked (here ++ machine_step_items setting journal (Hop i) here) j ≡ false
     by_test false e = stays_off j here _ (no_rows setting journal row (Hop i))
         (row_off journal row (Hop i) j (rw e refl) (ready.off j))
     by_test true e =
         let parts = and_parts (i == j) (travels journal j) e in
         let keeps = packet_keeps j journal (Item.Row row (Hop i) ∷ []) (refl, tt) in
-        turns_off j here (step_items setting journal (Hop i) here)
+        turns_off j here (machine_step_items setting journal (Hop i) here)
         (no_rows setting journal row (Hop i))
         (subst (λ k. NamesFirst j (machine_hop_items setting k here)) (sym (eqb-true i j parts.0))
         (hop_names setting j here is (row_causes setting journal row (Hop i) own ready.settled)
@@ -106,7 +106,7 @@ reached_ready setting = reached_carries setting (OfSettings IsReady setting) (re
 -- what follows from the causes of all items is true of each reached journal, within a step too
 pub reached : (Holds : Setting → List Item → Type 0) → ((setting : Setting) (journal : List Item)
     → IsSetting setting → JournalItemsHaveCauses (IsHopItem setting) [] journal → Holds setting journal)
-    → HoldsReached (λ setting journal. IsSetting setting → Holds setting journal)
+    → ControlLawHoldsReached (λ setting journal. IsSetting setting → Holds setting journal)
 reached Holds = reached_by IsReady Holds IsHopItem ready_carried hop_causes
 
 -- ---- drain hops
@@ -127,7 +127,7 @@ record IsHopping (i count : ℕ) (journal : List Item) : Type 0 where
   packets : count_of is_packet journal ≡ count
 
 no_row_concerns : (before : List Item) (next : Item) → IsNoRow next
-    → concerns_steps before next ≡ false
+    → item_concerns_steps before next ≡ false
 no_row_concerns before next none = search rules
 
 still_present : (before : List Item) (next : Item) (i : ℕ) → IsNoRow next
@@ -147,7 +147,7 @@ record IsHopped (i : ℕ) (before after : List Item) : Type 0 where
 row_present : (journal : List Item) (row i : ℕ)
     → journal_present_step (journal ++ Item.Row row (Hop i) ∷ []) ≡ Some (Hop i)
 unfolding journal_present_step
-row_present journal row i = last_given_append item_gives_step journal (Item.Row row (Hop i) ∷ [])
+row_present journal row i = last_given_append machine_item_gives_step journal (Item.Row row (Hop i) ∷ [])
 
 hop_is : (setting : Setting) (journal : List Item) (row i : ℕ) → IsReady setting journal
     → travels journal i ≡ true → IsHopped i journal (journal ++ piece setting journal row (Hop i))
@@ -164,7 +164,7 @@ hop_is setting journal row i ready on =
     here = journal ++ Item.Row row (Hop i) ∷ []
 
     items : List Item
-    items = step_items setting journal (Hop i) here
+    items = machine_step_items setting journal (Hop i) here
 
     behind : (j n : ℕ) → packet_hops_taken here j ≡ n → packet_hops_taken (here ++ items) j ≡ n
     behind j n is = fact_on _ _ (taken_stays j n) here items (no_rows _ journal row (Hop i)) is

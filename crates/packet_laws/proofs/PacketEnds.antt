@@ -4,13 +4,13 @@ use Rattle.base.proofs.Exports.{All-from_recursion, All-weaker, cases_lt, get_or
 use Rattle.failover.specs.Exports.{IsReachable}
 use Rattle.failover.proofs.RouteSearch.{length-known_links}
 use Rattle.base.specs.Exports.{has}
-use Rattle.net_file.specs.Exports.{are_linked, net_port_owner}
-use Rattle.update_machine.specs.Exports.{Action, AreMachineLegTargets, Cause, Decision, Exit, MachineFindsDown, MachineFindsNoPath, HasCause, IsRightMachineLoss, IsRightMachineStuck, Item, Leads, MachineLeavesRightly, Leaving, Leg, Seek, SeeksOwnInJournal, Setting, journal_can_use, journal_decision_of, journal_found_down, journal_packet_header_at, journal_packet_header, is_open, is_up, journal_links_known, near, no_switch, owner, journal_plan_at, serves, standing, targets_of}
+use Rattle.net_file.specs.Exports.{are_linked_in_net, net_port_owner}
+use Rattle.update_machine.specs.Exports.{Action, AreMachineLegTargets, Cause, Decision, Exit, MachineFindsDown, MachineFindsNoPath, HasMachineCause, MachineLosesRightly, IsMachineStuckRightly, Item, Leads, MachineLeavesRightly, Leaving, Leg, Seek, MachineLegSeeksOwn, Setting, journal_can_use, journal_decision_of, journal_found_down, journal_packet_header_at, journal_packet_header, is_open, is_up, journal_links_known, near, no_switch, owner, journal_plan_at, serves, standing, journal_leg_targets}
 use Rattle.switch_table.specs.Exports.{Hosted}
 use Rattle.update_machine.proofs.Exports.{plan_is, unreached}
 use Rattle.control_laws.specs.Exports.{HasControlItemCause}
 use Rattle.control_laws.proofs.Exports.{IsKnown, linked_by_mask, own_end}
-use Rattle.packet_laws.specs.Exports.{PacketFindsNoRoute, PacketRouteFollowsLinks, IsPacketAt, IsPacketAtPort, IsPacketBlockedOn, IsLostHere, IsPacketOnWay, IsPacketPartitionOf, PacketLeavesHere, PacketMeetsDown, HasPacketItemCause, PacketFacts, PacketSeeksRightly, PacketTakesLeg, entry_mark, packet_stage_of, packet_facts_of}
+use Rattle.packet_laws.specs.Exports.{PacketFindsNoRoute, PacketRouteFollowsLinks, IsPacketAt, IsPacketAtPort, IsPacketBlockedOn, IsPacketLostHere, IsPacketOnWay, IsPacketPartitionOf, PacketLeavesHere, PacketMeetsDown, HasPacketItemCause, PacketFacts, PacketSeeksRightly, PacketTakesLeg, entry_mark, packet_stage_of, packet_facts_of}
 use Rattle.packet_laws.proofs.PacketHeaderLookups.{IsHere, decision_in, exiting_of, header_in_facts, leg_in, next_in, stands_in, seeking_of}
 use Rattle.packet_laws.proofs.KeptPacketFacts.{Knows, here_known, port_named, redirected_to, stage_looked, undecided_of}
 use Rattle.packet_laws.proofs.PacketKnownRoutes.{Sees, none_leads, open_joined}
@@ -41,7 +41,7 @@ follows setting journal facts way = search rules
 -- a link that a packet finds down is one of the network, since its route follows links
 pub meets_link : (setting : Setting) (before : List Item) (i one two : ℕ)
     → Knows setting before i (packet_stage_of before i) → PacketMeetsDown setting before i one two
-    → IsTrue (are_linked setting.net.links one two)
+    → IsTrue (are_linked_in_net setting.net.links one two)
 meets_link setting before i one two knows meets =
     let facts : PacketFacts = packet_facts_of before i in
     let here = here_known setting before i one knows meets.at in
@@ -53,7 +53,7 @@ meets_link setting before i one two knows meets =
 
 -- ---- losses
 
-lost_rightly : (before : List Item) (i : ℕ) → IsLostHere before i → IsRightMachineLoss before i
+lost_rightly : (before : List Item) (i : ℕ) → IsPacketLostHere before i → MachineLosesRightly before i
 lost_rightly before i lost = search rules
 
 -- ---- packets that are stuck
@@ -77,7 +77,7 @@ exits_by setting before i s port knows here h7 = search (rules, exiting_of, leg_
 
 own_leg : (setting : Setting) (before : List Item) (i s : ℕ) (leg : Leg)
     → Knows setting before i (packet_stage_of before i) → IsHere setting before i s
-    → PacketTakesLeg setting before i s leg ⊎ IsPacketBlockedOn before i leg → SeeksOwnInJournal setting before i leg
+    → PacketTakesLeg setting before i s leg ⊎ IsPacketBlockedOn before i leg → MachineLegSeeksOwn setting before i leg
 own_leg setting before i s (Seek version partition) knows here on =
     let part = seeks_part setting before i s version partition knows here on in (
       here.under.header,
@@ -125,8 +125,8 @@ stuck_rightly setting before i s cause leg down knows finds =
       no_path = let down : List ℕ = journal_found_down before i in
           All-from_recursion
           (λ target. ¬ IsReachable (journal_links_known setting before s down) s target)
-          (targets_of setting before leg)
-          (unreached setting before s (targets_of setting before leg) down finds.none);
+          (journal_leg_targets setting before leg)
+          (unreached setting before s (journal_leg_targets setting before leg) down finds.none);
     }
 
 -- ---- by what the switch knows of links, as relations
@@ -169,7 +169,7 @@ record HasTargets (setting : Setting) (before : List Item) (i s : ℕ) (leg : Le
 targets_cut_off : (setting : Setting) (before : List Item) (i s : ℕ) (leg : Leg)
     → Knows setting before i (packet_stage_of before i) → IsHere setting before i s
     → PacketTakesLeg setting before i s leg ⊎ IsPacketBlockedOn before i leg
-    → AreCutOff setting before i s (targets_of setting before leg)
+    → AreCutOff setting before i s (journal_leg_targets setting before leg)
     → HasTargets setting before i s leg
 targets_cut_off setting before i s (Seek version partition) knows here on cut =
     let part = seeks_part setting before i s version partition knows here on in
@@ -200,20 +200,20 @@ targets_cut_off setting before i s (Exit port) knows here on cut =
 
 pub stuck_by_claims : (setting : Setting) (before : List Item) (i s : ℕ) (cause : Cause)
     (leg : Leg) (down : List ℕ) → Knows setting before i (packet_stage_of before i)
-    → PacketFindsNoRoute setting before i s cause leg down → IsRightMachineStuck setting before i s leg
+    → PacketFindsNoRoute setting before i s cause leg down → IsMachineStuckRightly setting before i s leg
 stuck_by_claims setting before i s cause leg down knows finds =
     let here : IsHere setting before i s = here_known setting before i s knows finds.at in
     let exact = stuck_rightly setting before i s cause leg down knows finds in
     let links : List ℕ = journal_links_known setting before s (journal_found_down before i) in
     let sees : Sees setting before s =
     record { net = knows.is.net; have = knows.both; serving = finds.at.serving } in
-    let cut : AreCutOff setting before i s (targets_of setting before leg) =
+    let cut : AreCutOff setting before i s (journal_leg_targets setting before leg) =
     All-weaker (λ target. ¬ IsReachable links s target)
     (λ target. (path : List ℕ) → ¬ Leads (is_open setting before i s) s path target)
     (λ target unreached. none_leads (is_open setting before i s) links s target
     (length-known_links _ s (near setting before s) (journal_found_down before i)) (open_joined setting
     before i s sees) (omega (arith, here.at, here.under.now, knows.is.net.few_switches)) unreached)
-    (targets_of setting before leg) exact.no_path in
+    (journal_leg_targets setting before leg) exact.no_path in
     let own = targets_cut_off setting before i s leg knows here finds.on cut in record {
       stands = exact.stands;
       serving = finds.at.serving;
@@ -340,7 +340,7 @@ not_serving before s known down = by_serving (serves before s) refl where
 pub end_caused : (setting : Setting) (before : List Item) (next : Item)
     → ((i : ℕ) → Knows setting before i (packet_stage_of before i)) → IsKnown before
     → HasControlItemCause setting before next → HasPacketItemCause setting before next
-    → HasCause setting before next
+    → HasMachineCause setting before next
 end_caused setting before (Item.Left packet port leaving) knows served own way =
     leaves_rightly setting before packet port leaving (knows packet) way
 end_caused setting before (Item.Lost packet) knows served own way = lost_rightly before packet way

@@ -6,7 +6,7 @@ use Rattle.failover.proofs.FailoverLinkSets.{none_is_link_set}
 use Rattle.update_machine.specs.Exports.{Decision, JournalItemsHaveCauses, IsSetting, Item, Leg, Seek, Setting, journal_current_mark, journal_decision_of, journal_found_down, journal_leg_of, most_journal_versions, journal_retired_mark}
 use Rattle.control_laws.specs.Exports.{HasControlItemCause}
 use Rattle.control_laws.proofs.Exports.{Behind, Both, bounded, current_rises, fact_on, have_both, versions_planned}
-use Rattle.packet_laws.specs.Exports.{AllPacketFactsKept, Blocked, PacketFindsLinkDown, FurtherCause, IsPacketLookedUp, IsPacketOnWay, Judged, PacketMeetsDown, HasPacketItemCause, PacketFacts, PacketStage, StrongCause, PacketTakesRoute, detour_count, exit_count, packet_facts_after, packet_finding_count, gives_packet_stage, is_packet_detour, is_packet_exit, is_packet_finding_down, is_item_of_packet, is_packet_search, most_packet_routes, packet_routes_taken, search_count, packet_stage_of, packet_facts_of}
+use Rattle.packet_laws.specs.Exports.{AllPacketFactsKept, Blocked, PacketFindsLinkDown, FurtherCause, IsPacketLookedUp, IsPacketOnWay, Judged, PacketMeetsDown, HasPacketItemCause, PacketFacts, PacketStage, StrongCause, PacketTakesRoute, detour_count, exit_count, packet_facts_after, packet_finding_count, gives_packet_stage, is_packet_detour, is_packet_exit, is_packet_finding_down, is_item_of_packet_facts, is_packet_search, most_packet_routes, packet_routes_taken, search_count, packet_stage_of, packet_facts_of}
 use Rattle.packet_laws.proofs.PacketsAllKept.{Before, facts_grow, kept_before, knows}
 use Rattle.packet_laws.proofs.PacketHeaderLookups.{IsHere, decision_in, here_of, leg_in, next_in, seeking_of}
 use Rattle.packet_laws.proofs.KeptPacketFacts.{Knows, seeking_after}
@@ -141,7 +141,7 @@ still_few setting before i current more few = search (rules, kept_few)
 
 named_few : (setting : Setting) (before : List Item) (next : Item) (i current : ℕ)
     → Premises setting before next → journal_current_mark before ≤ current → (b : Bool)
-    → is_item_of_packet i next ≡ b → IsFewOf setting before i → IsFew setting current
+    → is_item_of_packet_facts i next ≡ b → IsFewOf setting before i → IsFew setting current
     (if b then packet_facts_after (journal_retired_mark before) next (packet_facts_of before i)
     else packet_facts_of before i) (option_or (gives_packet_stage i next) (packet_stage_of before i))
     (one_more (is_packet_search i next) (search_count before i)) (one_more (is_packet_exit i next)
@@ -260,7 +260,7 @@ few_more setting before next i facts cause few = rw (
   count_more (is_packet_finding_down i) before next,
 )
     (named_few setting before next i (journal_current_mark (before ++ next ∷ [])) facts
-    (current_rises setting before next cause) (is_item_of_packet i next) refl few)
+    (current_rises setting before next cause) (is_item_of_packet_facts i next) refl few)
 
 abbrev pub RoutesAreFew : Setting → List Item → Type 0
 RoutesAreFew setting journal = (i : ℕ) → IsFewOf setting journal i

@@ -1,10 +1,10 @@
 -- A flush delivers messages of rising numbers.
 use Rattle.std.proofs.Common.{[], ◌&&◌, ◌++◌, ◌+◌, ◌<◌, ◌==◌, ◌||◌, ◌∙◌, ◌∷◌, ◌≡◌, ◌≢◌, ◌≤◌, Bool, IsFalse, IsTrue, List, Some, add-zero, ap, append_assoc, arith, cond, count_by, eq-eqb, eqb-true, false, find, if◌then◌else◌, inl, inr, length, lt-ltb, nat_lt, not, refl, subst, suc, sym, true, zero, ℕ, rules}
 use Rattle.base.proofs.Exports.{Any-from_list_any, and_parts, and_right, cases_eq, cases_lt, count_by-le-length, list_any, nat_tests, range_with_len, sum_by-cons}
-use Rattle.failover.specs.Exports.{IsDownLinkSet, has_link, is_failover_link_of, with_link}
-use Rattle.failover.proofs.FailoverLinkSets.{has_link-turned, has_link-with_link, with_link_is_link_set}
-use Rattle.net_file.specs.Exports.{IsNetLink, IsNet, are_linked, joins}
-use Rattle.update_machine.specs.Exports.{Deliver, JournalItemsHaveCauses, Item, LinkRow, Net, Setting, MachineTakesNextNumber, concerns_message, count_of, deliver_items, machine_delivery_items, is_deliverable, is_delivery_item, is_forgetting, is_forgotten_in_journal, is_sending, is_waiting, journal_next_message, next_waiting, piece, was_delivered}
+use Rattle.failover.specs.Exports.{IsDownLinkSet, has_route_link, is_failover_link_of, with_link}
+use Rattle.failover.proofs.FailoverLinkSets.{has_route_link-turned, has_route_link-with_link, with_link_is_link_set}
+use Rattle.net_file.specs.Exports.{IsNetLink, IsNet, are_linked_in_net, joins}
+use Rattle.update_machine.specs.Exports.{Deliver, JournalItemsHaveCauses, Item, LinkRow, Net, Setting, MachineTakesNextNumber, item_concerns_message, count_of, deliver_items, machine_delivery_items, is_deliverable, is_delivery_item, is_journal_forgetting, is_forgotten_in_journal, is_sending, is_waiting, journal_next_message, next_waiting, piece, was_delivered}
 use Rattle.update_machine.proofs.Exports.{count_of_append, message_keeps, next_rises, piece_next}
 use Rattle.control_laws.proofs.Exports.{AreKept, fact_on}
 
@@ -13,7 +13,7 @@ use Rattle.control_laws.proofs.Exports.{AreKept, fact_on}
 
 -- the link isn't in the set
 abbrev pub is_unfound : List ℕ → LinkRow → Bool
-is_unfound found link = not (has_link found link.one link.two)
+is_unfound found link = not (has_route_link found link.one link.two)
 
 -- how many of the links aren't
 abbrev pub unfound : List LinkRow → List ℕ → ℕ
@@ -23,8 +23,8 @@ unfound links found = count_by (is_unfound found) links
 
 -- the set holds one more link, which it didn't hold
 record IsOneMore (before after : List ℕ) (one two : ℕ) : Type 0 where
-  added : (x y : ℕ) → has_link after x y ≡ (has_link before x y || is_failover_link_of one two x y)
-  new : (x y : ℕ) → is_failover_link_of one two x y ≡ true → has_link before x y ≡ false
+  added : (x y : ℕ) → has_route_link after x y ≡ (has_route_link before x y || is_failover_link_of one two x y)
+  new : (x y : ℕ) → is_failover_link_of one two x y ≡ true → has_route_link before x y ≡ false
 
 part : (b c : Bool) → cond (not (b || c)) 1 0 ≤ cond (not b) 1 0
 part b c = search rules
@@ -50,14 +50,14 @@ this_link : (before after : List ℕ) (one two : ℕ) (link : LinkRow)
 this_link before after one two link more is = search rules
 
 falls : (before after : List ℕ) (one two : ℕ) → IsOneMore before after one two
-    → (links : List LinkRow) → IsTrue (are_linked links one two)
+    → (links : List LinkRow) → IsTrue (are_linked_in_net links one two)
     → unfound links after + 1 ≤ unfound links before
 falls before after one two more [] linked = absurd cc
 falls before after one two more (link ∷ links) linked =
     by_test (joins one two link) refl (falls before after one two more links) linked
   where
     by_test : (b : Bool) → joins one two link ≡ b
-        → (IsTrue (are_linked links one two) → unfound links after + 1 ≤ unfound links before)
+        → (IsTrue (are_linked_in_net links one two) → unfound links after + 1 ≤ unfound links before)
         → IsTrue (b || list_any (joins one two) links)
         → unfound (link ∷ links) after + 1 ≤ unfound (link ∷ links) before
     by_test true e rest any = omega (
@@ -86,13 +86,13 @@ joined_ends : (count one two : ℕ) (link : LinkRow) → count ≤ 64 → IsNetL
     → joins one two link ≡ true → AreEnds one two
 joined_ends count one two link few is joined = search (rules, nat_tests)
 
-ends : (net : Net) (one two : ℕ) → IsNet net → IsTrue (are_linked net.links one two)
+ends : (net : Net) (one two : ℕ) → IsNet net → IsTrue (are_linked_in_net net.links one two)
     → AreEnds one two
 ends net one two is linked = search (rules, Any-from_list_any, joined_ends)
 
-same_ends : (found : List ℕ) (one two x y : ℕ) → has_link found one two ≡ false
-    → is_failover_link_of one two x y ≡ true → has_link found x y ≡ false
-same_ends found one two x y none is = search (rules, eqb-true, has_link-turned)
+same_ends : (found : List ℕ) (one two x y : ℕ) → has_route_link found one two ≡ false
+    → is_failover_link_of one two x y ≡ true → has_route_link found x y ≡ false
+same_ends found one two x y none is = search (rules, eqb-true, has_route_link-turned)
 
 -- what one more link of the network leaves of a set
 pub record FindsOne (net : Net) (found : List ℕ) (one two : ℕ) : Type 0 where
@@ -100,13 +100,13 @@ pub record FindsOne (net : Net) (found : List ℕ) (one two : ℕ) : Type 0 wher
   pub fewer : unfound net.links (with_link found one two) + 1 ≤ unfound net.links found
 
 pub finds_one : (net : Net) (found : List ℕ) (one two : ℕ) → IsNet net → IsDownLinkSet found
-    → IsTrue (are_linked net.links one two) → IsFalse (has_link found one two)
+    → IsTrue (are_linked_in_net net.links one two) → IsFalse (has_route_link found one two)
     → FindsOne net found one two
 finds_one net found one two is set linked none =
     let at : AreEnds one two = ends net one two is linked in record {
       set = with_link_is_link_set found one two set at.apart at.one_fits at.two_fits;
       fewer = falls found (with_link found one two) one two (record {
-        added = λ x y. has_link-with_link found one two x y set at.one_fits at.two_fits;
+        added = λ x y. has_route_link-with_link found one two x y set at.one_fits at.two_fits;
         new = λ x y same. same_ends found one two x y none same;
       }) net.links linked;
     }
@@ -168,7 +168,7 @@ counted_now test before next is = search (rules, count_more, lt-ltb)
 forgotten_now : (before : List Item) (number k : ℕ) → (number == k) ≡ true
     → is_forgotten_in_journal (before ++ Item.Forgotten number ∷ []) k ≡ true
 unfolding is_forgotten_in_journal
-forgotten_now before number k e = counted_now (is_forgetting k) before (Item.Forgotten number) e
+forgotten_now before number k e = counted_now (is_journal_forgetting k) before (Item.Forgotten number) e
 
 delivered_now : (before : List Item) (number k : ℕ) → (number == k) ≡ true
     → was_delivered (before ++ Item.Delivered number ∷ []) k ≡ true
@@ -180,7 +180,7 @@ inner_not b c = search rules
 
 -- what an item leaves of a message that it concerns
 over_by : (bound k : ℕ) (before : List Item) (next : Item) → MachineTakesNextNumber before next
-    → AreOver bound before → k < bound → concerns_message k before next ≡ true
+    → AreOver bound before → k < bound → item_concerns_message k before next ≡ true
     → is_waiting (before ++ next ∷ []) k ≡ false
 unfolding is_deliverable
 over_by bound k before next takes are below e =
@@ -189,9 +189,9 @@ over_by bound k before next takes are below e =
 over_kept : (bound : ℕ) → AreKept MachineTakesNextNumber (AreOver bound)
 over_kept bound before next takes are = record {
   sent = omega (arith, are.sent, next_rises before next);
-  over = λ k first below. by_concern k first below (concerns_message k before next) refl;
+  over = λ k first below. by_concern k first below (item_concerns_message k before next) refl;
 } where
-  by_concern : (k : ℕ) → 1 ≤ k → k < bound → (b : Bool) → concerns_message k before next ≡ b
+  by_concern : (k : ℕ) → 1 ≤ k → k < bound → (b : Bool) → item_concerns_message k before next ≡ b
       → is_waiting (before ++ next ∷ []) k ≡ false
   by_concern k first below true e = over_by bound k before next takes are below e
   by_concern k first below false e = let keeps = message_keeps k before (next ∷ []) (e, tt) in

@@ -2,9 +2,9 @@
 use Rattle.std.proofs.Common.{[], ◌+◌, ◌<◌, ◌∙◌, ◌≡◌, ◌≤◌, All, Bool, Contains, IsTrue, List, None, Option, Some, ap, arith, false, filter, find, if◌then◌else◌, inl, inr, length, map, option_and_then, option_map, position, refl, slice_get, subst, sym, true, unwrap_or, ℕ, rules}
 use Rattle.base.proofs.Exports.{All-filter, find-position, find-there, get_or-map, length-map, option_map_or, slice_get-get_or, some_of_map, some_of_then, some_same}
 use Rattle.five_tuple.specs.Exports.{IsHeader, fields_of, number_of}
-use Rattle.update_machine.specs.Exports.{AuthorityRule, CacheEntry, Decision, Exit, Found, SettingHasPlan, JournalItemsHaveCauses, Header, IsSetting, Item, Leg, NamesSettingPort, Partition, Row, Rule, Seek, Setting, journal_authority_rule, journal_current_mark, journal_decision_of, first_place, journal_found_down, journal_packet_header_at, journal_packet_header, journal_leg_of, lookup_at, next_switch, journal_plan_at, policy_at, journal_retired_mark, serves, journal_stamp_of, standing, journal_tables_at, travels}
+use Rattle.update_machine.specs.Exports.{AuthorityRule, CacheEntry, Decision, Exit, Found, SettingHasPlan, JournalItemsHaveCauses, Header, IsSetting, Item, Leg, NamesSettingPort, Partition, Row, Rule, Seek, Setting, journal_authority_rule, journal_current_mark, journal_decision_of, first_place, journal_found_down, journal_packet_header_at, journal_packet_header, journal_leg_of, lookup_at, journal_next_switch, journal_plan_at, policy_at, journal_retired_mark, serves, journal_stamp_of, standing, journal_tables_at, travels}
 use Rattle.partition.specs.Plan.{IsPartitionPlan}
-use Rattle.policy_rules.specs.Exports.{first_rule, hit_of, policy_hit_of_rule, is_held, is_highest_row, is_in_policy_partition, row_matches, scan}
+use Rattle.policy_rules.specs.Exports.{first_rule, hit_of, policy_hit_of_rule, is_held, is_highest_row, is_in_policy_partition, policy_row_matches, scan}
 use Rattle.switch_table.specs.Exports.{Hosted, table_authority_of, has_target, lookup_in, part_of, table_lookup, tables_of}
 use Rattle.switch_table.proofs.SwitchTableLemmas.{tables_planned}
 use Rattle.update_machine.proofs.Exports.{begins_planned, version_is_planned, versions_own}
@@ -34,7 +34,7 @@ version_planned setting journal version is has = record {
 -- ---- ports of actions
 
 abbrev rows_that_match : List Row → Header → List Row
-rows_that_match rows header = filter (λ row. row_matches row (fields_of header)) rows
+rows_that_match rows header = filter (λ row. policy_row_matches row (fields_of header)) rows
 
 hit_named : (setting : Setting) (rows : List Row) (best : Option Row)
     → All (λ row. NamesSettingPort setting row.action) rows → find (is_highest_row rows) rows ≡ best →
@@ -48,7 +48,7 @@ hit_named setting rows (Some row) all e =
 pub scan_named : (setting : Setting) (rows : List Row) (plan : List Hosted) (header : Header)
     → IsPlanned setting rows plan → NamesSettingPort setting (scan rows header).action
 scan_named setting rows plan header is = hit_named setting (rows_that_match rows header) _
-    (All-filter (λ row. row_matches row (fields_of header)) (λ row. NamesSettingPort setting row.action)
+    (All-filter (λ row. policy_row_matches row (fields_of header)) (λ row. NamesSettingPort setting row.action)
     rows is.ports) refl
 
 -- ---- the partition of a header
@@ -271,9 +271,9 @@ pub found_in : (journal : List Item) (i : ℕ) → journal_found_down journal i 
 unfolding packet_facts_of
 found_in journal i = refl
 
-pub next_in : (journal : List Item) (i : ℕ) → next_switch journal i
+pub next_in : (journal : List Item) (i : ℕ) → journal_next_switch journal i
     ≡ slice_get (packet_facts_of journal i).route ((packet_facts_of journal i).hops + 1)
-unfolding packet_facts_of next_switch
+unfolding packet_facts_of journal_next_switch
 next_in journal i = refl
 
 pub stands_in : (journal : List Item) (i : ℕ) (s : ℕ) → (packet_facts_of journal i).stands ≡ Some s

@@ -1,10 +1,10 @@
 -- What held on the way, by the laws that say it one by one.
 use Rattle.std.proofs.Common.{[], ◌++◌, ◌∙◌, ◌∷◌, ◌≡◌, ◌≤◌, List, Option, ap, append-nil, append_assoc, drop, length, refl, subst, suc, sym, take, zero, ℕ, rules}
-use Rattle.update_machine.specs.Exports.{AreMachineMarksSettled, JournalBeginsAnswer, Event, HasCause, JournalItemsHaveCauses, IsMachinePlay, IsRun, IsSetting, Item, Setting, StepOfRow, journal_after_steps, most_journal_versions, piece, step_items}
-use Rattle.packet_laws.specs.Exports.{BeginStep, EndsStep, HeldOnTheWay, HoldsBetween, HoldsSoFar, ArePacketsKeptBehind, KeepVersionsWholeForPackets, PacketsTravel, StrongCause, detour_count, exit_count, packet_route_hops, packet_hops_taken, most_packet_hops, most_packet_routes, most_switches, packet_routes_taken, search_count, packet_steps_played}
+use Rattle.update_machine.specs.Exports.{AreMachineMarksSettled, JournalBeginsAnswer, Event, HasMachineCause, JournalItemsHaveCauses, IsMachinePlay, IsMachineRun, IsSetting, Item, Setting, StepOfRow, journal_after_steps, most_journal_versions, piece, machine_step_items}
+use Rattle.packet_laws.specs.Exports.{BeginPacketLawStep, EndsPacketLawStep, PacketLawsHeldThroughout, PacketLawHoldsBetween, PacketLawsHoldSoFar, ArePacketsKeptBehind, PacketLawsKeepVersionsWhole, PacketsTravel, StrongCause, detour_count, exit_count, packet_route_hops, packet_hops_taken, most_packet_hops, most_packet_routes, most_packet_route_switches, packet_routes_taken, search_count, packet_steps_played}
 use Rattle.packet_laws.proofs.PacketsSpared.{IsNoRow}
 use Rattle.packet_laws.proofs.PacketsAtRest.{no_rows, play_begins}
-use Rattle.control_laws.specs.Exports.{AreNetworkEvents, HoldsAtEnds, HoldsReached}
+use Rattle.control_laws.specs.Exports.{AreNetworkEvents, ControlLawHoldsAtEnds, ControlLawHoldsReached}
 use Rattle.packet_laws.proofs.PacketPlayExistence.{OfReached}
 
 -- ---- where a step begins behind some items of what steps wrote, or nothing is left, these items
@@ -26,17 +26,17 @@ after_is setting before (next ∷ steps) =
 
 -- ---- one step
 
-no_row_begins : (next : Item) (items : List Item) → IsNoRow next → BeginStep (next ∷ items) → ⊥
+no_row_begins : (next : Item) (items : List Item) → IsNoRow next → BeginPacketLawStep (next ∷ items) → ⊥
 no_row_begins next items none begins = search rules
 
 -- a step begins, or nothing is left, behind all items of the one list, and some of the other
 record Past (own rest : List Item) (n : ℕ) : Type 0 where
   count : ℕ
   taken : take n (own ++ rest) ≡ own ++ take count rest
-  begins : BeginStep (drop count rest)
+  begins : BeginPacketLawStep (drop count rest)
 
 past : (before own rest : List Item) (n : ℕ) → JournalItemsHaveCauses (λ js next. IsNoRow next) before own
-    → BeginStep (drop n (own ++ rest)) → Past own rest n
+    → BeginPacketLawStep (drop n (own ++ rest)) → Past own rest n
 past before [] rest n none begins = record { count = n; taken = refl; begins = begins }
 past before (first ∷ own) rest zero none begins = absurd (no_row_begins first _ none.0 begins)
 past before (first ∷ own) rest (suc n) none begins =
@@ -56,14 +56,14 @@ record Firsts (setting : Setting) (before : List Item) (steps : List StepOfRow) 
       ≡ journal_after_steps setting before (take count steps)
 
 firsts : (setting : Setting) (before : List Item) (steps : List StepOfRow) (n : ℕ)
-    → BeginStep (drop n (written setting before steps)) → Firsts setting before steps n
+    → BeginPacketLawStep (drop n (written setting before steps)) → Firsts setting before steps n
 unfolding piece
 firsts setting before [] zero begins = record { count = 0; are = append-nil before }
 firsts setting before [] (suc n) begins = record { count = 0; are = append-nil before }
 firsts setting before (next ∷ steps) zero begins = record { count = 0; are = append-nil before }
 firsts setting before (next ∷ steps) (suc n) begins =
     let here : List Item = before ++ Item.Row next.row next.step ∷ [] in
-    let own : List Item = step_items setting before next.step here in
+    let own : List Item = machine_step_items setting before next.step here in
     let whole : List Item = piece setting before next.row next.step in
     let rest : List Item = written setting (before ++ whole) steps in
     let behind = past here own rest n (no_rows setting before next.row next.step) begins in
@@ -73,37 +73,37 @@ firsts setting before (next ∷ steps) (suc n) begins =
     }
 
 pub ends_at : (setting : Setting) (steps : List StepOfRow) (n : ℕ)
-    → EndsStep (journal_after_steps setting [] steps) n → (count : ℕ)
+    → EndsPacketLawStep (journal_after_steps setting [] steps) n → (count : ℕ)
     × (take n (journal_after_steps setting [] steps) ≡ journal_after_steps setting [] (take count steps))
 ends_at setting steps n ends =
     let is = after_is setting [] steps in
     let found : Firsts setting [] steps n =
-    firsts setting [] steps n (subst (λ (js : List Item). BeginStep (drop n js)) is ends) in
+    firsts setting [] steps n (subst (λ (js : List Item). BeginPacketLawStep (drop n js)) is ends) in
     (found.count, ap (take n) is ∙ found.are)
 
 -- ---- packet histories
 
 -- the laws of journals that may end within a step
 pub record Laws : Type 0 where
-  pub run : OfReached (λ setting journal. IsRun setting journal)
-  pub causes : OfReached (λ setting journal. JournalItemsHaveCauses (HasCause setting) [] journal)
+  pub run : OfReached (λ setting journal. IsMachineRun setting journal)
+  pub causes : OfReached (λ setting journal. JournalItemsHaveCauses (HasMachineCause setting) [] journal)
   pub strong : OfReached (λ setting journal. JournalItemsHaveCauses (StrongCause setting) [] journal)
-  pub versions : OfReached KeepVersionsWholeForPackets
+  pub versions : OfReached PacketLawsKeepVersionsWhole
   pub searches : OfReached (λ setting journal. (i : ℕ) → search_count journal i ≤ most_journal_versions)
   pub exits : OfReached (λ setting journal. (i : ℕ) → exit_count journal i ≤ 1)
   pub detours : OfReached (λ setting journal.
       (i : ℕ) → detour_count journal i ≤ length setting.net.links)
   pub routes : OfReached (λ setting journal. (i : ℕ) → packet_routes_taken journal i ≤ most_packet_routes)
-  pub on_route : OfReached (λ setting journal. (i : ℕ) → packet_route_hops journal i ≤ most_switches)
+  pub on_route : OfReached (λ setting journal. (i : ℕ) → packet_route_hops journal i ≤ most_packet_route_switches)
   pub hops : OfReached (λ setting journal. (i : ℕ) → packet_hops_taken journal i ≤ most_packet_hops)
 
 -- whatever gives each of the laws gives all
 all_so_far : Laws → (setting : Setting) (journal : List Item) → IsSetting setting
-    → ((Holds : Setting → List Item → Type 0) → HoldsReached Holds → Holds setting journal)
-    → HoldsSoFar setting journal
+    → ((Holds : Setting → List Item → Type 0) → ControlLawHoldsReached Holds → Holds setting journal)
+    → PacketLawsHoldSoFar setting journal
 all_so_far laws setting journal is give = search rules
 
-pub holds_so_far : Laws → OfReached HoldsSoFar
+pub holds_so_far : Laws → OfReached PacketLawsHoldSoFar
 holds_so_far laws = record {
   reached = λ setting journal at is. all_so_far laws setting journal is
       (λ Holds law. law.reached setting journal at);
@@ -118,9 +118,9 @@ holds_so_far laws = record {
 -- ---- after steps
 
 abbrev pub OfSteps : (Setting → List Item → Type 0) → Type 0
-OfSteps Holds = HoldsBetween (λ setting journal. IsSetting setting → Holds setting journal)
+OfSteps Holds = PacketLawHoldsBetween (λ setting journal. IsSetting setting → Holds setting journal)
 
-pub kept_behind : OfSteps PacketsTravel → HoldsAtEnds AreMachineMarksSettled → OfSteps ArePacketsKeptBehind
+pub kept_behind : OfSteps PacketsTravel → ControlLawHoldsAtEnds AreMachineMarksSettled → OfSteps ArePacketsKeptBehind
 kept_behind travel settle = record {
   reached = λ setting journal at is. record {
     packets = travel.reached setting journal at is;
@@ -165,17 +165,17 @@ written_of : (setting : Setting) (events : List Event) (journal : List Item) (fu
     → journal ≡ journal_after_steps setting [] (packet_steps_played setting events journal full play)
 written_of setting events journal full play = search rules
 
-pub held_on_the_way : OfReached HoldsSoFar → OfSteps ArePacketsKeptBehind
+pub held_on_the_way : OfReached PacketLawsHoldSoFar → OfSteps ArePacketsKeptBehind
     → (setting : Setting) (events : List Event) (journal : List Item) (full : Option ℕ)
     → IsSetting setting → AreNetworkEvents setting events → IsMachinePlay setting events journal full
-    → HeldOnTheWay setting journal
+    → PacketLawsHeldThroughout setting journal
 held_on_the_way so_far behind setting events journal full is own play =
     let steps : List StepOfRow = packet_steps_played setting events journal full play in
     let written = written_of setting events journal full play in record {
       so_far = λ n. so_far.begun setting events (take n journal) own
           (fewer_begin setting events journal n (play_begins setting events journal full play)) is;
       kept = λ n ends.
-          let found = ends_at setting steps n (subst (λ (js : List Item). EndsStep js n) written ends) in
+          let found = ends_at setting steps n (subst (λ (js : List Item). EndsPacketLawStep js n) written ends) in
           subst (ArePacketsKeptBehind setting) (sym (ap (take n) written ∙ found.1))
           (behind.played setting events journal full own play found.0 is);
     }

@@ -2,7 +2,7 @@
 use Rattle.std.proofs.Common.{[], ◌∙◌, ◌≡◌, Bool, IsTrue, List, None, Option, Some, ap, arith, false, inl, is_some, option_and_then, position, refl, subst, sym, true, unwrap_or, ℕ}
 use Rattle.five_tuple.specs.Exports.{number_of}
 use Rattle.policy_rules.specs.Exports.{is_held}
-use Rattle.update_machine.specs.Exports.{AuthorityRule, Exit, Found, JournalItemsHaveCauses, IsSetting, Item, Leg, Seek, Setting, journal_leg_arrival_items, machine_arrive_items, machine_authority_items, journal_authority_rule, first_place, journal_found_down, journal_packet_header_at, machine_hop_items, machine_leg_items, journal_leg_of, lookup_at, lookup_items, move_items, journal_plan_at, journal_route_in, serves, journal_stamp_of, standing, travels}
+use Rattle.update_machine.specs.Exports.{AuthorityRule, Exit, Found, JournalItemsHaveCauses, IsSetting, Item, Leg, Seek, Setting, journal_leg_arrival_items, machine_arrive_items, machine_authority_items, journal_authority_rule, first_place, journal_found_down, journal_packet_header_at, machine_hop_items, machine_leg_items, journal_leg_of, lookup_at, machine_lookup_items, machine_move_items, journal_plan_at, journal_route_in, serves, journal_stamp_of, standing, travels}
 use Rattle.switch_table.specs.Exports.{Hosted}
 use Rattle.control_laws.specs.Exports.{HasControlItemCause}
 use Rattle.control_laws.proofs.Exports.{own, serving_hold}
@@ -30,8 +30,8 @@ RulesAreThere setting journal i s = (partition place : ℕ)
     → IsTrue (is_some (journal_authority_rule setting journal (journal_stamp_of journal s) partition place))
 
 lookup_names : (setting : Setting) (i s : ℕ) (journal : List Item)
-    → RulesAreThere setting journal i s → NamesFirst i (lookup_items setting i s journal)
-unfolding lookup_items
+    → RulesAreThere setting journal i s → NamesFirst i (machine_lookup_items setting i s journal)
+unfolding machine_lookup_items
 lookup_names setting i s journal there = grind (arith, own, authority_names, leg_names, there)
 
 -- ---- at a switch
@@ -85,7 +85,7 @@ arrive_names setting i s journal moved =
   where
     by_held : (version partition : ℕ) (b : Bool)
         → journal_leg_of journal i ≡ Some (Seek version partition) → NamesFirst i (elim b [
-          | false ↦ lookup_items setting i s journal
+          | false ↦ machine_lookup_items setting i s journal
           | true ↦ machine_authority_items setting i s (journal_authority_rule setting journal version partition
               (first_place setting journal version partition (journal_packet_header_at journal i))) journal
         ])
@@ -99,8 +99,8 @@ arrive_names setting i s journal moved =
     by_leg (Seek version partition) e = by_held version partition _ e
 
 move_names : (setting : Setting) (i s : ℕ) (journal : List Item) → IsMoved setting journal i s
-    → NamesFirst i (move_items setting i s journal)
-unfolding move_items
+    → NamesFirst i (machine_move_items setting i s journal)
+unfolding machine_move_items
 move_names setting i s journal moved = grind (arith, own, arrive_names, moved)
 
 -- ---- a hop

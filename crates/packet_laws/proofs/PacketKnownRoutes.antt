@@ -2,7 +2,7 @@
 -- none of the links that the packet found down.
 use Rattle.std.proofs.Common.{[], ◌&&◌, ◌++◌, ◌+◌, ◌-◌, ◌<◌, ◌∙◌, ◌∷◌, ◌≡◌, ◌≢◌, ◌≤◌, Bool, IsFalse, IsTrue, List, None, Option, Some, ap, arith, eq-eqb, false, get_or, get_or-set_other, get_or-set_same, inl, inr, length, length-set, map, nat_eq, not, refl, replicate, set, slice_get, slice_index, subst, suc, sym, true, zero, ℕ, rules}
 use Rattle.base.proofs.Exports.{cases_eq, get_or-map, get_or_past, has-zero, length-map, list_any, or_left}
-use Rattle.failover.specs.Exports.{AreJoinedByLinks, IsPath, IsReachable, IsRoute, LinksLeadTo, has_link, held_advert, is_link, neighbours_by_adverts, names_neighbour, neighbours_named}
+use Rattle.failover.specs.Exports.{AreJoinedByLinks, IsPath, IsReachable, IsRoute, LinksLeadTo, has_route_link, held_advert, is_route_link, neighbours_by_adverts, names_neighbour, neighbours_named_by_advert}
 use Rattle.base.specs.Exports.{has}
 use Rattle.update_machine.specs.Exports.{Advert, JournalItemsHaveCauses, Hop, Item, Leads, Setting, journal_adverts_of_others, journal_found_down, is_end, is_open, journal_links_known, near, journal_route_from, serves, travels}
 use Rattle.update_machine.proofs.Exports.{has_known_link, heard_by_origin, known_link_laws, link_not_found, one}
@@ -12,7 +12,7 @@ use Rattle.failover.proofs.RouteSearch.{path_is_route_list, straight_path}
 use Rattle.net_file.specs.Exports.{IsNet, links_of}
 use Rattle.net_file.proofs.NetFilePortMasks.{in_mask_of}
 use Rattle.control_laws.specs.Exports.{AdvertisedLinksAreThere}
-use Rattle.packet_laws.specs.Exports.{PacketRouteAvoidsFound, PacketRouteLeadsToTarget, PacketRouteStartsAt, packet_finding_count, packet_route_hops, packet_hops_taken, most_switches}
+use Rattle.packet_laws.specs.Exports.{PacketRouteAvoidsFound, PacketRouteLeadsToTarget, PacketRouteStartsAt, packet_finding_count, packet_route_hops, packet_hops_taken, most_packet_route_switches}
 
 -- ---- the first link of a route that a switch knows is one that it can use
 
@@ -24,7 +24,7 @@ own_row rows at own other is = search (rules, get_or-set_same, has-zero, get_or_
 joined_sees : (setting : Setting) (journal : List Item) (s next : ℕ) (down : List ℕ) → s < 64
     → next < 64 → AreJoinedByLinks (journal_links_known setting journal s down) s next
     → IsTrue (has (near setting journal s) next)
-unfolding is_link neighbours_by_adverts
+unfolding is_route_link neighbours_by_adverts
 joined_sees setting journal s next down small fits joined = own_row _ s (near setting journal s)
     next (second _ _ _ _ (sym (has_known_link setting journal s down s next small fits) ∙ joined))
 
@@ -104,13 +104,13 @@ end_has setting before s one two sees is = elim (cases_eq one s) [
   places = (heard_by_origin setting before s).places
 
   rows : List ℕ
-  rows = map neighbours_named adverts
+  rows = map neighbours_named_by_advert adverts
 
   own : one ≡ s → IsNamed s two (IsTrue (has (near setting before s) two))
       → IsNamed one two (IsTrue (has (get_or (set rows s (near setting before s)) one 0) two))
   own same named =
       let row = get_or-set_same rows s (near setting before s) 0
-      (omega (arith, named.one_small, places, length-map adverts neighbours_named)) in
+      (omega (arith, named.one_small, places, length-map adverts neighbours_named_by_advert)) in
       subst (λ x. IsNamed x two (IsTrue (has (get_or (set rows s (near setting before s)) x 0)
       two))) (sym same) (record {
         one_small = named.one_small;
@@ -118,11 +118,11 @@ end_has setting before s one two sees is = elim (cases_eq one s) [
         named = subst (λ mask. IsTrue (has mask two)) (sym row) named.named;
       })
 
-  told : one ≢ s → IsNamed one two (IsTrue (has (neighbours_named (held_advert adverts one)) two))
+  told : one ≢ s → IsNamed one two (IsTrue (has (neighbours_named_by_advert (held_advert adverts one)) two))
       → IsNamed one two (IsTrue (has (get_or (set rows s (near setting before s)) one 0) two))
   told apart named =
       let row = get_or-set_other rows s one (near setting before s) 0 apart
-      ∙ get_or-map neighbours_named adverts one None 0 (omega (arith, named.one_small, places)) in
+      ∙ get_or-map neighbours_named_by_advert adverts one None 0 (omega (arith, named.one_small, places)) in
       record {
         one_small = named.one_small;
         two_small = named.two_small;
@@ -141,7 +141,7 @@ all_four a b c d p q r s = rw (p, q, r, s) refl
 pub open_joined : (setting : Setting) (before : List Item) (i s : ℕ) → Sees setting before s
     → (one two : ℕ) → IsTrue (is_open setting before i s one two)
     → (two < 64) × AreJoinedByLinks (journal_links_known setting before s (journal_found_down before i)) one two
-unfolding is_link
+unfolding is_route_link
 open_joined setting before i s sees one two is =
     search (rules, all_parts, end_has, has_known, all_four, link_not_found)
 
@@ -150,14 +150,14 @@ open_joined setting before i s sees one two is =
 -- what a joined pair is: a link of the network, not found down
 record IsGoodLink (setting : Setting) (down : List ℕ) (one two : ℕ) : Type 0 where
   linked : IsTrue (has (links_of setting.net.links one) two)
-  up : IsFalse (has_link down one two)
+  up : IsFalse (has_route_link down one two)
 
 last_false : (a b c d : Bool) → (a && b && c && not d) ≡ true → d ≡ false
 last_false a b c d e = search rules
 
-not_down : (neighbours down : List ℕ) (one two : ℕ) → is_link neighbours down one two ≡ true
-    → has_link down one two ≡ false
-unfolding is_link
+not_down : (neighbours down : List ℕ) (one two : ℕ) → is_route_link neighbours down one two ≡ true
+    → has_route_link down one two ≡ false
+unfolding is_route_link
 not_down neighbours down one two is = search (rules, last_false)
 
 good_link : (setting : Setting) (journal : List Item) (at one two : ℕ) (down : List ℕ)
@@ -271,6 +271,6 @@ none_of_another = refl
 abbrev too_many : List Item
 too_many = seeking ++ replicate 65 (Item.Row 2 (Hop 1))
 
-not_65 : packet_route_hops too_many 1 ≤ most_switches → ⊥
+not_65 : packet_route_hops too_many 1 ≤ most_packet_route_switches → ⊥
 unfolding packet_route_hops travels
 not_65 few = let limit : 65 ≤ 64 = few in omega (arith, limit)

@@ -1,14 +1,14 @@
 -- A journal whose items have their causes is a run of the machine.
 use Rattle.std.proofs.Common.{[], if◌then◌else◌, ◌++◌, ◌<◌, ◌∙◌, ◌∷◌, ◌≡◌, ◌≢◌, ◌≤◌, Bool, IsTrue, List, None, Option, Some, ap, arith, eq-eqb, false, ne_eqb, option_map, refl, subst, sym, true, ℕ, rules}
 use Rattle.base.proofs.Exports.{cases_eq, some_same, ⊤}
-use Rattle.update_machine.specs.Exports.{Action, Decision, Dropped, End, Ends, JournalItemsHaveCauses, Header, Hit, How, IsRun, IsSetting, Item, Leaving, LeftBy, Lost, Machine, MachinePacketMayEnd, JournalPoliciesKeep, Row, Runs, Setting, Stuck, Takes, first_machine, item_gives_retired, journal_packet_header, is_submission, journal_next_packet, policy_at, journal_retired_mark, travels, journal_version_count, machine_with_packet}
+use Rattle.update_machine.specs.Exports.{Action, Decision, Dropped, End, Ends, JournalItemsHaveCauses, Header, Hit, How, IsMachineRun, IsSetting, Item, Leaving, LeftBy, Lost, Machine, MachinePacketMayEnd, JournalPoliciesKeep, Row, Runs, Setting, Stuck, Takes, first_machine, machine_item_gives_retired, journal_packet_header, is_journal_submission, journal_next_packet, policy_at, journal_retired_mark, travels, journal_version_count, machine_with_packet}
 use Rattle.policy_rules.specs.Exports.{scan}
 use Rattle.policy_rules.proofs.PolicyRulesCallerLemmas.{first_match-scan}
 use Rattle.update_machine.specs.Machine.{Packet}
 use Rattle.update_machine.proofs.Exports.{ArePolicies, have_append, policies_begin, policies_keep, policies_stay, policy_there, start_laws, takes_version}
 use Rattle.control_laws.specs.Exports.{HasControlItemCause, ControlRetirementHasCause, ControlSubmissionHasCause}
 use Rattle.control_laws.proofs.Exports.{Behind, bounded, caused_numbered, retired_more}
-use Rattle.packet_laws.specs.Exports.{AllPacketFactsKept, IsPacketDecided, IsUnknownPacket, HasPacketItemCause, PacketFacts, packet_facts_after, is_item_of_packet, packet_stage_of, packet_facts_of}
+use Rattle.packet_laws.specs.Exports.{AllPacketFactsKept, IsPacketDecided, IsUnknownPacket, HasPacketItemCause, PacketFacts, packet_facts_after, is_item_of_packet_facts, packet_stage_of, packet_facts_of}
 use Rattle.packet_laws.proofs.PacketsAllKept.{Before, facts_grow, facts_named, facts_other, kept_before, known_before, knows, other_number}
 use Rattle.packet_laws.proofs.PacketHeaderLookups.{IsHere, decision_in, here_of, travels_in}
 use Rattle.packet_laws.proofs.PacketEnds.{leaves_rightly}
@@ -68,10 +68,10 @@ unseen_facts : (mark : ℕ) (item : Item) (facts : PacketFacts) (o : Option Pack
     → SeenAs o facts → SeenAs o (packet_facts_after mark item facts)
 unseen_facts mark item facts o is seen = search rules
 
-no_submission : (next : Item) → IsUnseen next → is_submission next ≡ false
+no_submission : (next : Item) → IsUnseen next → is_journal_submission next ≡ false
 no_submission next is = search rules
 
-no_retirement : (next : Item) → IsUnseen next → item_gives_retired next ≡ None
+no_retirement : (next : Item) → IsUnseen next → machine_item_gives_retired next ≡ None
 no_retirement next is = search rules
 
 unseen_matches : (setting : Setting) (machine : Machine) (journal : List Item) (next : Item)
@@ -80,7 +80,7 @@ unseen_matches : (setting : Setting) (machine : Machine) (journal : List Item) (
 unseen_matches setting machine journal next is matches = record {
   policies = policies_stay setting machine.policies journal _ keep matches.policies;
   mark = matches.mark ∙ sym (rw (retired_more journal next, no_retirement next is) refl);
-  packets = λ i. rw (facts_grow i journal next) (by_name i (is_item_of_packet i next));
+  packets = λ i. rw (facts_grow i journal next) (by_name i (is_item_of_packet_facts i next));
 } where
   keep : JournalPoliciesKeep journal (journal ++ next ∷ [])
   keep = policies_keep journal (next ∷ []) (no_submission next is, tt)
@@ -98,8 +98,8 @@ record KeepsMarks (setting : Setting) (journal after : List Item) : Type 0 where
   keep : JournalPoliciesKeep journal after
   mark : journal_retired_mark after ≡ journal_retired_mark journal
 
-keeps_marks : (setting : Setting) (journal : List Item) (next : Item) → is_submission next ≡ false
-    → item_gives_retired next ≡ None → KeepsMarks setting journal (journal ++ next ∷ [])
+keeps_marks : (setting : Setting) (journal : List Item) (next : Item) → is_journal_submission next ≡ false
+    → machine_item_gives_retired next ≡ None → KeepsMarks setting journal (journal ++ next ∷ [])
 keeps_marks setting journal next submits retires = record {
   keep = policies_keep journal (next ∷ []) (submits, tt);
   mark = rw (retired_more journal next, retires) refl;
@@ -107,7 +107,7 @@ keeps_marks setting journal next submits retires = record {
 
 changed_matches : (setting : Setting) (machine : Machine) (journal : List Item)
     (next : Item) (i : ℕ) (packet : Packet) → Matches setting machine journal → KeepsMarks setting
-    journal (journal ++ next ∷ []) → ((j : ℕ) → j ≢ i → is_item_of_packet j next ≡ false) → IsSeen packet
+    journal (journal ++ next ∷ []) → ((j : ℕ) → j ≢ i → is_item_of_packet_facts j next ≡ false) → IsSeen packet
     (packet_facts_of (journal ++ next ∷ []) i)
     → Matches setting (machine_with_packet machine i packet) (journal ++ next ∷ [])
 changed_matches setting machine journal next i packet matches keeps others seen =
@@ -137,7 +137,7 @@ goes_end : (setting : Setting) (machine : Machine) (journal : List Item) (next :
     → IsTrue (travels journal i)
     → ((packet : Packet) → IsSeen packet (packet_facts_of journal i) → MachinePacketMayEnd packet end)
     → packet_facts_of (journal ++ next ∷ []) i ≡ record (packet_facts_of journal i) { travels = false }
-    → ((j : ℕ) → j ≢ i → is_item_of_packet j next ≡ false)
+    → ((j : ℕ) → j ≢ i → is_item_of_packet_facts j next ≡ false)
     → KeepsMarks setting journal (journal ++ next ∷ [])
     → ((new : Machine) → Ends machine i end new → Takes setting machine next new)
     → Goes setting machine journal next
@@ -231,7 +231,7 @@ goes_decided setting machine journal i version rule act by before matches way =
 
 -- facts of packets don't change with what names none
 packets_same : (machine : Machine) (journal : List Item) (next : Item)
-    → ((i : ℕ) → is_item_of_packet i next ≡ false)
+    → ((i : ℕ) → is_item_of_packet_facts i next ≡ false)
     → ((i : ℕ) → SeenAs (machine.packets i) (packet_facts_of journal i))
     → (i : ℕ) → SeenAs (machine.packets i) (packet_facts_of (journal ++ next ∷ []) i)
 packets_same machine journal next none seen i = rw (facts_other i journal next (none i)) (seen i)
@@ -349,6 +349,6 @@ unfolding packet_facts_of journal_packet_header
 matches_at_first setting is = search (rules, policies_begin, start_laws)
 
 pub caused_is_run : (setting : Setting) (journal : List Item) → IsSetting setting
-    → JournalItemsHaveCauses (IsWayItem setting) [] journal → IsRun setting journal
+    → JournalItemsHaveCauses (IsWayItem setting) [] journal → IsMachineRun setting journal
 caused_is_run setting journal is have = runs_from setting (first_machine setting) [] journal is
     (kept_before setting journal is have) (matches_at_first setting is)

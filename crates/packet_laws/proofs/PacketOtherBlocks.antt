@@ -2,7 +2,7 @@
 use Rattle.std.proofs.Common.{[], ◌++◌, ◌∙◌, ◌∷◌, ◌≡◌, Bool, IsTrue, List, None, Option, Some, append-nil, append_assoc, arith, false, map, max, min, refl, subst, sym, true, ℕ, rules}
 use Rattle.control_laws.proofs.Exports.{Control, IsCommand, IsControl, controller_control, deliver_has, each_by_controller, each_by_switch, each_to_member, have_weaker, later_versions, own, resent_has, sends_each, switch_cases, update_has}
 use Rattle.base.specs.Exports.{has}
-use Rattle.update_machine.specs.Exports.{Action, AuthorityRule, Body, CacheRule, Found, JournalItemsHaveCauses, Header, How, IsMachineLinkStep, Item, Leg, LinkDown, LinkUp, Message, Restart, Setting, Step, Update, advert_to, machine_arrive_items, machine_authority_items, journal_authority_rule, deliver_items, end_items, machine_expire_items, forget_items, found_items, item_gives_travelling, go_on, journal_packet_header_at, machine_hop_items, journal_items_then, machine_leg_items, journal_leg_of, journal_link_changes, machine_link_items, lookup_at, lookup_items, machine_messages_of, machine_messages_over_link, move_items, near, next_switch, nothing, packet_items, journal_present_step, reroute_items, resend_items, restart_items, journal_packet_route, send_items, serves, journal_stamp_of, stuck_on_leg_items, journal_switch_items, setting_switches_in, travels, journal_unacked_installs, update_items, journal_versions_from_current}
+use Rattle.update_machine.specs.Exports.{Action, AuthorityRule, Body, CacheRule, Found, JournalItemsHaveCauses, Header, How, IsMachineLinkStep, Item, Leg, LinkDown, LinkUp, Message, Restart, Setting, Step, Update, machine_advert_to, machine_arrive_items, machine_authority_items, journal_authority_rule, deliver_items, machine_end_items, machine_expire_items, machine_forget_items, found_items, machine_item_gives_travelling, go_on, journal_packet_header_at, machine_hop_items, journal_items_then, machine_leg_items, journal_leg_of, journal_link_changes, machine_link_items, lookup_at, machine_lookup_items, machine_messages_of, machine_messages_over_link, machine_move_items, near, journal_next_switch, nothing, machine_packet_items, journal_present_step, machine_reroute_items, machine_resend_items, restart_items, journal_packet_route, send_items, serves, journal_stamp_of, machine_stuck_on_leg_item, journal_switch_items, setting_switches_in, travels, journal_unacked_installs, machine_update_items, journal_versions_from_current}
 use Rattle.update_machine.proofs.Exports.{folded_append, have_first}
 use Rattle.packet_laws.specs.Exports.{IsPacketMoving, OnWay, HasPacketItemCause, gives_packet_stage}
 use Rattle.packet_laws.proofs.PacketBlocks.{ended, stage_more, stage_stays, travels_more}
@@ -13,7 +13,7 @@ use Rattle.base.proofs.Exports.{⊤, AllByRecursion, each_always, each_flat_map,
 -- ---- one item
 
 -- an item with which the switch is done with the packet
-ends_done : (journal : List Item) (next : Item) (i : ℕ) → item_gives_travelling i next ≡ Some false
+ends_done : (journal : List Item) (next : Item) (i : ℕ) → machine_item_gives_travelling i next ≡ Some false
     → IsPacketMoving (journal ++ next ∷ []) i
 ends_done journal next i ends travelling = absurd (cc (ended journal next i ends))
 
@@ -22,7 +22,7 @@ moves_done : (journal : List Item) (next : Item) (i : ℕ) → gives_packet_stag
 moves_done journal next i moves travelling = stage_more journal next i OnWay moves
 
 -- one that says nothing of it
-pub silent_done : (journal : List Item) (next : Item) (i : ℕ) → item_gives_travelling i next ≡ None
+pub silent_done : (journal : List Item) (next : Item) (i : ℕ) → machine_item_gives_travelling i next ≡ None
     → gives_packet_stage i next ≡ None → IsPacketMoving journal i → IsPacketMoving (journal ++ next ∷ []) i
 silent_done journal next i travels_on stays done travelling = stage_stays journal next i stays
     ∙ done (rw (travels_more journal next i, travels_on) at travelling)
@@ -44,8 +44,8 @@ unfolding machine_leg_items
 leg_done setting journal i s leg = search (rules, ends_done, moves_done)
 
 end_done : (setting : Setting) (i s : ℕ) (act : Action) (journal : List Item)
-    → IsPacketMoving (journal ++ end_items setting i s act journal) i
-unfolding end_items
+    → IsPacketMoving (journal ++ machine_end_items setting i s act journal) i
+unfolding machine_end_items
 end_done setting i s act journal = search (rules, ends_done, leg_done)
 
 authority_done : (setting : Setting) (i s : ℕ) (o : Option AuthorityRule) (journal : List Item)
@@ -63,15 +63,15 @@ NoRule setting journal i s = (partition place : ℕ)
     → IsPacketMoving journal i
 
 lookup_done : (setting : Setting) (i s : ℕ) (journal : List Item) → NoRule setting journal i s
-    → IsPacketMoving (journal ++ lookup_items setting i s journal) i
-unfolding lookup_items
+    → IsPacketMoving (journal ++ machine_lookup_items setting i s journal) i
+unfolding machine_lookup_items
 lookup_done setting i s journal none = by_found _ refl where
   by_found : (what : Found) → lookup_at setting journal s (journal_packet_header_at journal i) ≡ what
       → IsPacketMoving (journal ++ found_items setting i s what journal) i
   by_found (Found.Cached entry) e =
       let decided : Item =
       Item.Decided i entry.version entry.rule entry.action (How.Cached entry.message) in
-      put_done (decided ∷ []) (end_items setting i s entry.action) journal i
+      put_done (decided ∷ []) (machine_end_items setting i s entry.action) journal i
       (end_done setting i s entry.action (journal ++ decided ∷ []))
   by_found (Found.Authority partition place) e = authority_done setting i s _ journal
       (none partition place e)
@@ -88,15 +88,15 @@ go_on_done : (setting : Setting) (i s : ℕ) (journal : List Item) → IsPacketM
 go_on_done setting i s journal done = grind (arith, arrive_done, moves_done, own, done)
 
 reroute_done : (setting : Setting) (i s : ℕ) (leg : Leg) (journal : List Item)
-    → journal_leg_of journal i ≡ Some leg → IsPacketMoving (journal ++ reroute_items setting i s journal) i
-unfolding reroute_items
+    → journal_leg_of journal i ≡ Some leg → IsPacketMoving (journal ++ machine_reroute_items setting i s journal) i
+unfolding machine_reroute_items
 reroute_done setting i s leg journal takes = rw takes (by_route (journal_packet_route setting journal i s leg))
   where
     by_route : (o : Option (List ℕ)) → IsPacketMoving (journal ++ elim o [
-      | None ↦ stuck_on_leg_items setting journal i s leg ∷ []
+      | None ↦ machine_stuck_on_leg_item setting journal i s leg ∷ []
       | Some route ↦ journal_items_then (Item.Rerouted i route ∷ []) (go_on setting i s) journal
     ]) i
-    by_route None = ends_done journal (stuck_on_leg_items setting journal i s leg) i (rw (own i) refl)
+    by_route None = ends_done journal (machine_stuck_on_leg_item setting journal i s leg) i (rw (own i) refl)
     by_route (Some route) = put_done (Item.Rerouted i route ∷ []) (go_on setting i s) journal i
         (go_on_done setting i s _ (moves_done journal (Item.Rerouted i route) i (rw (own i) refl)))
 
@@ -107,22 +107,22 @@ leg_stays journal i s next = folded_append _ None journal (Item.FoundDown i s ne
 
 move_done : (setting : Setting) (i s : ℕ) (leg : Leg) (journal : List Item)
     → journal_leg_of journal i ≡ Some leg → IsPacketMoving journal i
-    → IsPacketMoving (journal ++ move_items setting i s journal) i
-unfolding move_items
-move_done setting i s leg journal takes done = by_next (next_switch journal i) where
+    → IsPacketMoving (journal ++ machine_move_items setting i s journal) i
+unfolding machine_move_items
+move_done setting i s leg journal takes done = by_next (journal_next_switch journal i) where
   by_link : (next : ℕ) (b : Bool) → IsPacketMoving (journal ++ elim b [
     | true ↦ Item.Hopped i next ∷ []
-    | false ↦ journal_items_then (Item.FoundDown i s next ∷ []) (reroute_items setting i s) journal
+    | false ↦ journal_items_then (Item.FoundDown i s next ∷ []) (machine_reroute_items setting i s) journal
   ]) i
   by_link next true = moves_done journal (Item.Hopped i next) i (rw (own i) refl)
-  by_link next false = put_done (Item.FoundDown i s next ∷ []) (reroute_items setting i s) journal i
+  by_link next false = put_done (Item.FoundDown i s next ∷ []) (machine_reroute_items setting i s) journal i
       (reroute_done setting i s leg _ (leg_stays journal i s next ∙ takes))
 
   by_next : (o : Option ℕ) → IsPacketMoving (journal ++ elim o [
     | None ↦ machine_arrive_items setting i s journal
     | Some next ↦ elim (has (near setting journal s) next) [
       | true ↦ Item.Hopped i next ∷ []
-      | false ↦ journal_items_then (Item.FoundDown i s next ∷ []) (reroute_items setting i s) journal
+      | false ↦ journal_items_then (Item.FoundDown i s next ∷ []) (machine_reroute_items setting i s) journal
     ]
   ]) i
   by_next None = arrive_done setting i s journal done
@@ -142,15 +142,15 @@ pub packet_done : (setting : Setting) (i s : ℕ) (header : Header) (journal : L
     → let entered = journal ++ Item.Entered i s header ∷ [] in
     lookup_at setting entered s (journal_packet_header_at entered i) ≡ Found.Authority partition place
     → journal_authority_rule setting entered (journal_stamp_of entered s) partition place ≡ None → ⊥)
-    → IsPacketMoving journal i → IsPacketMoving (journal ++ packet_items setting i s header journal) i
-unfolding packet_items
+    → IsPacketMoving journal i → IsPacketMoving (journal ++ machine_packet_items setting i s header journal) i
+unfolding machine_packet_items
 packet_done setting i s header journal there done = by_serving (serves journal s) refl where
   by_serving : (b : Bool) → serves journal s ≡ b → IsPacketMoving (journal ++ elim b [
     | false ↦ Item.Closed i s ∷ []
-    | true ↦ journal_items_then (Item.Entered i s header ∷ []) (lookup_items setting i s) journal
+    | true ↦ journal_items_then (Item.Entered i s header ∷ []) (machine_lookup_items setting i s) journal
   ]) i
   by_serving false e = silent_done journal (Item.Closed i s) i refl refl done
-  by_serving true e = put_done _ (lookup_items setting i s) journal i (lookup_done setting i s _
+  by_serving true e = put_done _ (machine_lookup_items setting i s) journal i (lookup_done setting i s _
       (λ partition place answer none. absurd (there e partition place answer none)))
 
 -- ---- other blocks
@@ -240,7 +240,7 @@ control_aside = have_weaker IsControl IsAside control_is_aside
 
 pub update_aside : (setting : Setting) (file : ℕ) (journal : List Item)
     → journal_present_step journal ≡ Some (Update file)
-    → AreAside journal (update_items setting file journal)
+    → AreAside journal (machine_update_items setting file journal)
 update_aside setting file journal is = search (rules, update_has, control_is_aside)
 
 -- ---- links and switches
@@ -279,8 +279,8 @@ unfolding restart_items
 restart_aside s journal is = grind (arith, have_first, sends_aside)
 
 pub forget_aside : (number : ℕ) (journal : List Item)
-    → AreAside journal (forget_items number journal)
-unfolding forget_items
+    → AreAside journal (machine_forget_items number journal)
+unfolding machine_forget_items
 forget_aside number journal = grind arith
 
 pub expire_aside : (setting : Setting) (s place : ℕ) (journal : List Item)
@@ -296,7 +296,7 @@ switch_aside setting before s body journal = switch_cases (AreAside journal) set
     journal (λ boot version. sends_aside journal _ (tt, tt))
     (λ boot version. sends_aside journal _ (tt, tt))
     (λ boot version is. grind (arith, have_first, changes_aside)) (λ advert is news. to_each journal
-    (λ neighbour. advert_to neighbour advert) (λ neighbour. tt) _) tt
+    (λ neighbour. machine_advert_to neighbour advert) (λ neighbour. tt) _) tt
 
 pub deliver_aside : (setting : Setting) (before : List Item) (number : ℕ) (journal : List Item)
     → AreAside journal (deliver_items setting before number journal)
@@ -311,10 +311,10 @@ unacked_other : (setting : Setting) (journal : List Item) (s : ℕ) (versions : 
 unacked_other setting journal s versions = search (rules, each_other)
 
 pub resend_aside : (setting : Setting) (s : ℕ) (journal : List Item)
-    → AreAside journal (resend_items setting s journal)
+    → AreAside journal (machine_resend_items setting s journal)
 resend_aside setting s journal = resent_has IsAside TellsOther setting s journal tt
     (sends_aside journal) (each_by_switch TellsOther setting journal s (λ up. tt)
-    (each_flat_map TellsOther _ (λ neighbour. each_other (advert_to neighbour) (λ advert. tt) _)
+    (each_flat_map TellsOther _ (λ neighbour. each_other (machine_advert_to neighbour) (λ advert. tt) _)
     (setting_switches_in setting (near setting journal s))))
     (each_by_controller TellsOther setting journal s (λ none member. each_to_member TellsOther
     setting journal s tt (unacked_other setting journal s (later_versions journal)) tt (λ some. tt))

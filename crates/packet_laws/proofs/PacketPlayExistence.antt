@@ -1,9 +1,9 @@
 -- Each list of events has a play: all their steps, or those before the first that would begin full.
 use Rattle.std.proofs.Common.{[], ◌++◌, ◌+◌, ◌<◌, ◌∙◌, ◌∷◌, ◌≡◌, ◌≤◌, ◌⊎◌, All, List, None, Option, Some, ap, append_assoc, arith, get_or, inl, inr, length, option_map, refl, subst, suc, sym, take, zero, ℕ, rules}
 use Rattle.base.proofs.Exports.{cases_lt, take-append_seam}
-use Rattle.update_machine.specs.Exports.{AreAllMachineEventSteps, AreJournalFirstSteps, AreFirstStepsOf, AreFirstMachineEventSteps, AreMachineSteps, AreMachineStepsOf, Deliver, Drain, Event, Flush, HasMachinePlay, JournalItemsHaveCauses, MachineJournalsHaveRoom, IsJournalFull, IsSetting, Item, One, Setting, Step, StepOfRow, journal_after_steps, machine_journal_full_at, journal_next_delivery, journal_next_hop, journal_next_message, next_waiting, piece}
-use Rattle.control_laws.specs.Exports.{AcksHold, AreNetworkEvents, BootsAreKnown, HasControlItemCause, HoldsAlways, HoldsReached, IsAckedFirst, MarksAreBounded, MembersAcknowledged, OpeningMessagesNameOneVersion, ServingHoldVersions, ServingIsKnown, StampsSayTouched, TablesArePlanned}
-use Rattle.packet_laws.specs.Exports.{ChangesLeaveOtherPackets, GoesOrStops, KeepVersionsWholeForPackets, PacketRulesAreRight, UntouchedCacheRulesStay}
+use Rattle.update_machine.specs.Exports.{AreAllMachineEventSteps, AreJournalFirstSteps, AreFirstMachineStepsOf, AreFirstMachineEventSteps, AreMachineSteps, AreMachineStepsOf, Deliver, Drain, Event, Flush, HasMachinePlay, JournalItemsHaveCauses, MachineJournalsHaveRoom, IsMachineJournalFull, IsSetting, Item, One, Setting, Step, StepOfRow, journal_after_steps, machine_journal_full_at, journal_next_delivery, journal_next_hop, journal_next_message, next_waiting, piece}
+use Rattle.control_laws.specs.Exports.{AcksHold, AreNetworkEvents, BootsAreKnown, HasControlItemCause, ControlLawHoldsAlways, ControlLawHoldsReached, IsAckedFirst, ControlMarksAreBounded, ControlMembersAcknowledged, OpeningMessagesNameOneVersion, ServingHoldVersions, ServingIsKnown, StampsSayTouched, ControlTablesArePlanned}
+use Rattle.packet_laws.specs.Exports.{ChangesLeaveOtherPackets, GoesOrStops, PacketLawsKeepVersionsWhole, PacketRulesAreRight, UntouchedCacheRulesStay}
 use Rattle.packet_laws.proofs.PacketFlushMessages.{next_is, numbers_rise}
 use Rattle.update_machine.proofs.Exports.{IsEventOf, after_append, event_steps_are, rooms_append}
 use Rattle.control_laws.proofs.Exports.{NamesOwn, has_nexts, own_event}
@@ -13,7 +13,7 @@ use Rattle.packet_laws.proofs.PacketDrainHops.{IsReady, drain_ends, ready_at_fir
 -- versions whole holds of them.
 
 -- what always holds, holds where a journal is reached
-pub always_reached : (Holds : Setting → List Item → Type 0) → HoldsAlways Holds → HoldsReached Holds
+pub always_reached : (Holds : Setting → List Item → Type 0) → ControlLawHoldsAlways Holds → ControlLawHoldsReached Holds
 always_reached Holds law = record {
   reached = λ setting journal at. rw at.written (law.behind.ends.stepped setting at.steps);
   within = λ setting journal rest at. subst (Holds setting)
@@ -26,21 +26,21 @@ always_reached Holds law = record {
 
 -- a fact of the journals of settings, within a step too
 abbrev pub OfReached : (Setting → List Item → Type 0) → Type 0
-OfReached Holds = HoldsReached (λ setting journal. IsSetting setting → Holds setting journal)
+OfReached Holds = ControlLawHoldsReached (λ setting journal. IsSetting setting → Holds setting journal)
 
 -- the laws of boots, versions and marks, and of cache rules
 pub record Laws : Type 0 where
-  pub causes : HoldsAlways (λ setting journal. JournalItemsHaveCauses (HasControlItemCause setting) [] journal)
-  pub boots : HoldsAlways (λ setting journal. BootsAreKnown journal)
-  pub serving : HoldsAlways (λ setting journal. ServingIsKnown journal)
-  pub heard : HoldsAlways (λ setting journal. (s : ℕ) → AcksHold journal s)
-  pub acknowledged : HoldsAlways (λ setting journal. JournalItemsHaveCauses (IsAckedFirst setting) [] journal)
-  pub opened : HoldsAlways (λ setting journal. OpeningMessagesNameOneVersion journal)
-  pub tables : HoldsAlways (λ setting journal. TablesArePlanned setting journal)
-  pub members : HoldsAlways (λ setting journal. MembersAcknowledged setting journal)
-  pub marks : HoldsAlways (λ setting journal. MarksAreBounded setting journal)
-  pub holding : HoldsAlways (λ setting journal. ServingHoldVersions setting journal)
-  pub touched : HoldsAlways (λ setting journal. StampsSayTouched setting journal)
+  pub causes : ControlLawHoldsAlways (λ setting journal. JournalItemsHaveCauses (HasControlItemCause setting) [] journal)
+  pub boots : ControlLawHoldsAlways (λ setting journal. BootsAreKnown journal)
+  pub serving : ControlLawHoldsAlways (λ setting journal. ServingIsKnown journal)
+  pub heard : ControlLawHoldsAlways (λ setting journal. (s : ℕ) → AcksHold journal s)
+  pub acknowledged : ControlLawHoldsAlways (λ setting journal. JournalItemsHaveCauses (IsAckedFirst setting) [] journal)
+  pub opened : ControlLawHoldsAlways (λ setting journal. OpeningMessagesNameOneVersion journal)
+  pub tables : ControlLawHoldsAlways (λ setting journal. ControlTablesArePlanned setting journal)
+  pub members : ControlLawHoldsAlways (λ setting journal. ControlMembersAcknowledged setting journal)
+  pub marks : ControlLawHoldsAlways (λ setting journal. ControlMarksAreBounded setting journal)
+  pub holding : ControlLawHoldsAlways (λ setting journal. ServingHoldVersions setting journal)
+  pub touched : ControlLawHoldsAlways (λ setting journal. StampsSayTouched setting journal)
   pub rules : OfReached PacketRulesAreRight
   pub untouched : OfReached UntouchedCacheRulesStay
   pub alike : OfReached ChangesLeaveOtherPackets
@@ -49,7 +49,7 @@ module _ (laws : Laws) (setting : Setting) (journal : List Item) where
   -- each item has its cause, and most of it follows
   whole : JournalItemsHaveCauses (HasControlItemCause setting) [] journal → PacketRulesAreRight setting journal
       → UntouchedCacheRulesStay setting journal → ChangesLeaveOtherPackets setting journal
-      → KeepVersionsWholeForPackets setting journal
+      → PacketLawsKeepVersionsWhole setting journal
   whole causes rules untouched alike = record {
     causes = causes;
     boots = laws.boots.caused setting journal causes;
@@ -67,7 +67,7 @@ module _ (laws : Laws) (setting : Setting) (journal : List Item) where
     alike = alike;
   }
 
-pub together : Laws → OfReached KeepVersionsWholeForPackets
+pub together : Laws → OfReached PacketLawsKeepVersionsWhole
 together laws = let causes = always_reached _ laws.causes in record {
   reached = λ setting journal at is. whole laws setting journal
       (causes.reached setting journal at) (laws.rules.reached setting journal at is)
@@ -99,7 +99,7 @@ none_left : (setting : Setting) (row : ℕ) (before : List Item) → next_waitin
 none_left setting row before none = search rules
 
 stops_here : (setting : Setting) (row : ℕ) (before : List Item) (n : ℕ) → next_waiting before
-    ≡ Some n → IsJournalFull before → GoesOrStops setting journal_next_delivery row before
+    ≡ Some n → IsMachineJournalFull before → GoesOrStops setting journal_next_delivery row before
 stops_here setting row before n is full = record {
   steps = [];
   room = tt;
@@ -190,8 +190,8 @@ goes setting next row before (first ∷ steps) all = by_room (cases_lt machine_j
 record EventStops (setting : Setting) (row : ℕ) (event : Event) (before : List Item)
     (steps : List StepOfRow) : Type 0 where
   more : StepOfRow
-  allowed : AreFirstStepsOf setting row event before (steps ++ more ∷ [])
-  full : IsJournalFull (journal_after_steps setting before steps)
+  allowed : AreFirstMachineStepsOf setting row event before (steps ++ more ∷ [])
+  full : IsMachineJournalFull (journal_after_steps setting before steps)
 
 record EventGoes (setting : Setting) (row : ℕ) (event : Event) (before : List Item) : Type 0 where
   steps : List StepOfRow
@@ -203,7 +203,7 @@ goes_as : (setting : Setting) (next : List Item → Option Step) (row : ℕ) (ev
     (before : List Item) → ((steps : List StepOfRow) → AreAllMachineEventSteps setting next row before steps
     → AreMachineStepsOf setting row event before steps)
     → ((steps : List StepOfRow) → AreFirstMachineEventSteps setting next row before steps
-    → AreFirstStepsOf setting row event before steps)
+    → AreFirstMachineStepsOf setting row event before steps)
     → GoesOrStops setting next row before → EventGoes setting row event before
 goes_as setting next row event before all_of some_of goes = search rules
 
@@ -237,7 +237,7 @@ record EventsStop (setting : Setting) (row : ℕ) (events : List Event) (before 
     (steps : List StepOfRow) : Type 0 where
   more : StepOfRow
   allowed : AreJournalFirstSteps setting row events before (steps ++ more ∷ [])
-  full : IsJournalFull (journal_after_steps setting before steps)
+  full : IsMachineJournalFull (journal_after_steps setting before steps)
 
 record EventsGo (setting : Setting) (row : ℕ) (events : List Event) (before : List Item)
     : Type 0 where
@@ -273,7 +273,7 @@ go_on setting row event events before mine room all rest = record {
         all,
         stop.allowed,
       );
-      full = subst IsJournalFull (sym (after_append setting before mine rest.steps)) stop.full;
+      full = subst IsMachineJournalFull (sym (after_append setting before mine rest.steps)) stop.full;
     })
   ];
 }

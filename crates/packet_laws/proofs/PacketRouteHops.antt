@@ -1,9 +1,9 @@
 -- Each item leaves the hops of each packet within its routes: one induction by items.
 use Rattle.std.proofs.Common.{[], ◌&&◌, ◌*◌, ◌++◌, ◌+◌, ◌-◌, ◌<◌, ◌==◌, ◌∙◌, ◌∷◌, ◌≡◌, ◌≤◌, Any, Bool, Contains, IsFalse, IsTrue, List, Option, Some, ap, append_assoc, arith, eqb-true, false, filter, filter_map, if◌then◌else◌, inl, length, map, refl, subst, sym, true, ℕ, rules}
-use Rattle.update_machine.specs.Exports.{CacheEntry, JournalItemsHaveCauses, Hop, IsSetting, Item, Setting, journal_cache_of, journal_folded_value, journal_retired_mark, journal_stamp_of, touched_by, travels}
+use Rattle.update_machine.specs.Exports.{CacheEntry, JournalItemsHaveCauses, Hop, IsSetting, Item, Setting, journal_cache_of, journal_folded_value, journal_retired_mark, journal_stamp_of, machine_touched_by, travels}
 use Rattle.update_machine.proofs.Exports.{folded_append}
 use Rattle.control_laws.proofs.Exports.{AreKept, Behind, Both, fact_on, have_both, have_weaker, one_if}
-use Rattle.packet_laws.specs.Exports.{AllPacketFactsKept, ArePacketsResting, HasKeptPacketFacts, CacheHasEntryUnder, IsPacketOnWay, IsRightEntry, IsToldStamp, OnWay, HasPacketItemCause, PacketFacts, PacketStage, UntouchedCacheRulesStay, at_least, changes_packet_route_hops, changes_packet_hops_taken, detour_count, exit_count, packet_facts_after, gives_packet_stage, packet_route_hops, packet_hops_taken, is_packet_detour, is_packet_exit, is_item_of_packet, is_packet_search, most_packet_hops, most_switches, brought_entry_outlives, packet_routes_taken, search_count, packet_stage_of, packet_facts_of}
+use Rattle.packet_laws.specs.Exports.{AllPacketFactsKept, ArePacketsResting, HasKeptPacketFacts, CacheHasPacketEntryUnder, IsPacketOnWay, IsRightPacketCacheEntry, IsToldToStampPackets, OnWay, HasPacketItemCause, PacketFacts, PacketStage, UntouchedCacheRulesStay, at_least, changes_packet_route_hops, changes_packet_hops_taken, detour_count, exit_count, packet_facts_after, gives_packet_stage, packet_route_hops, packet_hops_taken, is_packet_detour, is_packet_exit, is_item_of_packet_facts, is_packet_search, most_packet_hops, most_packet_route_switches, brought_entry_outlives, packet_routes_taken, search_count, packet_stage_of, packet_facts_of}
 use Rattle.packet_laws.proofs.PacketsSpared.{IsNoRow}
 use Rattle.base.proofs.Exports.{⊤, All-contains, nat_tests, option_or, slice_get_within}
 use Rattle.packet_laws.proofs.PacketsAllKept.{Before, all_kept, cached_on, facts_grow, kept_before, known_before, knows}
@@ -24,7 +24,7 @@ use Rattle.packet_laws.proofs.PacketCacheRules.{grows}
 abbrev pub changes_asked : ℕ → List Item → Bool → Item → Bool
 changes_asked i before asked (Item.Row row (Hop packet)) =
     if packet == i && travels before i then true else asked
-changes_asked i before asked item = if is_item_of_packet i item then false else asked
+changes_asked i before asked item = if is_item_of_packet_facts i item then false else asked
 
 unfoldable pub is_asked : List Item → ℕ → Bool
 is_asked journal i = journal_folded_value (changes_asked i) false journal
@@ -53,13 +53,13 @@ stays_off i before items none off = fact_on _ _ (off_kept i) before items none o
 -- the first of the items names the packet
 abbrev pub NamesFirst : ℕ → List Item → Type 0
 NamesFirst i [] = ⊥
-NamesFirst i (next ∷ items) = IsTrue (is_item_of_packet i next)
+NamesFirst i (next ∷ items) = IsTrue (is_item_of_packet_facts i next)
 
 turned : (b asked : Bool) → IsTrue b → (if b then false else asked) ≡ false
 turned b asked e = search rules
 
 named_off : (i : ℕ) (before : List Item) (asked : Bool) (next : Item) → IsNoRow next
-    → IsTrue (is_item_of_packet i next) → changes_asked i before asked next ≡ false
+    → IsTrue (is_item_of_packet_facts i next) → changes_asked i before asked next ≡ false
 named_off i before asked next none named = search rules
 
 -- so it hops with the first item that names it
@@ -87,11 +87,11 @@ BeginsRested before _ = ⊤
 -- the hop that it was asked. On its last route it took as many as its place says, at most 64
 record IsWithin (held : PacketFacts) (stage : Option PacketStage) (asked : Bool)
     (routes taken on : ℕ) : Type 0 where
-  all : taken ≤ most_switches * routes
-  each : on ≤ most_switches
+  all : taken ≤ most_packet_route_switches * routes
+  each : on ≤ most_packet_route_switches
   place : IsTrue held.travels → stage ≡ Some OnWay → on ≤ held.hops + (if asked then 1 else 0)
   left : IsTrue held.travels → stage ≡ Some OnWay → taken + (length held.route - held.hops)
-      ≤ most_switches * routes + (if asked then 1 else 0)
+      ≤ most_packet_route_switches * routes + (if asked then 1 else 0)
 
 abbrev IsWithinOf : List Item → ℕ → Type 0
 IsWithinOf journal i = IsWithin (packet_facts_of journal i) (packet_stage_of journal i) (is_asked journal i)
@@ -121,13 +121,13 @@ record Premises (setting : Setting) (before : List Item) (next : Item) : Type 0 
 
 -- a packet that isn't on its way
 rests : {held : PacketFacts} {stage : Option PacketStage} {asked : Bool} {routes taken on : ℕ}
-    → taken ≤ most_switches * routes → on ≤ most_switches
+    → taken ≤ most_packet_route_switches * routes → on ≤ most_packet_route_switches
     → (IsTrue held.travels → stage ≡ Some OnWay → ⊥) → IsWithin held stage asked routes taken on
 rests all each elsewhere = search rules
 
 -- or that begins a route
 begins_route : {held : PacketFacts} {stage : Option PacketStage} {asked : Bool} {routes taken : ℕ}
-    → taken + most_switches ≤ most_switches * routes
+    → taken + most_packet_route_switches ≤ most_packet_route_switches * routes
     → (IsTrue held.travels → length held.route ≤ 64) → IsWithin held stage asked routes taken 0
 begins_route room few = search rules
 
@@ -140,7 +140,7 @@ row_within setting before packet i known rested within b e =
     search (rules, travels_in, slice_get_within, none_asked, route_few)
 
 within_by : (setting : Setting) (before : List Item) (next : Item) (i : ℕ)
-    → Premises setting before next → (b : Bool) → is_item_of_packet i next ≡ b → IsWithinOf before i
+    → Premises setting before next → (b : Bool) → is_item_of_packet_facts i next ≡ b → IsWithinOf before i
     → IsWithin (if b then packet_facts_after (journal_retired_mark before) next (packet_facts_of before i)
     else packet_facts_of before i) (option_or (gives_packet_stage i next) (packet_stage_of before i))
     (changes_asked i before (is_asked before i) next)
@@ -261,11 +261,11 @@ all_within setting journal is have i = fact_on (IsKnown setting) (λ js. IsWithi
 
 pub within_routes : (setting : Setting) (journal : List Item) → IsSetting setting
     → JournalItemsHaveCauses (IsHopItem setting) [] journal → (i : ℕ)
-    → packet_hops_taken journal i ≤ most_switches * packet_routes_taken journal i
+    → packet_hops_taken journal i ≤ most_packet_route_switches * packet_routes_taken journal i
 within_routes setting journal is have i = (all_within setting journal is have i).all
 
 pub within_each : (setting : Setting) (journal : List Item) → IsSetting setting
-    → JournalItemsHaveCauses (IsHopItem setting) [] journal → (i : ℕ) → packet_route_hops journal i ≤ most_switches
+    → JournalItemsHaveCauses (IsHopItem setting) [] journal → (i : ℕ) → packet_route_hops journal i ≤ most_packet_route_switches
 within_each setting journal is have i = (all_within setting journal is have i).each
 
 pub hops_few : (setting : Setting) (journal : List Item) → IsSetting setting
@@ -293,9 +293,9 @@ left_in_order version touched entries (entry ∷ rest) =
 -- a stamp that rises carries the cache
 stamped_cache : (setting : Setting) (before : List Item)
     (s number boot version : ℕ) (touched : List WordValue)
-    → IsToldStamp before s number boot version touched
+    → IsToldToStampPackets before s number boot version touched
     → journal_stamp_of before s < version → journal_cache_of setting (before ++ Item.Delivered number ∷ []) s
-    ≡ cache_after_carry version (touched_by setting before version) (journal_cache_of setting before s)
+    ≡ cache_after_carry version (machine_touched_by setting before version) (journal_cache_of setting before s)
 unfolding journal_cache_of
 stamped_cache setting before s number boot version touched said rises =
     search (rules, nat_tests, folded_append)
@@ -303,11 +303,11 @@ stamped_cache setting before s number boot version touched said rises =
 -- each that isn't touched has its word there, by a rule that is right
 under_it : (setting : Setting) (before : List Item)
     (s number boot version : ℕ) (touched : List WordValue) (entry : CacheEntry) → IsSetting setting
-    → JournalItemsHaveCauses (IsWayItem setting) [] before → IsToldStamp before s number boot version touched
+    → JournalItemsHaveCauses (IsWayItem setting) [] before → IsToldToStampPackets before s number boot version touched
     → journal_stamp_of before s < version → Contains (journal_cache_of setting before s).entries entry
     → entry.version + 1 ≡ version
-    → IsFalse (cache_word_meets_touched (touched_by setting before version) entry.word)
-    → CacheHasEntryUnder setting (before ++ Item.Delivered number ∷ []) s version entry
+    → IsFalse (cache_word_meets_touched (machine_touched_by setting before version) entry.word)
+    → CacheHasPacketEntryUnder setting (before ++ Item.Delivered number ∷ []) s version entry
 under_it setting before s number boot version touched entry is have said rises there previous
     apart =
     let next : Item = Item.Delivered number in
@@ -331,7 +331,7 @@ under_it setting before s number boot version touched entry is have said rises t
         kept.4.0,
         (
           kept.4.1,
-          All-contains (IsRightEntry setting now) (journal_cache_of setting now s).entries kept.1 right
+          All-contains (IsRightPacketCacheEntry setting now) (journal_cache_of setting now s).entries kept.1 right
               (kept.0, kept.2, kept.3),
         ),
       ),

@@ -1,10 +1,10 @@
 -- The packet rows of the steps of events are those of the events.
 use Rattle.std.proofs.Common.{[], ◌++◌, ◌+◌, ◌-◌, ◌∙◌, ◌∷◌, ◌≡◌, ◌≤◌, ◌⊎◌, Bool, List, None, Option, Some, ap, append-nil, append_assoc, arith, false, inl, inr, refl, subst, suc, sym, take, true, ℕ, rules}
-use Rattle.update_machine.specs.Exports.{Answers, AreJournalFirstSteps, AreFirstStepsOf, AreFirstMachineEventSteps, AreMachineSteps, AreMachineStepsOf, Drain, Event, Flush, JournalItemsHaveCauses, Header, IsMachinePlay, Item, One, Packet, Setting, Step, StepOfRow, journal_after_steps, journal_items_then, lookup_items, journal_next_delivery, journal_next_hop, journal_next_packet, packet_items, piece, serves}
+use Rattle.update_machine.specs.Exports.{Answers, AreJournalFirstSteps, AreFirstMachineStepsOf, AreFirstMachineEventSteps, AreMachineSteps, AreMachineStepsOf, Drain, Event, Flush, JournalItemsHaveCauses, Header, IsMachinePlay, Item, One, Packet, Setting, Step, StepOfRow, journal_after_steps, journal_items_then, machine_lookup_items, journal_next_delivery, journal_next_hop, journal_next_packet, machine_packet_items, piece, serves}
 use Rattle.update_machine.proofs.Exports.{AreOf, HasNexts, all_first, all_given_append, event_steps_are, firsts_are}
 use Rattle.packet_laws.proofs.PacketsSpared.{IsInStep, IsNoRow, lookup_in_step}
 use Rattle.packet_laws.proofs.PacketsAtRest.{no_entries, no_rows}
-use Rattle.packet_laws.specs.Exports.{AreEntered, EachPacketRowEnters, StepRow, event_row, gives_step_row, rows_played, step_row, step_rows, step_rows_in}
+use Rattle.packet_laws.specs.Exports.{AreEntered, EachPacketRowEnters, StepRow, packet_law_event_row, gives_packet_law_step_row, packet_law_rows_played, packet_law_step_row, packet_law_step_rows, packet_law_step_rows_in}
 use Rattle.policy_rules.proofs.PolicyRulesCallerLemmas.{append_not_nil}
 
 -- ---- what the pieces of steps have of packet rows and their entries
@@ -15,31 +15,31 @@ NoRows before items = JournalItemsHaveCauses (λ js next. IsNoRow next) before i
 
 -- ---- the rows
 
-none_given : (before items : List Item) → NoRows before items → step_rows_in items ≡ []
+none_given : (before items : List Item) → NoRows before items → packet_law_step_rows_in items ≡ []
 none_given before [] none = refl
 none_given before (Item.Row row step ∷ items) none = absurd none.0
 none_given before (first ∷ items) none = none_given (before ++ first ∷ []) items none.1
 
 piece_rows : (setting : Setting) (before : List Item) (row : ℕ) (step : Step)
-    → step_rows_in (piece setting before row step) ≡ step_row row step
+    → packet_law_step_rows_in (piece setting before row step) ≡ packet_law_step_row row step
 unfolding piece
 piece_rows setting before row step =
-    cc (none_given _ _ (no_rows setting before row step), append-nil (step_row row step))
+    cc (none_given _ _ (no_rows setting before row step), append-nil (packet_law_step_row row step))
 
 -- the packet rows of steps
 abbrev pub rows_of : List StepOfRow → List StepRow
 rows_of [] = []
-rows_of (next ∷ steps) = step_row next.row next.step ++ rows_of steps
+rows_of (next ∷ steps) = packet_law_step_row next.row next.step ++ rows_of steps
 
 pub steps_rows : (setting : Setting) (before : List Item) (steps : List StepOfRow)
-    → step_rows_in (journal_after_steps setting before steps) ≡ step_rows_in before ++ rows_of steps
-steps_rows setting before [] = sym (append-nil (step_rows_in before))
+    → packet_law_step_rows_in (journal_after_steps setting before steps) ≡ packet_law_step_rows_in before ++ rows_of steps
+steps_rows setting before [] = sym (append-nil (packet_law_step_rows_in before))
 steps_rows setting before (next ∷ steps) =
     steps_rows setting (before ++ piece setting before next.row next.step) steps
     ∙ ap (λ rows. rows ++ rows_of steps)
-    (all_given_append gives_step_row before (piece setting before next.row next.step)
-    ∙ ap (λ rows. step_rows_in before ++ rows) (piece_rows setting before next.row next.step))
-    ∙ append_assoc (step_rows_in before) (step_row next.row next.step) (rows_of steps)
+    (all_given_append gives_packet_law_step_row before (piece setting before next.row next.step)
+    ∙ ap (λ rows. packet_law_step_rows_in before ++ rows) (piece_rows setting before next.row next.step))
+    ∙ append_assoc (packet_law_step_rows_in before) (packet_law_step_row next.row next.step) (rows_of steps)
 
 -- ---- the entries
 
@@ -53,7 +53,7 @@ none_enter before journal (first ∷ items) none = none_enter (before ++ first �
 
 packet_enters : (setting : Setting) (before : List Item) (row s : ℕ) (header : Header)
     → EachPacketRowEnters before (piece setting before row (Packet s header))
-unfolding piece packet_items
+unfolding piece machine_packet_items
 packet_enters setting before row s header = by_serving (serves here s) refl where
   i : ℕ
   i = journal_next_packet before
@@ -63,7 +63,7 @@ packet_enters setting before row s header = by_serving (serves here s) refl wher
 
   by_serving : (b : Bool) → serves here s ≡ b → EachPacketRowEnters before (Item.Row row (Packet s header) ∷ elim b [
     | false ↦ Item.Closed i s ∷ []
-    | true ↦ journal_items_then (Item.Entered i s header ∷ []) (lookup_items setting i s) here
+    | true ↦ journal_items_then (Item.Entered i s header ∷ []) (machine_lookup_items setting i s) here
   ])
   by_serving false is = ((refl, refl, is), tt)
   by_serving true is = ((refl, refl, refl, is), none_enter _ _ _ (lookup_in_step setting i s _))
@@ -101,12 +101,12 @@ steps_enter setting before (next ∷ steps) known =
 pub rows_append : (one two : List StepOfRow) → rows_of (one ++ two) ≡ rows_of one ++ rows_of two
 rows_append [] two = refl
 rows_append (next ∷ one) two =
-    cc (rows_append one two, append_assoc (step_row next.row next.step) (rows_of one) (rows_of two))
+    cc (rows_append one two, append_assoc (packet_law_step_row next.row next.step) (rows_of one) (rows_of two))
 
 -- ---- deliveries and hops bring no packet in
 
 abbrev BringsNone : Step → Type 0
-BringsNone step = (row : ℕ) → step_row row step ≡ []
+BringsNone step = (row : ℕ) → packet_law_step_row row step ≡ []
 
 nexts_bring_none : HasNexts BringsNone
 nexts_bring_none = record { delivery = λ number row. refl; hop = λ packet row. refl }
@@ -119,8 +119,8 @@ none_rows (next ∷ steps) none = cc (none.0 next.row, none_rows steps none.1)
 
 event_rows : (setting : Setting) (row : ℕ) (event : Event) (before : List Item)
     (steps : List StepOfRow) → AreMachineStepsOf setting row event before steps
-    → rows_of steps ≡ event_row row event
-event_rows setting row (One step) before steps all = cc (all, append-nil (step_row row step))
+    → rows_of steps ≡ packet_law_event_row row event
+event_rows setting row (One step) before steps all = cc (all, append-nil (packet_law_step_row row step))
 event_rows setting row Flush before steps all = none_rows steps
     (event_steps_are BringsNone nexts_bring_none setting row Flush before steps tt all)
 event_rows setting row Drain before steps all = none_rows steps
@@ -162,7 +162,7 @@ none_front row steps last none is = record {
 
 event_front : (setting : Setting) (row : ℕ) (event : Event) (before : List Item)
     (steps : List StepOfRow) (last : StepOfRow)
-    → AreFirstStepsOf setting row event before (steps ++ last ∷ []) → Front row steps last
+    → AreFirstMachineStepsOf setting row event before (steps ++ last ∷ []) → Front row steps last
 event_front setting row (One step) before steps last (inl e) = absurd (append_not_nil steps last e)
 event_front setting row (One step) before steps last (inr e) =
     one_front row (record { row = row; step = step }) steps last refl e
@@ -177,12 +177,12 @@ event_front setting row Drain before steps last some = none_front row steps last
 
 pub all_steps_rows : (setting : Setting) (row : ℕ) (events : List Event) (before : List Item)
     (steps : List StepOfRow) → AreMachineSteps setting row events before steps
-    → rows_of steps ≡ step_rows row events
+    → rows_of steps ≡ packet_law_step_rows row events
 all_steps_rows setting row [] before steps all = ap rows_of all
 all_steps_rows setting row (event ∷ events) before steps (mine, rest, split, all, others) =
     ap rows_of split.split ∙ rows_append mine rest
     ∙ ap (λ rows. rows ++ rows_of rest) (event_rows setting row event before mine all) ∙ ap
-    (λ rows. event_row row event ++ rows) (all_steps_rows setting (row + 1) events _ rest others)
+    (λ rows. packet_law_event_row row event ++ rows) (all_steps_rows setting (row + 1) events _ rest others)
 
 -- ---- in front of a step
 
@@ -215,14 +215,14 @@ where_ends (first ∷ steps) last (one ∷ mine) rest e =
 pub record PlayedTo (row : ℕ) (events : List Event) (steps : List StepOfRow) (last : StepOfRow)
     : Type 0 where
   pub from : row ≤ last.row
-  pub rows : rows_of steps ≡ step_rows row (take (last.row - row) events)
+  pub rows : rows_of steps ≡ packet_law_step_rows row (take (last.row - row) events)
 
 of_front : (row : ℕ) (events : List Event) (steps : List StepOfRow) (last : StepOfRow)
     → Front row steps last → PlayedTo row events steps last
 of_front row events steps last front =
     let none : last.row - row ≡ 0 = omega (arith, front.of_row) in record {
       from = omega (arith, front.of_row);
-      rows = front.none ∙ ap (λ n. step_rows row (take n events)) (sym none);
+      rows = front.none ∙ ap (λ n. packet_law_step_rows row (take n events)) (sym none);
     }
 
 -- the last step is of this event, or of one behind it
@@ -233,7 +233,7 @@ front_played : (setting : Setting) (row : ℕ) (event : Event) (events : List Ev
     → EndsOthers steps last mine rest → PlayedTo row (event ∷ events) steps last
 front_played setting row event events before steps last mine rest all others (inl is) = of_front row
     (event ∷ events) steps last (event_front setting row event before steps last (subst
-    (AreFirstStepsOf setting row event before) is (all_first setting row event before mine all)))
+    (AreFirstMachineStepsOf setting row event before) is (all_first setting row event before mine all)))
 front_played setting row event events before steps last mine rest all others
     (inr (front, is, first)) =
     let more = others front is in
@@ -242,8 +242,8 @@ front_played setting row event events before steps last mine rest all others
       from = omega (arith, above);
       rows = ap rows_of first ∙ rows_append mine front
           ∙ ap (λ rows. rows ++ rows_of front) (event_rows setting row event before mine all)
-          ∙ ap (λ rows. event_row row event ++ rows) more.rows
-          ∙ ap (λ n. step_rows row (take n (event ∷ events))) one;
+          ∙ ap (λ rows. packet_law_event_row row event ++ rows) more.rows
+          ∙ ap (λ n. packet_law_step_rows row (take n (event ∷ events))) one;
     }
 
 pub steps_in_front : (setting : Setting) (row : ℕ) (events : List Event) (before : List Item)
@@ -271,12 +271,12 @@ steps_entered setting steps journal rows written are =
     })
 
 pub answer_entered : (setting : Setting) (events : List Event) (journal : List Item)
-    → Answers setting events journal → AreEntered (step_rows 1 events) journal
+    → Answers setting events journal → AreEntered (packet_law_step_rows 1 events) journal
 answer_entered setting events journal answers = search (rules, steps_entered, all_steps_rows)
 
 pub play_entered : (setting : Setting) (events : List Event) (journal : List Item) (full : Option ℕ)
-    → IsMachinePlay setting events journal full → AreEntered (rows_played full events) journal
+    → IsMachinePlay setting events journal full → AreEntered (packet_law_rows_played full events) journal
 play_entered setting events journal None play = answer_entered setting events journal play.answers
 play_entered setting events journal (Some row) play = steps_entered setting play.steps journal _
     play.written ((steps_in_front setting 1 events [] play.steps play.next play.allowed).rows
-    ∙ ap (λ r. step_rows 1 (take (r - 1) events)) play.of_row)
+    ∙ ap (λ r. packet_law_step_rows 1 (take (r - 1) events)) play.of_row)

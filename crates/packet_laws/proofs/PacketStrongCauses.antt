@@ -1,7 +1,7 @@
 -- The strong causes follow from those that are read off the items, and from what is kept.
 use Rattle.std.proofs.Common.{[], ◌++◌, ◌+◌, ◌<◌, ◌==◌, ◌∙◌, ◌∷◌, ◌≡◌, ◌≤◌, ◌⊎◌, Bool, IsFalse, IsTrue, List, None, Option, Some, ap, arith, eqb-true, false, if◌then◌else◌, inl, inr, length, nat_eq, refl, subst, sym, true, unwrap_or, ℕ, rules}
 use Rattle.base.proofs.Exports.{list_any, option_or, some_same}
-use Rattle.update_machine.specs.Exports.{Action, Cause, Decision, Exit, HasCause, JournalItemsHaveCauses, Header, How, IsSetting, Item, Leg, Row, Seek, Setting, journal_current_mark, journal_decision_of, journal_found_down, item_gives_decision, item_gives_header, journal_packet_header, holds_version, journal_leg_of, journal_next_packet, policy_at, policy_in, journal_packet_route, journal_stamp_of, targets_of}
+use Rattle.update_machine.specs.Exports.{Action, Cause, Decision, Exit, HasMachineCause, JournalItemsHaveCauses, Header, How, IsSetting, Item, Leg, Row, Seek, Setting, journal_current_mark, journal_decision_of, journal_found_down, machine_item_gives_decision, machine_item_gives_header, journal_packet_header, holds_version, journal_leg_of, journal_next_packet, policy_at, policy_in, journal_packet_route, journal_stamp_of, journal_leg_targets}
 use Rattle.control_laws.specs.Exports.{LegEndsAt, HasControlItemCause}
 use Rattle.packet_laws.specs.Exports.{AllPacketFactsKept, ChangesLeaveOtherPackets, PacketRouteEndsAtTarget, PacketFindsLinkDown, PacketFindsNoRoute, FurtherCause, IsPacketAt, IsAtEnd, IsPacketBlockedOn, IsPacketDecided, IsLeastPacketRoute, IsPacketLookedUp, IsPacketOnLeg, IsPacketOnRightLeg, IsPacketOnWay, IsPacketRedirectedHere, IsPacketStuckOnLeg, PacketMeetsDown, HasPacketItemCause, PacketFacts, PacketsArrive, PacketRaisesOnLeg, PacketRaisesUnheld, PacketRaisesVersion, PacketSeeksRightly, StrongCause, PacketTakesLeg, hit_in, packet_stage_of, packet_facts_of}
 use Rattle.packet_laws.proofs.PacketEnds.{decision_out, end_caused, last_here, leaves_rightly, mark_in, meets_link, one_target, seeks_rightly, stands_known, stuck_rightly}
@@ -55,8 +55,8 @@ packets_arrive setting journal kept i s header leg at =
 -- ---- in a journal whose items have their causes the ends of packets do, and what fails
 
 pub ends_caused : (setting : Setting) (journal : List Item) → IsSetting setting
-    → JournalItemsHaveCauses (IsWayItem setting) [] journal → JournalItemsHaveCauses (HasCause setting) [] journal
-ends_caused setting journal is have = have_weaker _ (HasCause setting)
+    → JournalItemsHaveCauses (IsWayItem setting) [] journal → JournalItemsHaveCauses (HasMachineCause setting) [] journal
+ends_caused setting journal is have = have_weaker _ (HasMachineCause setting)
     (λ before next behind. end_caused setting before next
     (λ i. knows setting before i (known_before setting is before next behind))
     (caused_known setting before (switches_of_all setting [] before behind.caused.past))
@@ -87,14 +87,14 @@ rightly_on : (setting : Setting) (before after : List Item) (header : Header)
 rightly_on setting before after header decision grow right = search rules
 
 header_more : (before : List Item) (next : Item) (i : ℕ)
-    → journal_packet_header (before ++ next ∷ []) i ≡ option_or (item_gives_header i next) (journal_packet_header before i)
+    → journal_packet_header (before ++ next ∷ []) i ≡ option_or (machine_item_gives_header i next) (journal_packet_header before i)
 unfolding journal_packet_header
-header_more before next i = last_given_append (item_gives_header i) before (next ∷ [])
+header_more before next i = last_given_append (machine_item_gives_header i) before (next ∷ [])
 
 decision_more : (before : List Item) (next : Item) (i : ℕ) → journal_decision_of (before ++ next ∷ []) i
-    ≡ option_or (item_gives_decision i next) (journal_decision_of before i)
+    ≡ option_or (machine_item_gives_decision i next) (journal_decision_of before i)
 unfolding journal_decision_of
-decision_more before next i = last_given_append (item_gives_decision i) before (next ∷ [])
+decision_more before next i = last_given_append (machine_item_gives_decision i) before (next ∷ [])
 
 -- what didn't enter is undecided
 new_undecided : (setting : Setting) (before : List Item) (packet : ℕ) (decision : Decision)
@@ -123,8 +123,8 @@ decides_rightly setting before i version rule act by header known way entered =
 right_next : (setting : Setting) (before : List Item) (next : Item) → Before setting before
     → HasPacketItemCause setting before next → AreRight setting before
     → (i : ℕ) (header : Header) (decision : Decision)
-    → option_or (item_gives_header i next) (journal_packet_header before i) ≡ Some header
-    → option_or (item_gives_decision i next) (journal_decision_of before i) ≡ Some decision
+    → option_or (machine_item_gives_header i next) (journal_packet_header before i) ≡ Some header
+    → option_or (machine_item_gives_decision i next) (journal_decision_of before i) ≡ Some decision
     → IsRightly setting before header decision
 right_next setting before (Item.Entered packet s entering) known way are i header decision =
     by (packet == i) refl
@@ -343,7 +343,7 @@ least_route : (setting : Setting) (before : List Item) (i s : ℕ) (leg : Leg) (
     → Knows setting before i (packet_stage_of before i) → IsPacketAt before i s
     → journal_packet_route setting before i s leg ≡ Some route → IsLeastPacketRoute setting before i leg route
 least_route setting before i s leg route knows_it at leads =
-    let targets = targets_of setting before leg in
+    let targets = journal_leg_targets setting before leg in
     let down = journal_found_down before i in record {
       switch = s;
       stands = stands_known setting before i s knows_it at;

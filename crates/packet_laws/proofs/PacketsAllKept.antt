@@ -3,13 +3,13 @@
 use Rattle.std.proofs.Common.{[], ◌++◌, ◌+◌, ◌==◌, ◌∙◌, ◌∷◌, ◌≡◌, ◌≢◌, ◌≤◌, ◌⊎◌, All, Bool, IsTrue, List, None, Some, arith, eqb-true, false, if◌then◌else◌, inl, inr, refl, subst, sym, true, unwrap_or, ℕ, rules}
 use Rattle.base.proofs.Exports.{All-weaker, nat_tests, option_or, some_same}
 use Rattle.failover.specs.Exports.{no_links}
-use Rattle.update_machine.specs.Exports.{AuthorityRule, Body, CacheRule, SettingHasPlan, JournalItemsHaveCauses, Header, IsSetting, Item, Message, Packet, Setting, Step, journal_cache_of, item_changes_found, changes_hops, changes_journal_leg, journal_current_mark, journal_decision_of, journal_found_down, item_gives_decision, item_gives_header, item_gives_ingress, item_gives_route, item_gives_standing, item_gives_travelling, journal_packet_header, journal_ingress_of, journal_last_given, journal_leg_of, message_of, journal_next_packet, journal_plan_at, policy_at, journal_present_step, journal_retired_mark, journal_route_in, route_place, standing, travels}
+use Rattle.update_machine.specs.Exports.{AuthorityRule, Body, CacheRule, SettingHasPlan, JournalItemsHaveCauses, Header, IsSetting, Item, Message, Packet, Setting, Step, journal_cache_of, item_changes_found, changes_hops, changes_journal_leg, journal_current_mark, journal_decision_of, journal_found_down, machine_item_gives_decision, machine_item_gives_header, machine_item_gives_ingress, machine_item_gives_route, machine_item_gives_standing, machine_item_gives_travelling, journal_packet_header, journal_ingress_of, journal_last_given, journal_leg_of, journal_message_of, journal_next_packet, journal_plan_at, policy_at, journal_present_step, journal_retired_mark, journal_route_in, route_place, standing, travels}
 use Rattle.update_machine.proofs.Exports.{begins_planned, folded_append, last_given_append, step_stays}
-use Rattle.packet_laws.specs.Exports.{AllPacketFactsKept, Blocked, BringsRightRule, CameIn, HasKeptPacketFacts, IsRightEntry, IsRightPacketRule, IsUnknownPacket, Judged, OnWay, HasPacketItemCause, PacketFacts, SendsRightPacketRule, PacketSendsRule, PacketStage, changes_packet_entry_mark, entry_mark, packet_facts_after, gives_packet_stage, is_item_of_packet, packet_stage_of, packet_facts_of}
+use Rattle.packet_laws.specs.Exports.{AllPacketFactsKept, Blocked, BringsRightRule, CameIn, HasKeptPacketFacts, IsRightPacketCacheEntry, IsRightPacketRule, IsUnknownPacket, Judged, OnWay, HasPacketItemCause, PacketFacts, SendsRightPacketRule, PacketSendsRule, PacketStage, changes_packet_entry_mark, entry_mark, packet_facts_after, gives_packet_stage, is_item_of_packet_facts, packet_stage_of, packet_facts_of}
 use Rattle.cache_maker.specs.Independent.{widen}
 use Rattle.five_tuple.specs.Exports.{number_of}
 use Rattle.control_laws.proofs.Exports.{AreKept, Behind, HasBothCauses, NamesOwn, StampsAreCurrent, current_at_first, current_kept, fact_on, have_weaker, links_there, message_more, said_parts, stamps_touched, versions_planned, with_fact}
-use Rattle.control_laws.specs.Exports.{HasControlItemCause, stamp_message_to}
+use Rattle.control_laws.specs.Exports.{HasControlItemCause, control_stamp_message_to}
 use Rattle.packet_laws.proofs.PacketCacheRules.{Grows, cache_holds, cache_rule_right, carried_right, first_match_by_scan, grows, kept_on, right_on}
 use Rattle.packet_laws.proofs.PacketHeaderLookups.{IsHere, deciding, here_of, rules_of}
 use Rattle.packet_laws.proofs.KeptPacketFacts.{Knows, decided_after, entered_after, exiting_after, found_after, gone, hopped_after, rerouted_after, seeking_after}
@@ -24,14 +24,14 @@ use Rattle.ternary.specs.Exports.{WordValue}
 -- the facts behind one more item, each by its own fold
 abbrev told_facts : List Item → ℕ → Item → PacketFacts
 told_facts before i item = record {
-  header = option_or (item_gives_header i item) (journal_packet_header before i);
-  ingress = option_or (item_gives_ingress i item) (journal_ingress_of before i);
-  stands = option_or (item_gives_standing i item) (standing before i);
-  travels = unwrap_or (option_or (item_gives_travelling i item) (journal_last_given (item_gives_travelling i) before))
+  header = option_or (machine_item_gives_header i item) (journal_packet_header before i);
+  ingress = option_or (machine_item_gives_ingress i item) (journal_ingress_of before i);
+  stands = option_or (machine_item_gives_standing i item) (standing before i);
+  travels = unwrap_or (option_or (machine_item_gives_travelling i item) (journal_last_given (machine_item_gives_travelling i) before))
       false;
-  decision = option_or (item_gives_decision i item) (journal_decision_of before i);
+  decision = option_or (machine_item_gives_decision i item) (journal_decision_of before i);
   leg = changes_journal_leg i before (journal_leg_of before i) item;
-  route = unwrap_or (option_or (item_gives_route i item) (journal_last_given (item_gives_route i) before)) [];
+  route = unwrap_or (option_or (machine_item_gives_route i item) (journal_last_given (machine_item_gives_route i) before)) [];
   hops = changes_hops i before (route_place before i) item;
   found = item_changes_found i before (journal_found_down before i) item;
   mark = changes_packet_entry_mark i before (entry_mark before i) item;
@@ -42,19 +42,19 @@ facts_more : (before : List Item) (i : ℕ) (item : Item)
 unfolding packet_facts_of journal_packet_header journal_ingress_of standing travels journal_decision_of journal_leg_of journal_route_in route_place
     journal_found_down entry_mark
 facts_more before i item = rw (
-  last_given_append (item_gives_header i) before (item ∷ []),
-  last_given_append (item_gives_ingress i) before (item ∷ []),
-  last_given_append (item_gives_standing i) before (item ∷ []),
-  last_given_append (item_gives_travelling i) before (item ∷ []),
-  last_given_append (item_gives_decision i) before (item ∷ []),
+  last_given_append (machine_item_gives_header i) before (item ∷ []),
+  last_given_append (machine_item_gives_ingress i) before (item ∷ []),
+  last_given_append (machine_item_gives_standing i) before (item ∷ []),
+  last_given_append (machine_item_gives_travelling i) before (item ∷ []),
+  last_given_append (machine_item_gives_decision i) before (item ∷ []),
   folded_append (changes_journal_leg i) None before (item ∷ []),
-  last_given_append (item_gives_route i) before (item ∷ []),
+  last_given_append (machine_item_gives_route i) before (item ∷ []),
   folded_append (changes_hops i) 0 before (item ∷ []),
   folded_append (item_changes_found i) no_links before (item ∷ []),
   folded_append (changes_packet_entry_mark i) 0 before (item ∷ []),
 ) refl
 
-by_name : (before : List Item) (i : ℕ) (item : Item) (b : Bool) → is_item_of_packet i item ≡ b
+by_name : (before : List Item) (i : ℕ) (item : Item) (b : Bool) → is_item_of_packet_facts i item ≡ b
     → told_facts before i item
     ≡ (if b then packet_facts_after (journal_retired_mark before) item (packet_facts_of before i) else packet_facts_of before i)
 unfolding packet_facts_of journal_packet_header journal_ingress_of standing travels journal_decision_of journal_leg_of journal_route_in route_place
@@ -85,15 +85,15 @@ by_name before i other true e = absurd cc
 by_name before i other false e = refl
 
 pub facts_grow : (i : ℕ) (before : List Item) (item : Item) → packet_facts_of (before ++ item ∷ []) i
-    ≡ (if is_item_of_packet i item then packet_facts_after (journal_retired_mark before) item (packet_facts_of before i)
+    ≡ (if is_item_of_packet_facts i item then packet_facts_after (journal_retired_mark before) item (packet_facts_of before i)
     else packet_facts_of before i)
-facts_grow i before item = facts_more _ i item ∙ by_name before i item (is_item_of_packet i item) refl
+facts_grow i before item = facts_more _ i item ∙ by_name before i item (is_item_of_packet_facts i item) refl
 
-pub facts_named : (i : ℕ) (before : List Item) (item : Item) → is_item_of_packet i item ≡ true
+pub facts_named : (i : ℕ) (before : List Item) (item : Item) → is_item_of_packet_facts i item ≡ true
     → packet_facts_of (before ++ item ∷ []) i ≡ packet_facts_after (journal_retired_mark before) item (packet_facts_of before i)
 facts_named i before item named = cc (facts_grow i before item, named)
 
-pub facts_other : (i : ℕ) (before : List Item) (item : Item) → is_item_of_packet i item ≡ false
+pub facts_other : (i : ℕ) (before : List Item) (item : Item) → is_item_of_packet_facts i item ≡ false
     → packet_facts_of (before ++ item ∷ []) i ≡ packet_facts_of before i
 facts_other i before item other = cc (facts_grow i before item, other)
 
@@ -151,7 +151,7 @@ named_as setting before packet i next stage named tells kept =
     rw (stage_more before next i stage tells) (rw (eqb-true packet i named) at kept)
 
 named_after : (setting : Setting) (before : List Item) (next : Item) (i : ℕ)
-    → Before setting before → HasPacketItemCause setting before next → is_item_of_packet i next ≡ true
+    → Before setting before → HasPacketItemCause setting before next → is_item_of_packet_facts i next ≡ true
     → HasKeptPacketFacts setting before (packet_facts_after (journal_retired_mark before) next (packet_facts_of before i))
     (packet_stage_of (before ++ next ∷ []) i)
 named_after setting before (Item.Entered packet s header) i known way named =
@@ -187,15 +187,15 @@ named_after setting before (Item.Stuck packet switch cause leg down) i known way
     gone setting before _ _ refl
 named_after setting before next i known way named = absurd cc
 
-unnamed_stage : (i : ℕ) (next : Item) → is_item_of_packet i next ≡ false → gives_packet_stage i next ≡ None
+unnamed_stage : (i : ℕ) (next : Item) → is_item_of_packet_facts i next ≡ false → gives_packet_stage i next ≡ None
 unnamed_stage i next e = search rules
 
 packets_on : (setting : Setting) (before : List Item) (next : Item) → Before setting before
     → IsWayItem setting before next → Grows setting before (before ++ next ∷ []) → (i : ℕ)
     → HasKeptPacketFacts setting (before ++ next ∷ []) (packet_facts_of (before ++ next ∷ []) i)
     (packet_stage_of (before ++ next ∷ []) i)
-packets_on setting before next known cause grow i = by_name (is_item_of_packet i next) refl where
-  by_name : (b : Bool) → is_item_of_packet i next ≡ b → HasKeptPacketFacts setting (before ++ next ∷ [])
+packets_on setting before next known cause grow i = by_name (is_item_of_packet_facts i next) refl where
+  by_name : (b : Bool) → is_item_of_packet_facts i next ≡ b → HasKeptPacketFacts setting (before ++ next ∷ [])
       (packet_facts_of (before ++ next ∷ []) i) (packet_stage_of (before ++ next ∷ []) i)
   by_name true e = rw (facts_named i before next e) (kept_on setting before
       (before ++ next ∷ []) _ _ grow (named_after setting before next i known cause.way e))
@@ -206,7 +206,7 @@ packets_on setting before next known cause grow i = by_name (is_item_of_packet i
 
 -- an item names a packet that travels, or the next one, which enters
 named_travels : (setting : Setting) (before : List Item) (next : Item) (i : ℕ)
-    → HasPacketItemCause setting before next → is_item_of_packet i next ≡ true → IsTrue (travels before i)
+    → HasPacketItemCause setting before next → is_item_of_packet_facts i next ≡ true → IsTrue (travels before i)
     ⊎ ((i ≡ journal_next_packet before) × (journal_next_packet (before ++ next ∷ []) ≡ journal_next_packet before + 1))
 named_travels setting before (Item.Entered packet s header) i way named = inr (
   sym (eqb-true packet i named) ∙ way.0.number,
@@ -230,7 +230,7 @@ named_travels setting before next i way named = absurd cc
 unknown_on : (setting : Setting) (before : List Item) (next : Item) → Before setting before
     → HasPacketItemCause setting before next → (i : ℕ) → journal_next_packet (before ++ next ∷ []) ≤ i
     → IsUnknownPacket (packet_facts_of (before ++ next ∷ []) i)
-unknown_on setting before next known way i past = by_name (is_item_of_packet i next) refl where
+unknown_on setting before next known way i past = by_name (is_item_of_packet_facts i next) refl where
   not_named : IsTrue (travels before i)
       ⊎ ((i ≡ journal_next_packet before) × (journal_next_packet (before ++ next ∷ []) ≡ journal_next_packet before + 1))
       → IsUnknownPacket (packet_facts_of (before ++ next ∷ []) i)
@@ -239,7 +239,7 @@ unknown_on setting before next known way i past = by_name (is_item_of_packet i n
       absurd (omega (arith, number.1, past, packet_more before next))
   not_named (inr own) = absurd (omega (arith, own.0, own.1, past))
 
-  by_name : (b : Bool) → is_item_of_packet i next ≡ b → IsUnknownPacket (packet_facts_of (before ++ next ∷ []) i)
+  by_name : (b : Bool) → is_item_of_packet_facts i next ≡ b → IsUnknownPacket (packet_facts_of (before ++ next ∷ []) i)
   by_name true e = not_named (named_travels setting before next i way e)
   by_name false e = subst IsUnknownPacket (sym (facts_other i before next e))
       (known.kept.unknown i (omega (arith, past, packet_more before next)))
@@ -292,7 +292,7 @@ sent_right setting before number message known way = by_body message.body refl w
 
 sent_on : (setting : Setting) (before : List Item) (next : Item) → Before setting before
     → IsWayItem setting before next → Grows setting before (before ++ next ∷ [])
-    → (n : ℕ) (message : Message) → message_of (before ++ next ∷ []) n ≡ Some message
+    → (n : ℕ) (message : Message) → journal_message_of (before ++ next ∷ []) n ≡ Some message
     → BringsRightRule setting (before ++ next ∷ []) message.body
 sent_on setting before (Item.Sent number sent) known cause grow n message is = by_number _ refl
   where
@@ -311,19 +311,19 @@ sent_on setting before next known cause grow n message is = brings_on setting be
 -- ---- caches
 
 pub cached_on : (setting : Setting) (before : List Item) (next : Item) → Before setting before
-    → Grows setting before (before ++ next ∷ []) → (s : ℕ) → All (IsRightEntry setting
+    → Grows setting before (before ++ next ∷ []) → (s : ℕ) → All (IsRightPacketCacheEntry setting
     (before ++ next ∷ [])) (journal_cache_of setting (before ++ next ∷ []) s).entries
 cached_on setting before next known grow s =
     let are : StampsAreCurrent before = fact_on (HasControlItemCause setting) StampsAreCurrent
     (current_kept setting) [] before have current_at_first in
     -- a stamp that was sent is of a version that is there, and current or was
     let current : (number boot version : ℕ) (touched : List WordValue)
-    → message_of before number ≡ Some (stamp_message_to s boot version touched)
+    → journal_message_of before number ≡ Some (control_stamp_message_to s boot version touched)
     → version ≤ journal_current_mark before = λ number boot version touched sent. are.sent number _ sent in
-    All-weaker (IsRightEntry setting before)
-    (IsRightEntry setting (before ++ next ∷ [])) (λ entry right. right_on setting before
+    All-weaker (IsRightPacketCacheEntry setting before)
+    (IsRightPacketCacheEntry setting (before ++ next ∷ [])) (λ entry right. right_on setting before
     (before ++ next ∷ []) entry.version entry.word entry.rule entry.action grow right) _
-    (cache_holds (IsRightEntry setting before) setting s before next
+    (cache_holds (IsRightPacketCacheEntry setting before) setting s before next
     (λ number boot version touched said cache all. carried_right setting before version cache
     known.is (planned number boot version touched (said_parts before s number _ said).sent)
     (current number boot version touched (said_parts before s number _ said).sent) all)
@@ -334,7 +334,7 @@ cached_on setting before next known grow s =
     have = switches_of_all setting [] before known.have
 
     planned : (number boot version : ℕ) (touched : List WordValue)
-        → message_of before number ≡ Some (stamp_message_to s boot version touched)
+        → journal_message_of before number ≡ Some (control_stamp_message_to s boot version touched)
         → SettingHasPlan setting before version
     planned number boot version touched sent =
         let there = (stamps_touched setting before have).sent number s boot version touched sent in
@@ -355,7 +355,7 @@ kept_more setting is before next cause kept =
     }
 
 pub kept_at_first : (setting : Setting) → AllPacketFactsKept setting []
-unfolding packet_facts_of travels journal_packet_header journal_decision_of journal_leg_of journal_found_down message_of journal_cache_of
+unfolding packet_facts_of travels journal_packet_header journal_decision_of journal_leg_of journal_found_down journal_message_of journal_cache_of
 kept_at_first setting = search rules
 
 pub all_kept : (setting : Setting) (journal : List Item) → IsSetting setting

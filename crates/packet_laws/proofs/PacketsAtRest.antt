@@ -1,11 +1,11 @@
 -- Between steps all packets rest: on their way, at switches that serve. So all items of packets
 -- have their causes.
 use Rattle.std.proofs.Common.{[], ◌++◌, ◌+◌, ◌<◌, ◌==◌, ◌∙◌, ◌∷◌, ◌≡◌, ◌≢◌, ◌⊎◌, All, IsTrue, List, None, Option, Some, ap, arith, drop, eq-eqb, false, get_or, inl, inr, length, ne_eqb, refl, subst, suc, sym, take, take-append-drop, unwrap_or, ℕ, rules}
-use Rattle.update_machine.specs.Exports.{AreMachineSteps, JournalBeginsAnswer, Crash, Event, Found, JournalItemsHaveCauses, Header, Hop, IsMachinePlay, IsJournalReached, IsSetting, Item, Lose, Packet, Setting, Step, StepOfRow, journal_after_steps, journal_authority_rule, journal_packet_header_at, journal_packet_header, lookup_at, journal_next_packet, packet_items, piece, serves, journal_stamp_of, step_items, travels}
+use Rattle.update_machine.specs.Exports.{AreMachineSteps, JournalBeginsAnswer, Crash, Event, Found, JournalItemsHaveCauses, Header, Hop, IsMachinePlay, IsJournalReached, IsSetting, Item, Lose, Packet, Setting, Step, StepOfRow, journal_after_steps, journal_authority_rule, journal_packet_header_at, journal_packet_header, lookup_at, journal_next_packet, machine_packet_items, piece, serves, journal_stamp_of, machine_step_items, travels}
 use Rattle.update_machine.proofs.Exports.{AreOf, HasNexts, IsEventOf, answers_so_far, begins_itself, event_steps_are, first_steps_are, have_append, last_given_append, packet_keeps, stop_begins}
-use Rattle.control_laws.specs.Exports.{AreNetworkEvents, HasControlItemCause, HoldsReached}
+use Rattle.control_laws.specs.Exports.{AreNetworkEvents, HasControlItemCause, ControlLawHoldsReached}
 use Rattle.control_laws.proofs.Exports.{HasLinkCause, IsCarried, IsTraffic, NamesOwn, OfSettings, Traffic, behind_piece, carried_on, caused_known, fact_on, has_nexts, have_both, have_weaker, own_event, packet_has, pieces_caused, pieces_have, reached_by, reached_carries, serving_known, serving_more, setting_carries, so_far_carries, step_traffic}
-use Rattle.packet_laws.specs.Exports.{ArePacketsResting, ArePacketsServed, HoldsBetween, IsPacketMoving, HasPacketItemCause, packet_stage_of, packet_steps_played}
+use Rattle.packet_laws.specs.Exports.{ArePacketsResting, ArePacketsServed, PacketLawHoldsBetween, IsPacketMoving, HasPacketItemCause, packet_stage_of, packet_steps_played}
 use Rattle.base.proofs.Exports.{⊤, cases_eq}
 use Rattle.five_tuple.specs.Exports.{IsHeader}
 use Rattle.packet_laws.proofs.PacketsServed.{AreNumbered, HaveLegs, IsCausedUp, NotDown, crash_served, legs_kept, numbered_kept, served_kept}
@@ -168,7 +168,7 @@ IsApart j before step = (i : ℕ) → packet_of before step ≡ Some i → (i ==
 -- it spares all others
 others_spare : (setting : Setting) (j : ℕ) (before : List Item) (row : ℕ) (step : Step)
     → BringsNoPacket step → IsApart j before step → let here = before ++ Item.Row row step ∷ [] in
-    JournalItemsHaveCauses (SparesAll j) here (step_items setting before step here)
+    JournalItemsHaveCauses (SparesAll j) here (machine_step_items setting before step here)
 others_spare setting j before row (Packet s header) none apart = absurd none
 others_spare setting j before row (Hop i) none apart = hop_spares setting j i _ (apart i refl)
 others_spare setting j before row (Lose i) none apart = lose_spares j i _
@@ -178,7 +178,7 @@ others_spare setting j before row step none apart =
 
 step_spares : (setting : Setting) (j : ℕ) (before : List Item) (row : ℕ) (step : Step)
     → IsApart j before step → let here = before ++ Item.Row row step ∷ [] in
-    JournalItemsHaveCauses (Spares j) here (step_items setting before step here)
+    JournalItemsHaveCauses (Spares j) here (machine_step_items setting before step here)
 step_spares setting j before row (Packet s header) apart =
     packet_spares setting j (journal_next_packet before) s header _ (apart (journal_next_packet before) refl)
 step_spares setting j before row step apart =
@@ -192,14 +192,14 @@ another before step i is = search (rules, ne_eqb)
 -- behind its row a step begins no other
 pub no_rows : (setting : Setting) (before : List Item) (row : ℕ) (step : Step)
     → let here = before ++ Item.Row row step ∷ [] in
-    JournalItemsHaveCauses (λ js next. IsNoRow next) here (step_items setting before step here)
+    JournalItemsHaveCauses (λ js next. IsNoRow next) here (machine_step_items setting before step here)
 no_rows setting before row step = have_weaker _ (λ js next. IsNoRow next)
     (λ js next spares. spares.1) _ _ (step_spares setting _ before row step (another before step))
 
 -- and only by that of a packet row one enters or is closed
 pub no_entries : (setting : Setting) (before : List Item) (row : ℕ) (step : Step)
     → BringsNoPacket step → let here = before ++ Item.Row row step ∷ [] in
-    JournalItemsHaveCauses (λ js next. IsInStep next) here (step_items setting before step here)
+    JournalItemsHaveCauses (λ js next. IsInStep next) here (machine_step_items setting before step here)
 no_entries setting before row step none = in_step _ _ _ (others_spare _ _ _ _ _ none (another _ _))
 
 no_row_asked : (setting : Setting) (before : List Item) (next : Item) → IsNoRow next
@@ -257,30 +257,30 @@ rules_there setting journal i s header is have there sound serving partition pla
 
 step_served : (setting : Setting) (before : List Item) (row : ℕ) (step : Step)
     → IsSettled setting before → let here = before ++ Item.Row row step ∷ [] in
-    ArePacketsServed (here ++ step_items setting before step here)
+    ArePacketsServed (here ++ machine_step_items setting before step here)
 unfolding piece
 step_served setting before row step settled = by_kind step where
   past : (step : Step) → JournalItemsHaveCauses (HasControlItemCause setting) [] (before ++ Item.Row row step ∷ [])
   past step = have_append _ [] before _ (switches_of_all setting [] before settled.causes) (tt, tt)
 
   up_served : (step : Step) → let here = before ++ Item.Row row step ∷ [] in
-      JournalItemsHaveCauses (λ js next. NotDown next) here (step_items setting before step here)
-      → ArePacketsServed (here ++ step_items setting before step here)
+      JournalItemsHaveCauses (λ js next. NotDown next) here (machine_step_items setting before step here)
+      → ArePacketsServed (here ++ machine_step_items setting before step here)
   up_served step up = served_on setting _ _ (past step) (pieces_have setting before row step).1
       (piece_ways setting _ row step settled.rests).1 up (row_rests _ row step settled.rests).served
 
   aside_served : (step : Step) → let here = before ++ Item.Row row step ∷ [] in
-      AreAside here (step_items setting before step here)
-      → ArePacketsServed (here ++ step_items setting before step here)
+      AreAside here (machine_step_items setting before step here)
+      → ArePacketsServed (here ++ machine_step_items setting before step here)
   aside_served step aside = up_served step (have_weaker IsAside _ aside_up _ _ aside)
 
   traffic_served : (step : Step) → let here = before ++ Item.Row row step ∷ [] in
-      Traffic setting here (step_items setting before step here)
-      → ArePacketsServed (here ++ step_items setting before step here)
+      Traffic setting here (machine_step_items setting before step here)
+      → ArePacketsServed (here ++ machine_step_items setting before step here)
   traffic_served step traffic = up_served step (have_weaker _ _ (traffic_up setting) _ _ traffic)
 
   by_kind : (step : Step) → let here = before ++ Item.Row row step ∷ [] in
-      ArePacketsServed (here ++ step_items setting before step here)
+      ArePacketsServed (here ++ machine_step_items setting before step here)
   by_kind (Packet s header) = up_served _ (packet_has _ _ (traffic_up setting) _ s header _ tt)
   by_kind (Hop i) = traffic_served (Hop i) (step_traffic setting before (Hop i) _ tt)
   by_kind (Lose i) = traffic_served (Lose i) (step_traffic setting before (Lose i) _ tt)
@@ -293,41 +293,41 @@ step_served setting before row step settled = by_kind step where
 step_moving : (setting : Setting) (before : List Item) (row : ℕ) (step : Step)
     → IsSetting setting → NamesOwn setting step → IsSettled setting before → (j : ℕ)
     → let here = before ++ Item.Row row step ∷ [] in
-    IsPacketMoving (here ++ step_items setting before step here) j
+    IsPacketMoving (here ++ machine_step_items setting before step here) j
 step_moving setting before row step is own settled j = by_kind step own where
   resting : (step : Step) → IsPacketMoving (before ++ Item.Row row step ∷ []) j
   resting step = (row_rests before row step settled.rests).moving j
 
   other : (step : Step) → ((i : ℕ) → packet_of before step ≡ Some i → (i == j) ≡ false)
       → let here = before ++ Item.Row row step ∷ [] in
-      IsPacketMoving (here ++ step_items setting before step here) j
+      IsPacketMoving (here ++ machine_step_items setting before step here) j
   other step apart = spared j _ _ (step_spares setting j before row step apart) (resting step)
 
   by_packet : (s : ℕ) (header : Header) → s < length setting.net.switches → IsHeader header
       → (journal_next_packet before ≡ j) ⊎ (journal_next_packet before ≢ j)
       → let here = before ++ Item.Row row (Packet s header) ∷ [] in
-      IsPacketMoving (here ++ packet_items setting (journal_next_packet before) s header here) j
+      IsPacketMoving (here ++ machine_packet_items setting (journal_next_packet before) s header here) j
   by_packet s header there sound (inl same) =
       let here : List Item = before ++ Item.Row row (Packet s header) ∷ [] in
-      subst (λ k. IsPacketMoving (here ++ packet_items setting k s header here) j) (sym same)
+      subst (λ k. IsPacketMoving (here ++ machine_packet_items setting k s header here) j) (sym same)
       (packet_done setting j s header here (rules_there setting here j s header is
       (have_append _ [] before (Item.Row row (Packet s header) ∷ []) (switches_of_all setting []
       before settled.causes) (tt, tt)) there sound) (resting (Packet s header)))
   by_packet s header there sound (inr apart) = other _ (λ i e. ne_eqb i j (λ same. apart (cc)))
 
   by_hop : (i : ℕ) → (i ≡ j) ⊎ (i ≢ j) → let here = before ++ Item.Row row (Hop i) ∷ [] in
-      IsPacketMoving (here ++ step_items setting before (Hop i) here) j
+      IsPacketMoving (here ++ machine_step_items setting before (Hop i) here) j
   by_hop i (inl same) =
       let here : List Item = before ++ Item.Row row (Hop i) ∷ [] in
       let keeps = packet_keeps j before (Item.Row row (Hop i) ∷ []) (refl, tt) in
-      subst (λ k. IsPacketMoving (here ++ step_items setting before (Hop k) here) j) (sym same)
+      subst (λ k. IsPacketMoving (here ++ machine_step_items setting before (Hop k) here) j) (sym same)
       (hop_done setting j here (λ travelling. let leg = have_legs setting before settled.causes j
       (settled.rests.moving j (sym keeps.travels ∙ travelling)) in
       (leg.0, keeps.leg ∙ leg.1)) (resting (Hop i)))
   by_hop i (inr apart) = other (Hop i) (λ k e. ne_eqb k j (λ same. apart (cc)))
 
   by_kind : (step : Step) → NamesOwn setting step → let here = before ++ Item.Row row step ∷ [] in
-      IsPacketMoving (here ++ step_items setting before step here) j
+      IsPacketMoving (here ++ machine_step_items setting before step here) j
   by_kind (Packet s header) own = by_packet s header own.0 own.1 (cases_eq (journal_next_packet before) j)
   by_kind (Hop i) own = by_hop i (cases_eq i j)
   by_kind step own = other step (λ k e. absurd cc)
@@ -361,7 +361,7 @@ reached_settled setting journal is reached = reached_carries _ _ (settled_carrie
 -- what holds where packets rest and all items have their causes holds between steps
 pub between : (Holds : Setting → List Item → Type 0) → ((setting : Setting) (journal : List Item)
     → IsSetting setting → IsSettled setting journal → Holds setting journal)
-    → HoldsBetween (λ setting journal. IsSetting setting → Holds setting journal)
+    → PacketLawHoldsBetween (λ setting journal. IsSetting setting → Holds setting journal)
 between Holds settled = record {
   reached = λ setting journal reached is.
       settled setting journal is (reached_settled setting journal is reached);
@@ -377,5 +377,5 @@ between Holds settled = record {
 -- what follows from the causes of all items is true of each reached journal, within a step too
 pub reached : (Holds : Setting → List Item → Type 0) → ((setting : Setting) (journal : List Item)
     → IsSetting setting → JournalItemsHaveCauses (IsWayItem setting) [] journal → Holds setting journal)
-    → HoldsReached (λ setting journal. IsSetting setting → Holds setting journal)
+    → ControlLawHoldsReached (λ setting journal. IsSetting setting → Holds setting journal)
 reached Holds = reached_by _ Holds _ settled_carried (λ setting journal settled. settled.causes)

@@ -3,7 +3,7 @@
 use Rattle.std.proofs.Common.{[], ◌++◌, ◌+◌, ◌<◌, ◌==◌, ◌∙◌, ◌∷◌, ◌≡◌, ◌≤◌, ◌⊎◌, Bool, IsFalse, IsTrue, List, None, Some, append-nil, append_assoc, arith, eqb-true, false, if◌then◌else◌, inl, inr, map, refl, subst, sym, true, ℕ, rules}
 use Rattle.base.proofs.Exports.{⊤, list_any, nat_tests}
 use Rattle.base.specs.Exports.{has}
-use Rattle.update_machine.specs.Exports.{Exit, Item, Leg, Message, Seek, Setting, changes_journal_leg, count_of, journal_crash_items, journal_exit_port, item_gives_serving, item_gives_standing, item_gives_travelling, is_packet, is_up, journal_items_then, journal_leg_of, journal_link_changes, journal_next_message, journal_next_packet, nothing, journal_packets_at, machine_sent_items_from, serves, standing, travels}
+use Rattle.update_machine.specs.Exports.{Exit, Item, Leg, Message, Seek, Setting, changes_journal_leg, count_of, journal_crash_items, journal_exit_port, machine_item_gives_serving, machine_item_gives_standing, machine_item_gives_travelling, is_packet, is_up, journal_items_then, journal_leg_of, journal_link_changes, journal_next_message, journal_next_packet, nothing, journal_packets_at, machine_sent_items_from, serves, standing, travels}
 use Rattle.update_machine.proofs.Exports.{count_of_append, folded_append}
 use Rattle.control_laws.specs.Exports.{HasControlItemCause, ServingIsKnown}
 use Rattle.control_laws.proofs.Exports.{AreKept, any_picked, ends_serve, losts_keep, serving_more}
@@ -31,15 +31,15 @@ NotDown (Item.Down s) = ⊥
 NotDown _ = ⊤
 
 -- an item that brings no packet to another switch, behind which its own serves as before
-pub stays_served : (before : List Item) (next : Item) (i : ℕ) → item_gives_standing i next ≡ None
-    → (item_gives_travelling i next ≡ None) ⊎ (item_gives_travelling i next ≡ Some false)
+pub stays_served : (before : List Item) (next : Item) (i : ℕ) → machine_item_gives_standing i next ≡ None
+    → (machine_item_gives_travelling i next ≡ None) ⊎ (machine_item_gives_travelling i next ≡ Some false)
     → ((s : ℕ) → IsTrue (serves before s) → IsTrue (serves (before ++ next ∷ []) s))
     → (IsTrue (travels before i) → IsPacketServed before i)
     → IsTrue (travels (before ++ next ∷ []) i) → IsPacketServed (before ++ next ∷ []) i
 stays_served before next i stays h4 on served travelling =
     search (rules, travels_more, standing_more)
 
-pub still_serves : (before : List Item) (next : Item) (s : ℕ) → item_gives_serving s next ≡ None
+pub still_serves : (before : List Item) (next : Item) (s : ℕ) → machine_item_gives_serving s next ≡ None
     → IsTrue (serves before s) → IsTrue (serves (before ++ next ∷ []) s)
 still_serves before next s none serving = rw (serving_more before next s, none) serving
 
@@ -49,9 +49,9 @@ pub record IsCausedUp (setting : Setting) (before : List Item) (next : Item) : T
 
 -- an item that brings a packet to a switch that serves
 brought_served : (before : List Item) (next : Item) (packet s i : ℕ)
-    → ((t : ℕ) → item_gives_serving t next ≡ None)
-    → item_gives_standing i next ≡ (if packet == i then Some s else None)
-    → ((packet == i) ≡ false → item_gives_travelling i next ≡ None) → ArePacketsServed before
+    → ((t : ℕ) → machine_item_gives_serving t next ≡ None)
+    → machine_item_gives_standing i next ≡ (if packet == i then Some s else None)
+    → ((packet == i) ≡ false → machine_item_gives_travelling i next ≡ None) → ArePacketsServed before
     → IsTrue (serves before s) → IsTrue (travels (before ++ next ∷ []) i)
     → IsPacketServed (before ++ next ∷ []) i
 brought_served before next packet s i silent stands moves served serving travelling =
@@ -110,7 +110,7 @@ unfolding journal_next_packet
 next_first journal = omega arith
 
 number_stays : (before : List Item) (next : Item) (i : ℕ)
-    → (item_gives_travelling i next ≡ None) ⊎ (item_gives_travelling i next ≡ Some false)
+    → (machine_item_gives_travelling i next ≡ None) ⊎ (machine_item_gives_travelling i next ≡ Some false)
     → (IsTrue (travels before i) → (1 ≤ i) × (i < journal_next_packet before))
     → IsTrue (travels (before ++ next ∷ []) i) → (1 ≤ i) × (i < journal_next_packet (before ++ next ∷ []))
 number_stays before next i (inr ends) numbered travelling = absurd (cc (ended before next i ends))

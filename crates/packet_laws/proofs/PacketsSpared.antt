@@ -1,10 +1,10 @@
 -- What a step leaves of packets that it isn't about: they are on their way as before.
 use Rattle.std.proofs.Common.{[], ◌++◌, ◌+◌, ◌==◌, ◌∙◌, ◌∷◌, ◌≡◌, ◌≤◌, ◌⊎◌, Bool, IsFalse, List, None, Option, Some, arith, eq-eqb, eqb-true, false, filter, if◌then◌else◌, inr, map, ne_eqb, refl, suc, sym, true, unwrap_or, zero, ℕ, rules}
 use Rattle.base.proofs.Exports.{⊤, and_parts, option_or, range_with_len}
-use Rattle.update_machine.specs.Exports.{Action, AuthorityRule, Confirm, Crash, Deliver, Expire, Forget, Found, JournalItemsHaveCauses, Header, Hop, Item, Leg, LinkDown, LinkUp, Lose, Packet, JournalPacketKeeps, Resend, Restart, Setting, Step, Update, machine_arrive_items, machine_authority_items, journal_cache_items, count_of, journal_crash_items, end_items, found_items, item_gives_step, item_gives_travelling, machine_hop_items, is_at, is_packet, is_up, journal_items_then, journal_last_given, machine_leg_items, journal_link_changes, lookup_items, lose_items, move_items, nothing, packet_items, journal_packets_at, piece, journal_present_step, reroute_items, machine_sent_items_from, standing, step_items, travels, journal_travels_at}
+use Rattle.update_machine.specs.Exports.{Action, AuthorityRule, Confirm, Crash, Deliver, Expire, Forget, Found, JournalItemsHaveCauses, Header, Hop, Item, Leg, LinkDown, LinkUp, Lose, Packet, MachinePacketKeeps, Resend, Restart, Setting, Step, Update, machine_arrive_items, machine_authority_items, journal_cache_items, count_of, journal_crash_items, machine_end_items, found_items, machine_item_gives_step, machine_item_gives_travelling, machine_hop_items, is_at, is_packet, is_up, journal_items_then, journal_last_given, machine_leg_items, journal_link_changes, machine_lookup_items, lose_items, machine_move_items, nothing, machine_packet_items, journal_packets_at, piece, journal_present_step, machine_reroute_items, machine_sent_items_from, standing, machine_step_items, travels, journal_travels_at}
 use Rattle.update_machine.proofs.Exports.{have_append, have_first, have_put, last_given_append, packet_keeps, packets_keep, step_stays}
 use Rattle.control_laws.proofs.Exports.{AreKept, confirm_control, fact_on, have_weaker, serving_more, up_more}
-use Rattle.packet_laws.specs.Exports.{ArePacketsResting, IsPacketMoving, IsPacketServed, HasPacketItemCause, ends_with_row, fallen_switch, gives_fall, gives_row_test, gives_packet_stage}
+use Rattle.packet_laws.specs.Exports.{ArePacketsResting, IsPacketMoving, IsPacketServed, HasPacketItemCause, packet_law_ends_with_row, packet_fallen_switch, gives_packet_fall_cause, gives_packet_cause_row, gives_packet_stage}
 use Rattle.packet_laws.proofs.PacketOtherBlocks.{AreAside, IsAside, aside_ways, changes_aside, control_aside, deliver_aside, expire_aside, forget_aside, link_aside, resend_aside, restart_aside, update_aside}
 use Rattle.packet_laws.proofs.PacketBlocks.{Ways, hop_ways, lose_ways, packet_ways, stage_stays, travels_more}
 
@@ -21,20 +21,20 @@ AsBefore before journal k = (j : ℕ) → k ≤ j
 -- the switch went down in its crash
 record WentDown (journal : List Item) (s : ℕ) : Type 0 where
   crashes : journal_present_step journal ≡ Some (Crash s)
-  fell : fallen_switch journal ≡ Some s
+  fell : packet_fallen_switch journal ≡ Some s
   down : IsFalse (is_up journal s)
 
 at_switch : (s : ℕ) (at : Option ℕ) → is_at s at ≡ true → at ≡ Some s
 at_switch s at is = search (rules, eqb-true)
 
-fallen_more : (journal : List Item) (next : Item) → fallen_switch (journal ++ next ∷ [])
-    ≡ unwrap_or (option_or (gives_fall next) (journal_last_given gives_fall journal)) None
-unfolding fallen_switch
-fallen_more journal next = cc (last_given_append gives_fall journal (next ∷ []))
+fallen_more : (journal : List Item) (next : Item) → packet_fallen_switch (journal ++ next ∷ [])
+    ≡ unwrap_or (option_or (gives_packet_fall_cause next) (journal_last_given gives_packet_fall_cause journal)) None
+unfolding packet_fallen_switch
+fallen_more journal next = cc (last_given_append gives_packet_fall_cause journal (next ∷ []))
 
-fallen_stays : (journal : List Item) (next : Item) → gives_fall next ≡ None
-    → fallen_switch (journal ++ next ∷ []) ≡ fallen_switch journal
-unfolding fallen_switch
+fallen_stays : (journal : List Item) (next : Item) → gives_packet_fall_cause next ≡ None
+    → packet_fallen_switch (journal ++ next ∷ []) ≡ packet_fallen_switch journal
+unfolding packet_fallen_switch
 fallen_stays journal next none = search (rules, last_given_append)
 
 lost_on : (journal : List Item) (s k : ℕ) → WentDown journal s
@@ -72,7 +72,7 @@ losts_ways setting before s k (suc n) journal went same = by_test (journal_trave
             });
           },
           later (journal ++ Item.Lost k ∷ []) (lost_on journal s k went) (λ j above. let
-              keeps : JournalPacketKeeps j journal (journal ++ Item.Lost k ∷ []) = packet_keeps j journal
+              keeps : MachinePacketKeeps j journal (journal ++ Item.Lost k ∷ []) = packet_keeps j journal
               (Item.Lost k ∷ []) (ne_eqb k j (λ equal. omega (arith, equal, above)), tt) in (
                 keeps.travels ∙ (same j (omega (arith, above))).0,
                 keeps.stands ∙ (same j (omega (arith, above))).1,
@@ -102,7 +102,7 @@ crash_ways setting before s journal crashes same = by_up (is_up before s) where
       (journal_link_changes setting before) journal (
         crashes,
         losts_ways setting before s 1 (count_of is_packet before) _ (down_now journal s crashes)
-            (λ j above. let keeps : JournalPacketKeeps j journal (journal ++ Item.Down s ∷ []) =
+            (λ j above. let keeps : MachinePacketKeeps j journal (journal ++ Item.Down s ∷ []) =
             packet_keeps j journal (Item.Down s ∷ []) (refl, tt) in (
               keeps.travels ∙ (same j (omega arith)).0,
               keeps.stands ∙ (same j (omega arith)).1,
@@ -115,12 +115,12 @@ crash_ways setting before s journal crashes same = by_up (is_up before s) where
 pub step_now : (before : List Item) (row : ℕ) (step : Step)
     → journal_present_step (before ++ Item.Row row step ∷ []) ≡ Some step
 unfolding journal_present_step
-step_now before row step = last_given_append item_gives_step before (Item.Row row step ∷ [])
+step_now before row step = last_given_append machine_item_gives_step before (Item.Row row step ∷ [])
 
 row_now : (before : List Item) (row : ℕ) (step : Step)
-    → ends_with_row (before ++ Item.Row row step ∷ []) ≡ true
-unfolding ends_with_row
-row_now before row step = cc (last_given_append gives_row_test before (Item.Row row step ∷ []))
+    → packet_law_ends_with_row (before ++ Item.Row row step ∷ []) ≡ true
+unfolding packet_law_ends_with_row
+row_now before row step = cc (last_given_append gives_packet_cause_row before (Item.Row row step ∷ []))
 
 -- the row leaves packets and switches as they are
 pub row_rests : (before : List Item) (row : ℕ) (step : Step) → ArePacketsResting before
@@ -135,7 +135,7 @@ row_rests before row step rests = record {
   moving = λ i travelling. stage_stays before (Item.Row row step) i refl
       ∙ rests.moving i (sym (keeps i).travels ∙ travelling);
 } where
-  keeps : (i : ℕ) → JournalPacketKeeps i before (before ++ Item.Row row step ∷ [])
+  keeps : (i : ℕ) → MachinePacketKeeps i before (before ++ Item.Row row step ∷ [])
   keeps i = packet_keeps i before (Item.Row row step ∷ []) (refl, tt)
 
 -- the steps that move no packet
@@ -148,7 +148,7 @@ MovesNone _ = ⊤
 
 pub step_aside : (setting : Setting) (before : List Item) (row : ℕ) (step : Step) → MovesNone step
     → let here = before ++ Item.Row row step ∷ [] in
-    AreAside here (step_items setting before step here)
+    AreAside here (machine_step_items setting before step here)
 step_aside setting before row (Deliver number) none = deliver_aside setting before number _
 step_aside setting before row (Forget number) none = forget_aside number _
 step_aside setting before row (Expire s place) none = expire_aside setting s place _
@@ -162,7 +162,7 @@ step_aside setting before row step none = absurd none
 
 step_ways : (setting : Setting) (before : List Item) (row : ℕ) (step : Step) → ArePacketsResting before
     → let here = before ++ Item.Row row step ∷ [] in
-    Ways setting here (step_items setting before step here)
+    Ways setting here (machine_step_items setting before step here)
 step_ways setting before row (Packet s header) rests = packet_ways setting _ _ s header (record {
   number = sym (packets_keep before (Item.Row row (Packet s header) ∷ []) (refl, tt)).next;
   row = step_now before row (Packet s header);
@@ -179,7 +179,7 @@ pub piece_ways : (setting : Setting) (before : List Item) (row : ℕ) (step : St
     → ArePacketsResting before → Ways setting before (piece setting before row step)
 unfolding piece
 piece_ways setting before row step rests = have_first (HasPacketItemCause setting) (Item.Row row step)
-    (step_items setting before step) before tt (step_ways setting before row step rests)
+    (machine_step_items setting before step) before tt (step_ways setting before row step rests)
 
 -- ---- spared packets
 
@@ -221,7 +221,7 @@ pub ends_or_not : (b : Bool) → ((if b then Some false else None) ≡ None)
 ends_or_not b = search rules
 
 comes_in : (i : ℕ) (next : Item) → gives_packet_stage i next ≡ None
-    → (item_gives_travelling i next ≡ None) ⊎ (item_gives_travelling i next ≡ Some false)
+    → (machine_item_gives_travelling i next ≡ None) ⊎ (machine_item_gives_travelling i next ≡ Some false)
 comes_in i next spares = search (rules, ends_or_not)
 
 pub spared_on : (i : ℕ) → AreKept (Spares i) (λ journal. IsPacketMoving journal i)
@@ -246,8 +246,8 @@ unfolding machine_leg_items
 leg_spares setting j journal i s leg apart = grind (arith, apart)
 
 end_spares : (setting : Setting) (j i s : ℕ) (act : Action) (journal : List Item) → Apart i j
-    → Spared j journal (end_items setting i s act journal)
-unfolding end_items
+    → Spared j journal (machine_end_items setting i s act journal)
+unfolding machine_end_items
 end_spares setting j i s Action.Drop journal apart = ((refl, tt), tt)
 end_spares setting j i s (Action.Out port) journal apart = grind (arith, leg_spares, apart)
 
@@ -269,8 +269,8 @@ found_spares setting j i s what journal apart =
     grind (arith, end_spares, authority_spares, leg_spares, apart)
 
 lookup_spares : (setting : Setting) (j i s : ℕ) (journal : List Item) → Apart i j
-    → Spared j journal (lookup_items setting i s journal)
-unfolding lookup_items
+    → Spared j journal (machine_lookup_items setting i s journal)
+unfolding machine_lookup_items
 lookup_spares setting j i s journal apart = found_spares setting j i s _ journal apart
 
 arrive_spares : (setting : Setting) (j i s : ℕ) (journal : List Item) → Apart i j
@@ -279,27 +279,27 @@ unfolding machine_arrive_items
 arrive_spares setting j i s journal apart = grind (arith, lookup_spares, authority_spares, apart)
 
 reroute_spares : (setting : Setting) (j i s : ℕ) (journal : List Item) → Apart i j
-    → Spared j journal (reroute_items setting i s journal)
-unfolding reroute_items
+    → Spared j journal (machine_reroute_items setting i s journal)
+unfolding machine_reroute_items
 reroute_spares setting j i s journal apart = grind (arith, arrive_spares, apart)
 
 move_spares : (setting : Setting) (j i s : ℕ) (journal : List Item) → Apart i j
-    → Spared j journal (move_items setting i s journal)
-unfolding move_items
+    → Spared j journal (machine_move_items setting i s journal)
+unfolding machine_move_items
 move_spares setting j i s journal apart = grind (arith, arrive_spares, reroute_spares, apart)
 
 pub lookup_in_step : (setting : Setting) (i s : ℕ) (journal : List Item)
-    → JournalItemsHaveCauses (λ js next. IsInStep next) journal (lookup_items setting i s journal)
+    → JournalItemsHaveCauses (λ js next. IsInStep next) journal (machine_lookup_items setting i s journal)
 lookup_in_step setting i s journal = in_step (i + 1) journal _
     (lookup_spares setting (i + 1) i s journal (ne_eqb i (i + 1) (λ same. omega (arith, same))))
 
 lookup_spare : (setting : Setting) (j i s : ℕ) (journal : List Item) → Apart i j
-    → JournalItemsHaveCauses (Spares j) journal (lookup_items setting i s journal)
+    → JournalItemsHaveCauses (Spares j) journal (machine_lookup_items setting i s journal)
 lookup_spare setting j i s journal apart = spare j _ _ (lookup_spares setting j i s journal apart)
 
 pub packet_spares : (setting : Setting) (j i s : ℕ) (header : Header) (journal : List Item)
-    → Apart i j → JournalItemsHaveCauses (Spares j) journal (packet_items setting i s header journal)
-unfolding packet_items
+    → Apart i j → JournalItemsHaveCauses (Spares j) journal (machine_packet_items setting i s header journal)
+unfolding machine_packet_items
 packet_spares setting j i s header journal apart = grind (arith, lookup_spare, apart)
 
 pub hop_spares : (setting : Setting) (j i : ℕ) (journal : List Item) → Apart i j

@@ -3,13 +3,13 @@
 -- one. When a `Stamp` raises a switch to the very next version, the cache keeps each rule that the
 -- amendment doesn't touch, unless an entry of that version already has the rule's word.
 use Rattle.std.specs.Prelude.{[], if◌then◌else◌, ◌++◌, ◌+◌, ◌<◌, ◌||◌, ◌∷◌, ◌≡◌, ◌⊎◌, All, Any, Bool, Contains, IsFalse, List, Ok, Some, filter, map, nat_le, ℕ}
-use Rattle.update_machine.specs.Exports.{CacheEntry, Decision, Edit, Header, Hit, Item, Row, Setting, Stamp, journal_body_to_switch, journal_cache_of, journal_decision_of, journal_packet_header, policy_in, journal_stamp_of, touched_by}
+use Rattle.update_machine.specs.Exports.{CacheEntry, Decision, Edit, Header, Hit, Item, Row, Setting, Stamp, journal_body_to_switch, journal_cache_of, journal_decision_of, journal_packet_header, policy_in, journal_stamp_of, machine_touched_by}
 use Rattle.five_tuple.specs.Exports.{fields_of}
-use Rattle.policy_rules.specs.Exports.{IsFirstMatch, applied, row_matches, touched_policy_rows}
+use Rattle.policy_rules.specs.Exports.{IsFirstMatch, applied, policy_row_matches, touched_policy_rows}
 use Rattle.switch_table.specs.Exports.{is_carried, cache_word_meets_touched, under}
 use Rattle.ternary.specs.Exports.{WordValue}
 use Rattle.journal.specs.declared.item.Item.TheVariants as item
-use Rattle.packet_laws.specs.Rules.{IsRightEntry}
+use Rattle.packet_laws.specs.Rules.{IsRightPacketCacheEntry}
 
 -- ---- headers
 
@@ -23,7 +23,7 @@ pub record ChangeLeavesPacketHeader (setting : Setting) (journal : List Item) (v
   pub policy : policy_in setting journal version ≡ Some rows
   pub next : policy_in setting journal (version + 1) ≡ Some changed
   pub makes : applied rows change ≡ Ok changed
-  pub apart : All (λ row. IsFalse (row_matches row (fields_of header))) (touched_policy_rows rows change)
+  pub apart : All (λ row. IsFalse (policy_row_matches row (fields_of header))) (touched_policy_rows rows change)
 
 -- the version has a policy, and this is the header's first match in it
 pub record IsPacketMatchUnder (setting : Setting) (journal : List Item) (version : ℕ) (header : Header)
@@ -38,7 +38,7 @@ hit_in decision = record { rule = decision.rule; action = decision.action }
 
 -- one rule and its action are the first match of the header under this version and the next one;
 -- and each packet with this header that either of them decided got that rule and that action
-pub record AreDecidedAlike (setting : Setting) (journal : List Item) (version : ℕ)
+pub record ArePacketsDecidedAlike (setting : Setting) (journal : List Item) (version : ℕ)
     (header : Header) : Type 0 where
   pub hit : Hit
   pub before : IsPacketMatchUnder setting journal version header hit
@@ -51,20 +51,20 @@ pub record AreDecidedAlike (setting : Setting) (journal : List Item) (version : 
 abbrev pub ChangesLeaveOtherPackets : Setting → List Item → Type 0
 ChangesLeaveOtherPackets setting journal = (version : ℕ) (header : Header)
     → ChangeLeavesPacketHeader setting journal version header
-    → AreDecidedAlike setting journal version header
+    → ArePacketsDecidedAlike setting journal version header
 
 -- ---- cache rules
 
 -- the cache has a rule of this version with the entry's word, and the rule decides each header of
 -- the word as the version's policy does
-abbrev pub CacheHasEntryUnder : Setting → List Item → ℕ → ℕ → CacheEntry → Type 0
-CacheHasEntryUnder setting journal s version entry =
+abbrev pub CacheHasPacketEntryUnder : Setting → List Item → ℕ → ℕ → CacheEntry → Type 0
+CacheHasPacketEntryUnder setting journal s version entry =
     Any (λ kept. (kept.version ≡ version) × ((kept.word ≡ entry.word)
-    × IsRightEntry setting journal kept)) (journal_cache_of setting journal s).entries
+    × IsRightPacketCacheEntry setting journal kept)) (journal_cache_of setting journal s).entries
 
 -- the delivery of this message tells the switch, in this boot, to stamp with a version
-abbrev pub IsToldStamp : List Item → ℕ → ℕ → ℕ → ℕ → List WordValue → Type 0
-IsToldStamp before s number boot version touched =
+abbrev pub IsToldToStampPackets : List Item → ℕ → ℕ → ℕ → ℕ → List WordValue → Type 0
+IsToldToStampPackets before s number boot version touched =
     journal_body_to_switch before s number ≡ Some (Stamp boot version touched)
 
 -- the entry outlives the cache's move to a version: it is of this version or a later one; or of
@@ -78,27 +78,27 @@ abbrev pub at_least : ℕ → CacheEntry → CacheEntry
 at_least version entry = if nat_le version entry.version then entry else under version entry
 
 -- exactly the entries that outlive the move are left, in their order, each at least at the version
-abbrev pub CacheRulesStayInOrder : ℕ → List WordValue → (before after : List CacheEntry) → Type 0
-CacheRulesStayInOrder version touched before after =
+abbrev pub PacketCacheRulesStayInOrder : ℕ → List WordValue → (before after : List CacheEntry) → Type 0
+PacketCacheRulesStayInOrder version touched before after =
     after ≡ map (at_least version) (filter (brought_entry_outlives version touched before) before)
 
 -- when a message raises the stamp of a switch to a version, the entries of its cache stay in their
 -- order, except those of earlier versions that don't outlive the rise. An entry of the version
 -- before whose word meets no word that the version's change touches has an entry under that version
 -- then: itself, or the one that had its word before
-pub record CacheRulesOutliveStamp (setting : Setting) (before : List Item) (s number version : ℕ)
+pub record BroughtCacheRulesOutliveStamp (setting : Setting) (before : List Item) (s number version : ℕ)
     : Type 0 where
-  pub in_order : CacheRulesStayInOrder version (touched_by setting before version)
+  pub in_order : PacketCacheRulesStayInOrder version (machine_touched_by setting before version)
       (journal_cache_of setting before s).entries
       (journal_cache_of setting (before ++ item.Delivered number ∷ []) s).entries
   pub untouched : (entry : CacheEntry) → Contains (journal_cache_of setting before s).entries entry
       → entry.version + 1 ≡ version
-      → IsFalse (cache_word_meets_touched (touched_by setting before version) entry.word)
-      → CacheHasEntryUnder setting (before ++ item.Delivered number ∷ []) s version entry
+      → IsFalse (cache_word_meets_touched (machine_touched_by setting before version) entry.word)
+      → CacheHasPacketEntryUnder setting (before ++ item.Delivered number ∷ []) s version entry
 
 abbrev pub UntouchedCacheRulesStay : Setting → List Item → Type 0
 UntouchedCacheRulesStay setting before =
     (s number boot version : ℕ) (touched : List WordValue)
-    → IsToldStamp before s number boot version touched
+    → IsToldToStampPackets before s number boot version touched
     → journal_stamp_of before s < version
-    → CacheRulesOutliveStamp setting before s number version
+    → BroughtCacheRulesOutliveStamp setting before s number version

@@ -11,7 +11,7 @@ packet_steps_played setting events journal (Some row) play = play.steps
 
 -- it is true after any steps of the network; of each answer to its events, and of each beginning
 -- of one that ends where a step ends; and after each step of a play
-pub record HoldsBetween (Holds : Setting → List Item → Type 0) : Type 0 where
+pub record PacketLawHoldsBetween (Holds : Setting → List Item → Type 0) : Type 0 where
   pub reached : (setting : Setting) (journal : List Item) → IsJournalReached setting journal
       → Holds setting journal
   pub answered : (setting : Setting) (events : List Event) (journal : List Item)

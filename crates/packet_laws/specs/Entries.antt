@@ -12,34 +12,34 @@ pub record StepRow : Type 0 where
   pub step : Step
 
 -- the step's row; none for a hop or a delivery, which may be a step of a drain or a flush too
-abbrev pub step_row : ℕ → Step → List StepRow
-step_row row (Hop packet) = []
-step_row row (Deliver message) = []
-step_row row step = record { row = row; step = step } ∷ []
+abbrev pub packet_law_step_row : ℕ → Step → List StepRow
+packet_law_step_row row (Hop packet) = []
+packet_law_step_row row (Deliver message) = []
+packet_law_step_row row step = record { row = row; step = step } ∷ []
 
-abbrev pub event_row : ℕ → Event → List StepRow
-event_row row (One step) = step_row row step
-event_row row _ = []
+abbrev pub packet_law_event_row : ℕ → Event → List StepRow
+packet_law_event_row row (One step) = packet_law_step_row row step
+packet_law_event_row row _ = []
 
 -- the step rows of these events; the first event has this row number
-abbrev pub step_rows : ℕ → List Event → List StepRow
-step_rows row [] = []
-step_rows row (event ∷ events) = event_row row event ++ step_rows (row + 1) events
+abbrev pub packet_law_step_rows : ℕ → List Event → List StepRow
+packet_law_step_rows row [] = []
+packet_law_step_rows row (event ∷ events) = packet_law_event_row row event ++ packet_law_step_rows (row + 1) events
 
 -- the step rows that were played: all, or those before the row at which the play stopped full
-abbrev pub rows_played : Option ℕ → List Event → List StepRow
-rows_played None events = step_rows 1 events
-rows_played (Some row) events = step_rows 1 (take (row - 1) events)
+abbrev pub packet_law_rows_played : Option ℕ → List Event → List StepRow
+packet_law_rows_played None events = packet_law_step_rows 1 events
+packet_law_rows_played (Some row) events = packet_law_step_rows 1 (take (row - 1) events)
 
 -- ---- in a journal
 
-abbrev pub gives_step_row : Item → List StepRow
-gives_step_row (item.Row row step) = step_row row step
-gives_step_row _ = []
+abbrev pub gives_packet_law_step_row : Item → List StepRow
+gives_packet_law_step_row (item.Row row step) = packet_law_step_row row step
+gives_packet_law_step_row _ = []
 
 -- the step rows that a journal has, in order
-abbrev pub step_rows_in : List Item → List StepRow
-step_rows_in journal = journal_all_given gives_step_row journal
+abbrev pub packet_law_step_rows_in : List Item → List StepRow
+packet_law_step_rows_in journal = journal_all_given gives_packet_law_step_row journal
 
 -- the item says that packet i entered with this header at the switch, if the switch serves; or, if
 -- it doesn't, that it was closed to the packet
@@ -64,5 +64,5 @@ EachPacketRowEnters before (first ∷ items) = EachPacketRowEnters (before ++ fi
 
 -- the journal has these rows, each packet row with its entry, and no other entry
 pub record AreEntered (rows : List StepRow) (journal : List Item) : Type 0 where
-  pub in_order : step_rows_in journal ≡ rows
+  pub in_order : packet_law_step_rows_in journal ≡ rows
   pub each : EachPacketRowEnters [] journal

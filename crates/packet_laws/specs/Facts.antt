@@ -81,16 +81,16 @@ packet_facts_after mark (item.Stuck packet switch cause leg down) facts = record
 packet_facts_after mark _ facts = facts
 
 -- the item names the packet
-abbrev pub is_item_of_packet : ℕ → Item → Bool
-is_item_of_packet i (item.Entered packet switch header) = packet == i
-is_item_of_packet i (item.Seeking packet version partition route) = packet == i
-is_item_of_packet i (item.Exiting packet route) = packet == i
-is_item_of_packet i (item.Rerouted packet route) = packet == i
-is_item_of_packet i (item.Hopped packet switch) = packet == i
-is_item_of_packet i (item.FoundDown packet one two) = packet == i
-is_item_of_packet i (item.Decided packet version rule action how) = packet == i
-is_item_of_packet i (item.Left packet port leaving) = packet == i
-is_item_of_packet i (item.Dropped packet) = packet == i
-is_item_of_packet i (item.Lost packet) = packet == i
-is_item_of_packet i (item.Stuck packet switch cause leg down) = packet == i
-is_item_of_packet i _ = false
+abbrev pub is_item_of_packet_facts : ℕ → Item → Bool
+is_item_of_packet_facts i (item.Entered packet switch header) = packet == i
+is_item_of_packet_facts i (item.Seeking packet version partition route) = packet == i
+is_item_of_packet_facts i (item.Exiting packet route) = packet == i
+is_item_of_packet_facts i (item.Rerouted packet route) = packet == i
+is_item_of_packet_facts i (item.Hopped packet switch) = packet == i
+is_item_of_packet_facts i (item.FoundDown packet one two) = packet == i
+is_item_of_packet_facts i (item.Decided packet version rule action how) = packet == i
+is_item_of_packet_facts i (item.Left packet port leaving) = packet == i
+is_item_of_packet_facts i (item.Dropped packet) = packet == i
+is_item_of_packet_facts i (item.Lost packet) = packet == i
+is_item_of_packet_facts i (item.Stuck packet switch cause leg down) = packet == i
+is_item_of_packet_facts i _ = false

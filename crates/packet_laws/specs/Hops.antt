@@ -44,8 +44,8 @@ abbrev pub packet_routes_taken : List Item → ℕ → ℕ
 packet_routes_taken journal i = search_count journal i + exit_count journal i + detour_count journal i
 
 -- the most switches of a route, and so the most hops on it, counting its arrival
-abbrev pub most_switches : ℕ
-most_switches = 64
+abbrev pub most_packet_route_switches : ℕ
+most_packet_route_switches = 64
 
 -- the most hops of a packet: 64 on each of its routes, which are at most 64 to authorities, one to
 -- its port and 256 around links

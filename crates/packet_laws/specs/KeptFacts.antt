@@ -1,9 +1,9 @@
 -- The invariants of packets and cache rules that each item keeps, whatever a packet's stage is.
 use Rattle.std.specs.Prelude.{◌+◌, ◌<◌, ◌≡◌, ◌≤◌, ◌⊎◌, All, IsFalse, IsTrue, List, None, Option, Some, slice_get, ℕ, ⊤}
-use Rattle.update_machine.specs.Exports.{Body, CacheRule, Decision, Header, Item, Message, NamesSettingPort, Seek, Setting, journal_cache_of, journal_current_mark, message_of, journal_next_packet, policy_at}
-use Rattle.failover.specs.Exports.{has_link}
+use Rattle.update_machine.specs.Exports.{Body, CacheRule, Decision, Header, Item, Message, NamesSettingPort, Seek, Setting, journal_cache_of, journal_current_mark, journal_message_of, journal_next_packet, policy_at}
+use Rattle.failover.specs.Exports.{has_route_link}
 use Rattle.policy_rules.specs.Exports.{scan}
-use Rattle.packet_laws.specs.Rules.{IsRightEntry, IsRightPacketRule}
+use Rattle.packet_laws.specs.Rules.{IsRightPacketCacheEntry, IsRightPacketRule}
 use Rattle.packet_laws.specs.OnWay.{IsPacketOnWay, IsSoughtByPacket, IsPacketUnderWay, IsUnknownPacket}
 use Rattle.packet_laws.specs.Facts.{PacketFacts, packet_facts_of}
 use Rattle.packet_laws.specs.Stages.{Blocked, CameIn, Judged, OnWay, PacketStage, packet_stage_of}
@@ -11,11 +11,11 @@ use Rattle.packet_laws.specs.Stages.{Blocked, CameIn, Judged, OnWay, PacketStage
 -- the route uses none of the links of the set
 abbrev pub PacketRouteAvoidsFound : List ℕ → List ℕ → Type 0
 PacketRouteAvoidsFound down route = (k one two : ℕ) → slice_get route k ≡ Some one
-    → slice_get route (k + 1) ≡ Some two → IsFalse (has_link down one two)
+    → slice_get route (k + 1) ≡ Some two → IsFalse (has_route_link down one two)
 
 -- the packet was decided by the first match of a version that wasn't retired when it entered and
 -- is at most the current one
-pub record IsRightlyDecided (setting : Setting) (journal : List Item) (facts : PacketFacts)
+pub record IsPacketRightlyDecided (setting : Setting) (journal : List Item) (facts : PacketFacts)
     (header : Header) : Type 0 where
   pub decision : Decision
   pub decided : facts.decision ≡ Some decision
@@ -36,7 +36,7 @@ pub record HasKeptPacketFacts (setting : Setting) (journal : List Item) (facts :
   pub came_in : IsTrue facts.travels → stage ≡ Some CameIn
       → (facts.decision ≡ None) × (facts.leg ≡ None)
   pub judged : IsTrue facts.travels → stage ≡ Some Judged
-      → (header : Header) → facts.header ≡ Some header → IsRightlyDecided setting journal facts header
+      → (header : Header) → facts.header ≡ Some header → IsPacketRightlyDecided setting journal facts header
   pub on_way : IsTrue facts.travels → (stage ≡ Some OnWay) ⊎ (stage ≡ Some Blocked)
       → IsPacketOnWay setting journal facts
   pub avoids : IsTrue facts.travels → stage ≡ Some OnWay → PacketRouteAvoidsFound facts.found facts.route
@@ -51,6 +51,6 @@ BringsRightRule setting journal _ = ⊤
 pub record AllPacketFactsKept (setting : Setting) (journal : List Item) : Type 0 where
   pub packets : (i : ℕ) → HasKeptPacketFacts setting journal (packet_facts_of journal i) (packet_stage_of journal i)
   pub unknown : (i : ℕ) → journal_next_packet journal ≤ i → IsUnknownPacket (packet_facts_of journal i)
-  pub sent : (n : ℕ) (message : Message) → message_of journal n ≡ Some message
+  pub sent : (n : ℕ) (message : Message) → journal_message_of journal n ≡ Some message
       → BringsRightRule setting journal message.body
-  pub cached : (s : ℕ) → All (IsRightEntry setting journal) (journal_cache_of setting journal s).entries
+  pub cached : (s : ℕ) → All (IsRightPacketCacheEntry setting journal) (journal_cache_of setting journal s).entries

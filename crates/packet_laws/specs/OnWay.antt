@@ -93,7 +93,7 @@ pub record PacketHasComeIn (setting : Setting) (told : Option Header) (first : O
   pub at_first : ingress < length setting.net.switches
 
 -- the packet is at a switch of the network
-pub record PacketStandsThere (setting : Setting) (place : Option ℕ) : Type 0 where
+pub record PacketStandsInNetwork (setting : Setting) (place : Option ℕ) : Type 0 where
   pub switch : ℕ
   pub stands : place ≡ Some switch
   pub now : switch < length setting.net.switches
@@ -102,7 +102,7 @@ pub record PacketStandsThere (setting : Setting) (place : Option ℕ) : Type 0 w
 pub record IsPacketUnderWay (setting : Setting) (journal : List Item) (facts : PacketFacts) : Type 0 where
   pub entry : PacketHasComeIn setting facts.header facts.ingress
   pub open entry use *
-  pub place : PacketStandsThere setting facts.stands
+  pub place : PacketStandsInNetwork setting facts.stands
   pub open place use *
   pub mark : facts.mark ≤ journal_retired_mark journal
 

@@ -2,7 +2,7 @@
 -- packet. They depend only on the items, for steps of all kinds; packets are those of Yu, Rexford,
 -- Freedman and Wang, "Scalable Flow-Based Networking with DIFANE".
 use Rattle.std.specs.Prelude.{◌==◌, ◌≡◌, ◌⊎◌, Bool, IsFalse, IsTrue, List, None, Option, Some, false, true, unwrap_or, ℕ, ⊤}
-use Rattle.update_machine.specs.Exports.{Action, AuthorityRule, Body, CacheEntry, CacheRule, Cause, Crash, Decision, Exit, Header, How, IsMachineLinkStep, Item, Leaving, Leg, Lose, Message, Packet, Restart, Seek, Setting, Update, journal_authority_rule, cache_rule, journal_stuck_cause_at, journal_decision_of, first_place, journal_found_down, journal_packet_header_at, holds_version, journal_ingress_of, is_at, is_up, journal_last_given, journal_leaving_item, journal_leg_of, lookup_at, near, journal_next_packet, next_switch, owner, journal_present_step, journal_packet_route, serves, journal_stamp_of, standing, travels}
+use Rattle.update_machine.specs.Exports.{Action, AuthorityRule, Body, CacheEntry, CacheRule, Cause, Crash, Decision, Exit, Header, How, IsMachineLinkStep, Item, Leaving, Leg, Lose, Message, Packet, Restart, Seek, Setting, Update, journal_authority_rule, cache_rule, journal_stuck_cause_at, journal_decision_of, first_place, journal_found_down, journal_packet_header_at, holds_version, journal_ingress_of, is_at, is_up, journal_last_given, journal_leaving_item, journal_leg_of, lookup_at, near, journal_next_packet, journal_next_switch, owner, journal_present_step, journal_packet_route, serves, journal_stamp_of, standing, travels}
 use Rattle.base.specs.Exports.{has}
 use Rattle.policy_rules.specs.declared.packet.How.TheVariants as how
 use Rattle.policy_rules.specs.declared.policy.Action.TheVariants as action
@@ -18,24 +18,24 @@ pub record IsPacketAt (before : List Item) (packet switch : ℕ) : Type 0 where
   pub stands : unwrap_or (standing before packet) 0 ≡ switch
   pub serving : IsTrue (serves before switch)
 
-abbrev pub gives_row_test : Item → Option Bool
-gives_row_test (item.Row row step) = Some true
-gives_row_test _ = Some false
+abbrev pub gives_packet_cause_row : Item → Option Bool
+gives_packet_cause_row (item.Row row step) = Some true
+gives_packet_cause_row _ = Some false
 
 -- the last item is the row of a step
-unfoldable pub ends_with_row : List Item → Bool
-ends_with_row journal = unwrap_or (journal_last_given gives_row_test journal) false
+unfoldable pub packet_law_ends_with_row : List Item → Bool
+packet_law_ends_with_row journal = unwrap_or (journal_last_given gives_packet_cause_row journal) false
 
 -- the packet enters, or is closed, right after its row, under the next number
 pub record PacketIsOfRow (before : List Item) (packet switch : ℕ) (header : Header) : Type 0 where
   pub number : packet ≡ journal_next_packet before
   pub row : journal_present_step before ≡ Some (Packet switch header)
-  pub behind : IsTrue (ends_with_row before)
+  pub behind : IsTrue (packet_law_ends_with_row before)
 
 -- the packet is on its way, and its route ends here
 pub record PacketArrivesHere (before : List Item) (packet : ℕ) : Type 0 where
   pub moving : packet_stage_of before packet ≡ Some OnWay
-  pub last : next_switch before packet ≡ None
+  pub last : journal_next_switch before packet ≡ None
 
 -- it arrives on its way to an authority, at a switch that doesn't have the version
 pub record PacketMissesVersion (before : List Item) (packet switch : ℕ) : Type 0 where
@@ -121,14 +121,14 @@ pub record PacketMovesOver (setting : Setting) (before : List Item) (packet next
   pub switch : ℕ
   pub at : IsPacketAt before packet switch
   pub moving : packet_stage_of before packet ≡ Some OnWay
-  pub goes_on : next_switch before packet ≡ Some next
+  pub goes_on : journal_next_switch before packet ≡ Some next
   pub usable : IsTrue (has (near setting before switch) next)
 
 -- it finds the link to the next switch of its route unusable
 pub record PacketMeetsDown (setting : Setting) (before : List Item) (packet one two : ℕ) : Type 0 where
   pub at : IsPacketAt before packet one
   pub moving : packet_stage_of before packet ≡ Some OnWay
-  pub goes_on : next_switch before packet ≡ Some two
+  pub goes_on : journal_next_switch before packet ≡ Some two
   pub unusable : IsFalse (has (near setting before one) two)
 
 -- ---- decisions
@@ -167,7 +167,7 @@ pub record CacheDecidesPacket (setting : Setting) (before : List Item) (packet s
   pub brought : message ≡ entry.message
 
 -- it arrives at an authority that has the version
-pub record ReachesAuthority (before : List Item) (packet switch version : ℕ) : Type 0 where
+pub record PacketReachesAuthority (before : List Item) (packet switch version : ℕ) : Type 0 where
   pub arrives : PacketArrivesHere before packet
   pub partition : ℕ
   pub seeks : journal_leg_of before packet ≡ Some (Seek version partition)
@@ -179,7 +179,7 @@ pub record AuthorityDecidesPacket (setting : Setting) (before : List Item) (pack
   pub found : AuthorityRule
   pub finds : AuthorityFinds setting before packet switch version found
   pub when : IsPacketLookedUpBy before packet switch version
-      ⊎ ReachesAuthority before packet switch version
+      ⊎ PacketReachesAuthority before packet switch version
   pub by_rule : rule ≡ found.rule.rule
   pub says : action ≡ found.rule.action
   pub of_part : partition ≡ found.part.number
@@ -240,26 +240,26 @@ pub record IsPacketDroppedHere (before : List Item) (packet : ℕ) : Type 0 wher
   pub decided : journal_decision_of before packet ≡ Some decision
   pub action : decision.action ≡ action.Drop
 
-abbrev pub gives_fall : Item → Option (Option ℕ)
-gives_fall (item.Row row step) = Some None
-gives_fall (item.Down switch) = Some (Some switch)
-gives_fall _ = None
+abbrev pub gives_packet_fall_cause : Item → Option (Option ℕ)
+gives_packet_fall_cause (item.Row row step) = Some None
+gives_packet_fall_cause (item.Down switch) = Some (Some switch)
+gives_packet_fall_cause _ = None
 
 -- the switch that went down in the step that is being taken
-unfoldable pub fallen_switch : List Item → Option ℕ
-fallen_switch journal = unwrap_or (journal_last_given gives_fall journal) None
+unfoldable pub packet_fallen_switch : List Item → Option ℕ
+packet_fallen_switch journal = unwrap_or (journal_last_given gives_packet_fall_cause journal) None
 
 -- the packet is at the switch that went down in this very crash
-pub record IsLostInCrash (before : List Item) (packet : ℕ) : Type 0 where
+pub record IsPacketLostInCrash (before : List Item) (packet : ℕ) : Type 0 where
   pub switch : ℕ
   pub crashes : journal_present_step before ≡ Some (Crash switch)
-  pub fell : fallen_switch before ≡ Some switch
+  pub fell : packet_fallen_switch before ≡ Some switch
   pub down : IsFalse (is_up before switch)
   pub stands : standing before packet ≡ Some switch
 
-pub record IsLostHere (before : List Item) (packet : ℕ) : Type 0 where
+pub record IsPacketLostHere (before : List Item) (packet : ℕ) : Type 0 where
   pub travelling : IsTrue (travels before packet)
-  pub how : (journal_present_step before ≡ Some (Lose packet)) ⊎ IsLostInCrash before packet
+  pub how : (journal_present_step before ≡ Some (Lose packet)) ⊎ IsPacketLostInCrash before packet
 
 -- ---- all items
 
@@ -286,7 +286,7 @@ HasPacketItemCause setting before (item.Decided packet version rule action how) 
 HasPacketItemCause setting before (item.Left packet port leaving) =
     PacketLeavesHere setting before packet port leaving
 HasPacketItemCause setting before (item.Dropped packet) = IsPacketDroppedHere before packet
-HasPacketItemCause setting before (item.Lost packet) = IsLostHere before packet
+HasPacketItemCause setting before (item.Lost packet) = IsPacketLostHere before packet
 HasPacketItemCause setting before (item.Stuck packet switch cause leg down) =
     PacketFindsNoRoute setting before packet switch cause leg down
 HasPacketItemCause setting before (item.Sent number message) =

@@ -16,6 +16,6 @@ pub record IsRightPacketRule (setting : Setting) (journal : List Item) (version 
       (record { rule = rule; action = action })
 
 -- the cache entry is a right rule
-abbrev pub IsRightEntry : Setting → List Item → CacheEntry → Type 0
-IsRightEntry setting journal entry =
+abbrev pub IsRightPacketCacheEntry : Setting → List Item → CacheEntry → Type 0
+IsRightPacketCacheEntry setting journal entry =
     IsRightPacketRule setting journal entry.version entry.word entry.rule entry.action

@@ -3,7 +3,7 @@
 -- or is lost by a row, or stuck because no route is known.
 use Rattle.std.specs.Prelude.{◌<◌, ◌≡◌, ◌≢◌, ◌≤◌, IsFalse, List, None, Some, ℕ, ⊤}
 use Rattle.failover.specs.Exports.{IsRoute}
-use Rattle.update_machine.specs.Exports.{Cause, Exit, MachineFindsNextDown, MachineFindsNoPath, Item, MachineLeavesRightly, Leg, Seek, SeeksOwnInJournal, Setting, journal_stuck_cause_at, journal_current_mark, journal_decision_of, journal_found_down, holds_version, journal_leg_of, journal_links_known, journal_route_from, standing, targets_of}
+use Rattle.update_machine.specs.Exports.{Cause, Exit, MachineFindsNextDown, MachineFindsNoPath, Item, MachineLeavesRightly, Leg, Seek, MachineLegSeeksOwn, Setting, journal_stuck_cause_at, journal_current_mark, journal_decision_of, journal_found_down, holds_version, journal_leg_of, journal_links_known, journal_route_from, standing, journal_leg_targets}
 use Rattle.journal.specs.declared.item.Item.TheVariants as item
 use Rattle.steps.specs.Exports.{HasLink}
 use Rattle.control_laws.specs.Exports.{ControlRetirementHasCause, ControlSubmissionHasCause}
@@ -54,7 +54,7 @@ pub record IsPacketStuckOnLeg (setting : Setting) (before : List Item) (packet s
     (cause : Cause) (leg : Leg) (down : List ℕ) : Type 0 where
   pub stuck : MachineFindsNoPath setting before packet switch leg
   pub found : down ≡ journal_found_down before packet
-  pub no_route : journal_route_from setting before switch (targets_of setting before leg) down ≡ None
+  pub no_route : journal_route_from setting before switch (journal_leg_targets setting before leg) down ≡ None
   pub why : cause ≡ journal_stuck_cause_at setting before switch down leg
   pub rightly : IsPacketOnRightLeg before packet leg
   pub raises : PacketRaisesOnLeg before packet leg
@@ -71,14 +71,14 @@ pub record IsLeastPacketRoute (setting : Setting) (before : List Item) (packet :
   pub switch : ℕ
   pub stands : standing before packet ≡ Some switch
   pub least : (let links = journal_links_known setting before switch (journal_found_down before packet) in
-      IsRoute links switch (targets_of setting before leg) (Some route))
+      IsRoute links switch (journal_leg_targets setting before leg) (Some route))
   pub avoids : PacketAvoidsFound before packet route
 
 -- it takes a least route to the port of its decision
 pub record ExitsByLeast (setting : Setting) (before : List Item) (packet : ℕ) (route : List ℕ)
     : Type 0 where
   pub port : ℕ
-  pub own_leg : SeeksOwnInJournal setting before packet (Exit port)
+  pub own_leg : MachineLegSeeksOwn setting before packet (Exit port)
   pub by : IsLeastPacketRoute setting before packet (Exit port) route
 
 -- it takes another least route on its leg

@@ -1,7 +1,7 @@
 -- What is true of a travelling packet between steps, and of cache rules at any time.
 use Rattle.std.specs.Prelude.{◌<◌, ◌≡◌, ◌⊎◌, All, IsTrue, List, Some, length, ℕ}
-use Rattle.update_machine.specs.Exports.{Item, Message, Seek, Setting, journal_cache_of, journal_found_down, holds_version, journal_leg_of, message_of, journal_route_in, serves, journal_stamp_of, travels}
-use Rattle.packet_laws.specs.Rules.{IsRightEntry}
+use Rattle.update_machine.specs.Exports.{Item, Message, Seek, Setting, journal_cache_of, journal_found_down, holds_version, journal_leg_of, journal_message_of, journal_route_in, serves, journal_stamp_of, travels}
+use Rattle.packet_laws.specs.Rules.{IsRightPacketCacheEntry}
 use Rattle.packet_laws.specs.OnWay.{IsPacketOnWay}
 use Rattle.packet_laws.specs.Facts.{packet_facts_of}
 use Rattle.packet_laws.specs.KeptFacts.{PacketRouteAvoidsFound, BringsRightRule}
@@ -25,6 +25,6 @@ PacketsTravel setting journal = (packet : ℕ) → IsTrue (travels journal packe
 -- each cache rule that was sent, and each that a switch caches, is of a version that is at most
 -- the current one, and decides each header of its word as this version's policy does
 pub record PacketRulesAreRight (setting : Setting) (journal : List Item) : Type 0 where
-  pub sent : (n : ℕ) (message : Message) → message_of journal n ≡ Some message
+  pub sent : (n : ℕ) (message : Message) → journal_message_of journal n ≡ Some message
       → BringsRightRule setting journal message.body
-  pub cached : (s : ℕ) → All (IsRightEntry setting journal) (journal_cache_of setting journal s).entries
+  pub cached : (s : ℕ) → All (IsRightPacketCacheEntry setting journal) (journal_cache_of setting journal s).entries

@@ -2,11 +2,11 @@
 -- version and half of a new one.
 use Rattle.std.specs.Prelude.{[], List, ℕ}
 use Rattle.update_machine.specs.Exports.{JournalItemsHaveCauses, Item, Setting}
-use Rattle.control_laws.specs.Exports.{AcksHold, BootsAreKnown, HasControlItemCause, IsAckedFirst, MarksAreBounded, MembersAcknowledged, OpeningMessagesNameOneVersion, ServingHoldVersions, ServingIsKnown, StampsSayTouched, TablesArePlanned}
+use Rattle.control_laws.specs.Exports.{AcksHold, BootsAreKnown, HasControlItemCause, IsAckedFirst, ControlMarksAreBounded, ControlMembersAcknowledged, OpeningMessagesNameOneVersion, ServingHoldVersions, ServingIsKnown, StampsSayTouched, ControlTablesArePlanned}
 use Rattle.packet_laws.specs.Amended.{ChangesLeaveOtherPackets, UntouchedCacheRulesStay}
 use Rattle.packet_laws.specs.Travelling.{PacketRulesAreRight}
 
-pub record KeepVersionsWholeForPackets (setting : Setting) (journal : List Item) : Type 0 where
+pub record PacketLawsKeepVersionsWhole (setting : Setting) (journal : List Item) : Type 0 where
   -- each item of switches and of the controller has its cause: a message for a boot was sent while
   -- that boot was known and the switch wasn't over. The current mark rose only when each member had
   -- acknowledged each version above the old mark, up to the new one
@@ -23,11 +23,11 @@ pub record KeepVersionsWholeForPackets (setting : Setting) (journal : List Item)
   pub opened : OpeningMessagesNameOneVersion journal
   -- the tables that are sent are those that their version's plan gives the switch, and stay so
   -- however the journal continues; so are those that it heard
-  pub tables : TablesArePlanned setting journal
+  pub tables : ControlTablesArePlanned setting journal
   -- members acknowledged each version from the one at which they were opened to the current one
-  pub members : MembersAcknowledged setting journal
+  pub members : ControlMembersAcknowledged setting journal
   -- the marks bound each other, and what is dropped is below what members stamp with
-  pub marks : MarksAreBounded setting journal
+  pub marks : ControlMarksAreBounded setting journal
   -- a switch that serves has the version that it stamps with, and each later version up to the
   -- current one
   pub holding : ServingHoldVersions setting journal

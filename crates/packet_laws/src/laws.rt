@@ -2,68 +2,69 @@
 ghost use Rattle.std.specs.Prelude.{[], All, ◌≡◌, ◌++◌, ◌*◌, ◌-◌, ◌<◌, ◌≤◌, Some, List, length, ℕ, Option};
 ghost use Rattle.steps.specs.Steps.{IsEvent};
 ghost use Rattle.steps.specs.declared.step.Step.TheVariants.{Deliver, Hop};
-ghost use Rattle.update_machine.specs.Exports.{Answers, AreAllMachineEventSteps, AreFirstMachineEventSteps, Event, HasCause, HasMachinePlay, JournalItemsHaveCauses, IsMachinePlay, IsJournalReached, IsRun, IsSetting, Item, Setting, StepOfRow, journal_current_mark, most_journal_versions, journal_next_delivery, journal_next_hop, journal_next_packet, next_travelling, next_waiting, piece};
-ghost use Rattle.control_laws.specs.Always.{HoldsReached};
-ghost use Rattle.packet_laws.specs.Exports.{AllPacketFactsKept, AreEntered, ArePacketsResting, ChangesLeaveOtherPackets, GoesOrStops, HoldsBetween, KeepVersionsWholeForPackets, PacketsArrive, PacketsTravel, PacketRulesAreRight, UntouchedCacheRulesStay, StrongCause, HasPacketItemCause, detour_count, packet_drain_left, exit_count, packet_finding_count, packet_route_hops, packet_hops_taken, most_packet_hops, most_packet_routes, most_switches, packet_routes_taken, rows_played, search_count, step_rows};
+ghost use Rattle.update_machine.specs.Exports.{Answers, AreAllMachineEventSteps, AreFirstMachineEventSteps, Event, HasMachineCause, HasMachinePlay, JournalItemsHaveCauses, IsMachinePlay, IsJournalReached, IsMachineRun, IsSetting, Item, Setting, StepOfRow, journal_current_mark, most_journal_versions, journal_next_delivery, journal_next_hop, journal_next_packet, next_travelling, next_waiting, piece};
+ghost use Rattle.control_laws.specs.Always.{ControlLawHoldsReached};
+ghost use Rattle.packet_laws.specs.Exports.{AllPacketFactsKept, AreEntered, ArePacketsResting, ChangesLeaveOtherPackets, GoesOrStops, PacketLawHoldsBetween, PacketLawsKeepVersionsWhole, PacketsArrive, PacketsTravel, PacketRulesAreRight, UntouchedCacheRulesStay, StrongCause, HasPacketItemCause, detour_count, packet_drain_left, exit_count, packet_finding_count, packet_route_hops, packet_hops_taken, most_packet_hops, most_packet_routes, most_packet_route_switches, packet_routes_taken, packet_law_rows_played, search_count, packet_law_step_rows};
 
 use control_laws::{
-    acknowledgements_hold, boots_are_known, items_have_causes, marks_are_bounded,
-    members_have_acknowledged, serving_is_known, serving_switches_hold, stamps_are_acked_first,
-    stamps_say_what_is_touched, switches_open_once, tables_are_planned,
+    acknowledgements_hold, boots_are_known, control_items_have_causes,
+    control_knows_serving_switches, control_serving_holds_versions, control_stamps_say_touched,
+    control_tables_are_planned, marks_are_bounded, members_have_acknowledged,
+    stamps_are_acked_first, switches_open_once,
 };
 use policy_rules::amendment_laws;
 
 /// Each item of packets, and each cache rule that is sent, has its cause earlier in the journal,
 /// for steps of all kinds.
 pub fn packet_items_have_causes()
-    ensures { HoldsReached (λ setting journal.
+    ensures { ControlLawHoldsReached (λ setting journal.
         IsSetting setting → JournalItemsHaveCauses (HasPacketItemCause setting) [] journal) }
 {}
 
 /// Between steps each travelling packet is on its way, at a switch that serves: those that were at
 /// a switch that crashed are lost with it.
 pub fn packets_rest()
-    ensures { HoldsBetween (λ setting journal. IsSetting setting → ArePacketsResting journal) }
+    ensures { PacketLawHoldsBetween (λ setting journal. IsSetting setting → ArePacketsResting journal) }
 {}
 
 /// Each item keeps the invariants of each packet on its way, in whatever stage the packet is, and
 /// keeps each cache rule right.
 pub fn items_keep_packets()
-    ensures { HoldsReached (λ setting journal. IsSetting setting → AllPacketFactsKept setting journal) }
+    ensures { ControlLawHoldsReached (λ setting journal. IsSetting setting → AllPacketFactsKept setting journal) }
 {}
 
 /// Between steps a travelling packet is at a serving switch, and its route leads to a target of its
 /// leg, over no link that it found down. Its version wasn't retired when it entered, and is at most
 /// the current one. Each switch that serves has that version or stamps with a greater one.
 pub fn packets_travel()
-    ensures { HoldsBetween (λ setting journal. IsSetting setting → PacketsTravel setting journal) }
+    ensures { PacketLawHoldsBetween (λ setting journal. IsSetting setting → PacketsTravel setting journal) }
 {}
 
 /// A packet at the end of its route, also of one that it took in the middle of a step, is where
 /// its leg leads: at a target of its partition, or at the switch of its port.
 pub fn packets_arrive()
-    ensures { HoldsReached (λ setting journal. IsSetting setting → PacketsArrive setting journal) }
+    ensures { ControlLawHoldsReached (λ setting journal. IsSetting setting → PacketsArrive setting journal) }
 {}
 
 /// Each cache rule that was sent, and each that a switch caches, is of a version that is at most
 /// the current one, and decides each header of its word as this version's policy does.
 pub fn cache_rules_are_right()
-    ensures { HoldsReached (λ setting journal. IsSetting setting → PacketRulesAreRight setting journal) }
+    ensures { ControlLawHoldsReached (λ setting journal. IsSetting setting → PacketRulesAreRight setting journal) }
 {}
 
 /// When a `Stamp` message raises a switch to the version that an amendment made, the entries of the
 /// version before stay in the cache if their word overlaps no touched word. Each stays under the
 /// new version, of the same message and in its place in the order; only if an entry of that version
 /// has its word already, that one stays instead. It then decides as that version's policy does.
-pub fn untouched_rules_stay()
-    ensures { HoldsReached (λ setting journal. IsSetting setting → UntouchedCacheRulesStay setting journal) }
+pub fn packet_untouched_rules_stay()
+    ensures { ControlLawHoldsReached (λ setting journal. IsSetting setting → UntouchedCacheRulesStay setting journal) }
 {}
 
 /// An amendment changes only what it touches: a header that no removed and no added row matches
 /// has the same first match under both versions, and each packet with this header that either of
 /// them decided got that match.
-pub fn changes_leave_other_headers()
-    ensures { HoldsReached (λ setting journal.
+pub fn changes_leave_other_packets()
+    ensures { ControlLawHoldsReached (λ setting journal.
         IsSetting setting → ChangesLeaveOtherPackets setting journal) }
 {
     amendment_laws();
@@ -72,14 +73,15 @@ pub fn changes_leave_other_headers()
 /// The ends of packets, the links that they found down, the changes of switches and links, and the
 /// versions that are submitted, have their causes.
 pub fn ends_have_causes()
-    ensures { HoldsReached (λ setting journal.
-        IsSetting setting → JournalItemsHaveCauses (HasCause setting) [] journal) }
+    ensures { ControlLawHoldsReached (λ setting journal.
+        IsSetting setting → JournalItemsHaveCauses (HasMachineCause setting) [] journal) }
 {}
 
-/// The journal is a run of the machine: each packet is decided once, by the first match of one
-/// whole version that wasn't retired when it entered, and ends as it was decided.
+/// The journal is a run of the machine: each packet is decided at most once, by the first match of
+/// one whole version that wasn't retired when it entered. It is dropped, or leaves, only as it was
+/// decided.
 pub fn answers_are_runs()
-    ensures { HoldsReached (λ setting journal. IsSetting setting → IsRun setting journal) }
+    ensures { ControlLawHoldsReached (λ setting journal. IsSetting setting → IsMachineRun setting journal) }
 {}
 
 /// The items' causes are so strong that the headline is true of a run with them if its rows are the
@@ -88,7 +90,7 @@ pub fn answers_are_runs()
 /// of each decision. Links found down are links of the network; packets enter, and are lost, by the
 /// row of the step that is taken.
 pub fn causes_are_strong()
-    ensures { HoldsReached (λ setting journal.
+    ensures { ControlLawHoldsReached (λ setting journal.
         IsSetting setting → JournalItemsHaveCauses (StrongCause setting) [] journal) }
 {}
 
@@ -96,34 +98,34 @@ pub fn causes_are_strong()
 /// are at most 64; one to its port; and as many around links that it found down as the network has
 /// links. So it takes at most 321 routes.
 pub fn packets_take_few_routes()
-    ensures raised { HoldsReached (λ setting journal. IsSetting setting
+    ensures raised { ControlLawHoldsReached (λ setting journal. IsSetting setting
         → (i : ℕ) → search_count journal i ≤ journal_current_mark journal) }
-    ensures searched { HoldsReached (λ setting journal. IsSetting setting
+    ensures searched { ControlLawHoldsReached (λ setting journal. IsSetting setting
         → (i : ℕ) → search_count journal i ≤ most_journal_versions) }
-    ensures exited { HoldsReached (λ setting journal. IsSetting setting
+    ensures exited { ControlLawHoldsReached (λ setting journal. IsSetting setting
         → (i : ℕ) → exit_count journal i ≤ 1) }
-    ensures detoured { HoldsReached (λ setting journal. IsSetting setting
+    ensures detoured { ControlLawHoldsReached (λ setting journal. IsSetting setting
         → (i : ℕ) → detour_count journal i ≤ length setting.net.links) }
-    ensures found { HoldsReached (λ setting journal. IsSetting setting
+    ensures found { ControlLawHoldsReached (λ setting journal. IsSetting setting
         → (i : ℕ) → packet_finding_count journal i ≤ length setting.net.links) }
-    ensures few { HoldsReached (λ setting journal. IsSetting setting
+    ensures few { ControlLawHoldsReached (λ setting journal. IsSetting setting
         → (i : ℕ) → packet_routes_taken journal i ≤ most_packet_routes) }
 {}
 
 /// While it travels a packet takes at most 64 hops on each route, and so at most 20,544 hops.
 pub fn packets_take_few_hops()
-    ensures on_each { HoldsReached (λ setting journal. IsSetting setting
-        → (i : ℕ) → packet_route_hops journal i ≤ most_switches) }
-    ensures by_routes { HoldsReached (λ setting journal. IsSetting setting
-        → (i : ℕ) → packet_hops_taken journal i ≤ most_switches * packet_routes_taken journal i) }
-    ensures few { HoldsReached (λ setting journal. IsSetting setting
+    ensures on_each { ControlLawHoldsReached (λ setting journal. IsSetting setting
+        → (i : ℕ) → packet_route_hops journal i ≤ most_packet_route_switches) }
+    ensures by_routes { ControlLawHoldsReached (λ setting journal. IsSetting setting
+        → (i : ℕ) → packet_hops_taken journal i ≤ most_packet_route_switches * packet_routes_taken journal i) }
+    ensures few { ControlLawHoldsReached (λ setting journal. IsSetting setting
         → (i : ℕ) → packet_hops_taken journal i ≤ most_packet_hops) }
 {}
 
 /// A drain ends, after any steps of the network: each hop of the travelling packet with the least
 /// number leaves fewer hops to take. So the drain takes all its hops, at most 20,544 for each
 /// packet that entered.
-pub fn drains_end()
+pub fn packet_drains_end()
     ensures fewer { (setting : Setting) (journal : List Item) (row i : ℕ)
         → IsSetting setting → IsJournalReached setting journal → next_travelling journal ≡ Some i
         → packet_drain_left (journal ++ piece setting journal row (Hop i)) < packet_drain_left journal }
@@ -164,13 +166,13 @@ pub fn plays_exist()
 pub fn packet_rows_are_entered()
     ensures { (setting : Setting) (events : List Event) (journal : List Item)
         (full : Option ℕ) → IsMachinePlay setting events journal full
-        → AreEntered (rows_played full events) journal }
+        → AreEntered (packet_law_rows_played full events) journal }
 {}
 
 /// The same is true of each journal that answers the events, however many messages were sent.
 pub fn answered_rows_are_entered()
     ensures { (setting : Setting) (events : List Event) (journal : List Item)
-        → Answers setting events journal → AreEntered (step_rows 1 events) journal }
+        → Answers setting events journal → AreEntered (packet_law_step_rows 1 events) journal }
 {}
 
 /// At each moment, within a step too, what is known of boots, versions and marks is right; each
@@ -178,22 +180,22 @@ pub fn answered_rows_are_entered()
 /// does. An amendment changes no decision of a header that it doesn't touch. When a `Stamp` raises
 /// a switch to the very next version, its cache keeps the rules that the amendment doesn't touch,
 /// unless an entry of that version already has the rule's word.
-pub fn items_keep_versions_whole()
-    ensures { HoldsReached (λ setting journal.
-        IsSetting setting → KeepVersionsWholeForPackets setting journal) }
+pub fn packets_keep_versions_whole()
+    ensures { ControlLawHoldsReached (λ setting journal.
+        IsSetting setting → PacketLawsKeepVersionsWhole setting journal) }
 {
-    items_have_causes();
+    control_items_have_causes();
     boots_are_known();
     switches_open_once();
-    serving_is_known();
+    control_knows_serving_switches();
     acknowledgements_hold();
     stamps_are_acked_first();
     members_have_acknowledged();
-    tables_are_planned();
+    control_tables_are_planned();
     marks_are_bounded();
-    serving_switches_hold();
-    stamps_say_what_is_touched();
+    control_serving_holds_versions();
+    control_stamps_say_touched();
     cache_rules_are_right();
-    untouched_rules_stay();
-    changes_leave_other_headers();
+    packet_untouched_rules_stay();
+    changes_leave_other_packets();
 }

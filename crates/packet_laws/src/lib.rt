@@ -13,9 +13,11 @@ mod packet_cause_laws;
 
 pub use laws::{
     answered_rows_are_entered, answers_are_runs, cache_rules_are_right, causes_are_strong,
-    changes_leave_other_headers, deliveries_rise, drains_end, ends_have_causes, flushes_end,
-    items_keep_packets, items_keep_versions_whole, packet_items_have_causes,
-    packet_rows_are_entered, packets_arrive, packets_rest, packets_take_few_hops,
-    packets_take_few_routes, packets_travel, plays_exist, untouched_rules_stay,
+    changes_leave_other_packets, deliveries_rise, ends_have_causes, flushes_end,
+    items_keep_packets, packet_drains_end, packet_items_have_causes, packet_rows_are_entered,
+    packet_untouched_rules_stay, packets_arrive, packets_keep_versions_whole, packets_rest,
+    packets_take_few_hops, packets_take_few_routes, packets_travel, plays_exist,
 };
-pub use packet_cause_laws::{journals_hold_so_far, plays_held_on_the_way, steps_are_kept};
+pub use packet_cause_laws::{
+    packet_journals_hold_so_far, packet_plays_held_on_way, packet_steps_are_kept,
+};

@@ -9,7 +9,7 @@ use Rattle.policy_rules.specs.Exports.{RulesEndInCover, IsPolicy, LastRuleCovers
 use Rattle.policy_rules.specs.declared.policy.Row.{Row}
 use Rattle.policy_rules.specs.declared.rules.Rule.{Rule}
 use Rattle.policy_rules.proofs.PolicyRulesCallerLemmas.{IsRuleList-rules_of}
-use Rattle.cut_tree.specs.Exports.{End, IsDefinedTree, IsTreeOf, Node, Shape, leaves_of, narrow, cut_narrowed_rule, side_of_cut, tree_of}
+use Rattle.cut_tree.specs.Exports.{End, IsDefinedTree, IsTreeOf, Node, Shape, cut_leaves_of, narrow, cut_narrowed_rule, side_of_cut, tree_of}
 use Rattle.cut_tree.proofs.CutTreeCallerLemmas.{tree_defined}
 use Rattle.cut_tree.proofs.CutNarrowing.{narrow_apart, narrow_covered, narrow_more}
 use Rattle.partition.specs.Parts.{parts_of, partitions_of}
@@ -75,11 +75,11 @@ abbrev IsEndedLeaf : WordValue × List Rule → Type 0
 IsEndedLeaf leaf = RulesEndInCover leaf.0 leaf.1
 
 ended_leaves : (tree : Shape) (rules : List Rule) (region : WordValue) (most : ℕ)
-    → IsTreeOf rules region most tree → RulesEndInCover region rules → All IsEndedLeaf (leaves_of tree)
+    → IsTreeOf rules region most tree → RulesEndInCover region rules → All IsEndedLeaf (cut_leaves_of tree)
 ended_leaves (End r rs) rules region most is ends = All-cons IsEndedLeaf (r, rs) []
     (ends.0, ends.1, is.same_rules ∙ ends.2, rw is.same_region ends.3) (All-nil IsEndedLeaf)
 ended_leaves (Node bit low high) rules region most is ends = let free = is.0.least.cuts.free in
-    All-append IsEndedLeaf (leaves_of low) (leaves_of high)
+    All-append IsEndedLeaf (cut_leaves_of low) (cut_leaves_of high)
     (ended_leaves low (side_of_cut rules region bit false) (word_fix_of region bit false) most is.1
     (half_ends rules region (word_fix_of region bit false) (fix_within region bit false free) ends))
     (ended_leaves high (side_of_cut rules region bit true) (word_fix_of region bit true) most is.2
@@ -94,7 +94,7 @@ rules_end rows policy = let ends = (IsRuleList-rules_of rows policy).ends in
 pub parts_ended : (rows : List Row) (most : ℕ) (tree : Shape) → IsPolicy rows
     → IsDefinedTree (rules_of rows) most tree → All LastRuleCovers (parts_of tree)
 parts_ended rows most tree policy is =
-    numbered_all LastRuleCovers IsEndedLeaf (λ number leaf ended. ended) 0 (leaves_of tree)
+    numbered_all LastRuleCovers IsEndedLeaf (λ number leaf ended. ended) 0 (cut_leaves_of tree)
     (ended_leaves tree (rules_of rows) any_word most is (rules_end rows policy))
 
 pub partitions_ended : (rows : List Row) (most : ℕ) → 0 < most → IsPolicy rows

@@ -13,13 +13,13 @@ use Rattle.five_tuple.specs.Exports.{number_of}
 use Rattle.five_tuple.specs.declared.header.Header.{Header}
 use Rattle.ternary.specs.Exports.{WordValue, any_word, word_covers_of, word_fix_of, holds, is_fixed_of}
 use Rattle.ternary.proofs.TernaryCallerLemmas.{any_holds, covers_held, covers_reflexive, covers_transitive, fix_holds, fix_within}
-use Rattle.policy_rules.specs.Exports.{ArePartsNumbered, AreSoundPolicyPartitions, IsPolicy, first_rule, policy_hit_of_rule, is_held, is_in_policy_partition, rules_of, scan}
+use Rattle.policy_rules.specs.Exports.{ArePolicyPartitionsNumbered, AreSoundPolicyPartitions, IsPolicy, first_rule, policy_hit_of_rule, is_held, is_in_policy_partition, rules_of, scan}
 use Rattle.policy_rules.specs.declared.policy.Row.{Row}
 use Rattle.policy_rules.specs.declared.policy.Hit.{Hit}
 use Rattle.policy_rules.specs.declared.rules.Partition.{Partition}
 use Rattle.policy_rules.specs.declared.rules.Rule.{Rule}
 use Rattle.policy_rules.proofs.PolicyRulesCallerLemmas.{IsRuleList-rules_of, first_rule-rules_of, at_item}
-use Rattle.cut_tree.specs.Exports.{AreCutRuleWords, End, IsDefinedTree, IsTreeOf, Node, Shape, leaf_count, leaves_of, narrow, cut_narrowed_rule, side_of_cut, tree_of}
+use Rattle.cut_tree.specs.Exports.{AreCutRuleWords, End, IsDefinedTree, IsTreeOf, Node, Shape, leaf_count, cut_leaves_of, narrow, cut_narrowed_rule, side_of_cut, tree_of}
 use Rattle.cut_tree.proofs.CutTreeCallerLemmas.{narrow_few, narrow_first, tree_defined}
 use Rattle.partition.specs.Parts.{PartitionsDecideAs, PartitionDecidesAs, partition_numbered, partitions_from, parts_of, partitions_of}
 
@@ -47,7 +47,7 @@ abbrev leaves_at : ℕ → List (WordValue × List Rule) → ℕ
 leaves_at header leaves = count_by (λ (leaf : WordValue × List Rule). holds leaf.0 header) leaves
 
 leaf_count_at : (tree : Shape) (rules : List Rule) (region : WordValue) (most header : ℕ)
-    → IsTreeOf rules region most tree → leaves_at header (leaves_of tree) ≡ from_bool
+    → IsTreeOf rules region most tree → leaves_at header (cut_leaves_of tree) ≡ from_bool
     (holds region header)
 leaf_count_at (End r rs) rules region most header is = rw is.same_region (omega (arith, counted))
 leaf_count_at (Node bit low high) rules region most header is =
@@ -56,7 +56,7 @@ leaf_count_at (Node bit low high) rules region most header is =
     let above = leaf_count_at high (side_of_cut rules region bit true) (word_fix_of region bit true) most
     header is.2 in
     let both = sum_by-append (λ (leaf : WordValue × List Rule). cond (holds leaf.0 header) 1 0)
-    (leaves_of low) (leaves_of high) in
+    (cut_leaves_of low) (cut_leaves_of high) in
     omega (arith, both, below, above, one_half region bit header is.0.least.cuts.free)
 
 -- ---- a leaf decides as the whole list
@@ -91,7 +91,7 @@ widened rules region half header within leaf decides = record {
 }
 
 leaves_decide : (tree : Shape) (rules : List Rule) (region : WordValue) (most header : ℕ)
-    → IsTreeOf rules region most tree → All (IsLeafThatDecides rules region header) (leaves_of tree)
+    → IsTreeOf rules region most tree → All (IsLeafThatDecides rules region header) (cut_leaves_of tree)
 leaves_decide (End r rs) rules region most header is =
     All-cons (IsLeafThatDecides rules region header) (r, rs) [] (record {
       within = rw is.same_region (covers_reflexive region);
@@ -102,14 +102,14 @@ leaves_decide (Node bit low high) rules region most header is =
     let free = is.0.least.cuts.free in
     let half = word_fix_of region bit in
     let above = leaves_decide high (side_of_cut rules region bit true) (half true) most header is.2 in
-    All-append (IsLeafThatDecides rules region header) (leaves_of low) (leaves_of high)
+    All-append (IsLeafThatDecides rules region header) (cut_leaves_of low) (cut_leaves_of high)
     (All-weaker (IsLeafThatDecides (narrow rules (half false)) (half false) header)
     (IsLeafThatDecides rules region header)
-    (widened rules region (half false) header (fix_within region bit false free)) (leaves_of low)
+    (widened rules region (half false) header (fix_within region bit false free)) (cut_leaves_of low)
     (leaves_decide low (side_of_cut rules region bit false) (half false) most header is.1))
     (All-weaker (IsLeafThatDecides (narrow rules (half true)) (half true) header)
     (IsLeafThatDecides rules region header) (widened rules region (half true) header
-    (fix_within region bit true free)) (leaves_of high) above)
+    (fix_within region bit true free)) (cut_leaves_of high) above)
 
 -- ---- leaves with numbers
 
@@ -174,20 +174,20 @@ numbers_at number (leaf ∷ leaves) (suc place) d within =
 pub parts_decide : (rules : List Rule) (most : ℕ) (tree : Shape) → IsDefinedTree rules most tree
     → PartitionsDecideAs rules (parts_of tree)
 parts_decide rules most tree is = record {
-  one = λ header. numbered_count 0 (leaves_of tree) header ∙ leaf_count_at tree rules any_word most
+  one = λ header. numbered_count 0 (cut_leaves_of tree) header ∙ leaf_count_at tree rules any_word most
       (number_of header) is ∙ ap from_bool (any_holds (number_of header));
   decides = λ header. numbered_all
       (λ part. IsTrue (is_in_policy_partition header part) → PartitionDecidesAs rules header part)
       (IsLeafThatDecides rules any_word (number_of header)) (λ number leaf decides. decides.same) 0
-      (leaves_of tree) (leaves_decide tree rules any_word most (number_of header) is);
+      (cut_leaves_of tree) (leaves_decide tree rules any_word most (number_of header) is);
   few = numbered_all (λ part. length part.rules ≤ length rules) (IsLeafThatDecides rules any_word 0)
-      (λ number leaf decides. decides.few) 0 (leaves_of tree)
+      (λ number leaf decides. decides.few) 0 (cut_leaves_of tree)
       (leaves_decide tree rules any_word most 0 is);
 }
 
-pub parts_numbered : (tree : Shape) → ArePartsNumbered (parts_of tree)
-parts_numbered tree = λ place d within. numbers_at 0 (leaves_of tree) place d
-    (omega (arith, within, numbered_length 0 (leaves_of tree))) ∙ omega arith
+pub parts_numbered : (tree : Shape) → ArePolicyPartitionsNumbered (parts_of tree)
+parts_numbered tree = λ place d within. numbers_at 0 (cut_leaves_of tree) place d
+    (omega (arith, within, numbered_length 0 (cut_leaves_of tree))) ∙ omega arith
 
 pub parts_sound : (rows : List Row) (most : ℕ) (tree : Shape) → IsPolicy rows
     → IsDefinedTree (rules_of rows) most tree → AreSoundPolicyPartitions rows (parts_of tree)
@@ -290,27 +290,27 @@ part_here header parts index part within is here =
 pub pushed_leaf : (old : List Partition) (tree : Shape) (number : ℕ) (region : WordValue)
     (rules copy : List Rule) → tree ≡ End region rules → copy ≡ rules → number ≡ length old
     → old ++ record { number = number; region = region; rules = copy } ∷ [] ≡ old ++ partitions_from
-    (length old) (leaves_of tree)
+    (length old) (cut_leaves_of tree)
 unfolding partitions_from
 pushed_leaf old tree number region rules copy is same last = rw (is, same, last) refl
 
 pub pushed_room : (old new : List Partition) (tree low high : Shape) (bit most : ℕ)
-    → tree ≡ Node bit low high → new ≡ old ++ partitions_from (length old) (leaves_of low)
+    → tree ≡ Node bit low high → new ≡ old ++ partitions_from (length old) (cut_leaves_of low)
     → length old + leaf_count tree < most → length new + leaf_count high < most
 pushed_room old new tree low high bit most is pushed room =
     search (rules, length-append, numbered_length)
 
 pub pushed_both : (old middle new : List Partition) (tree low high : Shape) (bit : ℕ)
-    → tree ≡ Node bit low high → middle ≡ old ++ partitions_from (length old) (leaves_of low)
-    → new ≡ middle ++ partitions_from (length middle) (leaves_of high)
-    → new ≡ old ++ partitions_from (length old) (leaves_of tree)
+    → tree ≡ Node bit low high → middle ≡ old ++ partitions_from (length old) (cut_leaves_of low)
+    → new ≡ middle ++ partitions_from (length middle) (cut_leaves_of high)
+    → new ≡ old ++ partitions_from (length old) (cut_leaves_of tree)
 pushed_both old middle new tree low high bit is first second =
     search (rules, length-append, numbered_length, numbered_append, append_assoc)
 
 some_leaf : (tree : Shape) → 0 < leaf_count tree
 some_leaf (End region rules) = omega arith
 some_leaf (Node bit low high) =
-    omega (arith, some_leaf low, length-append (leaves_of low) (leaves_of high))
+    omega (arith, some_leaf low, length-append (cut_leaves_of low) (cut_leaves_of high))
 
 -- how many leaves a cut has
 pub both_sides : (tree low high : Shape) (bit : ℕ) → tree ≡ Node bit low high

@@ -5,14 +5,14 @@ use Rattle.std.proofs.lemmas.Bool.Decides.{nat_tests}
 use Rattle.std.proofs.lemmas.List.{length-map}
 use Rattle.std.proofs.lemmas.List.Elements.{All-nil, All-cons, All-append, All-same, All-weaker, All-from_get_or}
 use Rattle.std.proofs.lemmas.Slice.Zip.{length-zip, firsts-zip, get_or-zip, seconds-zip}
-use Rattle.cut_tree.specs.Exports.{End, IsDefinedTree, IsTreeOf, Node, Shape, leaf_count, leaves_of, side_of_cut, tree_of}
+use Rattle.cut_tree.specs.Exports.{End, IsDefinedTree, IsTreeOf, Node, Shape, leaf_count, cut_leaves_of, side_of_cut, tree_of}
 use Rattle.cut_tree.proofs.CutTreeCallerLemmas.{tree_defined}
 use Rattle.net_file.specs.Exports.{IsNet}
 use Rattle.net_file.specs.declared.net.Net.{Net}
 use Rattle.placement.specs.Placement.{IsPlacement, MeetsPlacement, placement_of}
 use Rattle.placement.proofs.PlacementCallerLemmas.{first_there, placement_meets}
 use Rattle.ternary.specs.Exports.{WordValue, any_word, word_fix_of}
-use Rattle.policy_rules.specs.Exports.{IsPolicy, NoRoom, TooManyLeaves, TooManyWords, rules_of, rule_word_total}
+use Rattle.policy_rules.specs.Exports.{IsPolicy, NoRoom, TooManyLeaves, TooManyWords, rules_of, policy_row_word_total}
 use Rattle.policy_rules.specs.declared.policy.Row.{Row}
 use Rattle.policy_rules.specs.declared.rules.Partition.{Partition}
 use Rattle.policy_rules.specs.declared.rules.Rule.{Rule}
@@ -31,12 +31,12 @@ abbrev IsSmallLeaf : ℕ → WordValue × List Rule → Type 0
 IsSmallLeaf most leaf = length leaf.1 ≤ most
 
 small_leaves : (tree : Shape) (rules : List Rule) (region : WordValue) (most : ℕ)
-    → IsTreeOf rules region most tree → All (IsSmallLeaf most) (leaves_of tree)
+    → IsTreeOf rules region most tree → All (IsSmallLeaf most) (cut_leaves_of tree)
 small_leaves (End r rs) rules region most is =
     let small : length rs ≤ most = omega (arith, is.few, ap length is.same_rules) in
     All-cons (IsSmallLeaf most) (r, rs) [] small (All-nil (IsSmallLeaf most))
 small_leaves (Node bit low high) rules region most is =
-    All-append (IsSmallLeaf most) (leaves_of low) (leaves_of high)
+    All-append (IsSmallLeaf most) (cut_leaves_of low) (cut_leaves_of high)
     (small_leaves low (side_of_cut rules region bit false) (word_fix_of region bit false) most is.1)
     (small_leaves high (side_of_cut rules region bit true) (word_fix_of region bit true) most is.2)
 
@@ -68,7 +68,7 @@ made_by : (rows : List Row) (net : Net) (plan : List Hosted) (tree : Shape) (man
 made_by rows net plan tree many test is = search (rules, nat_tests, hosted_by)
 
 worded_by : (rows : List Row) (net : Net) (plan : List Hosted) (tree : Shape) (many : Bool)
-    → cond many (Err (TooManyWords (rule_word_total rows))) (partition_plan_of_tree net tree) ≡ Ok plan
+    → cond many (Err (TooManyWords (policy_row_word_total rows))) (partition_plan_of_tree net tree) ≡ Ok plan
     → IsMadeOf rows net plan tree
 worded_by rows net plan tree many is = search rules
 
@@ -109,13 +109,13 @@ zip_holds rows net tree targets policy defined few placement =
     targets count in
     let pairs : length (zip parts targets) ≡ length parts =
     grind (arith, length-zip parts targets, count) in
-    let small = small_parts net.leaf_rules 0 (leaves_of tree)
+    let small = small_parts net.leaf_rules 0 (cut_leaves_of tree)
     (small_leaves tree (rules_of rows) any_word net.leaf_rules defined) in
     let there = targets_there net (sizes_of parts) targets placement in record {
       parts = record { tree = tree; defined = defined; leaves = firsts };
       sound = rw firsts (parts_sound rows net.leaf_rules tree policy defined);
       ended = rw firsts (parts_ended rows net.leaf_rules tree policy defined);
-      few = omega (arith, pairs, numbered_length 0 (leaves_of tree), few);
+      few = omega (arith, pairs, numbered_length 0 (cut_leaves_of tree), few);
       leaves = λ k d within. let here : k < length parts = omega (arith, within, pairs) in
           rw (get_or-zip parts targets k d here (omega (arith, here, count))) (small k d.0 here);
       placement = rw (firsts, seconds) placement;
@@ -142,36 +142,36 @@ pub parts_small : (rules : List Rule) (most : ℕ) (tree : Shape) → IsDefinedT
     → All (λ part. length part.rules ≤ most) (parts_of tree)
 parts_small rules most tree is = search (rules, small_parts, small_leaves)
 
-pub no_words : (rows : List Row) (net : Net) → 4096 < rule_word_total rows
-    → partition_plan_of rows net ≡ Err (TooManyWords (rule_word_total rows))
+pub no_words : (rows : List Row) (net : Net) → 4096 < policy_row_word_total rows
+    → partition_plan_of rows net ≡ Err (TooManyWords (policy_row_word_total rows))
 unfolding partition_plan_of
-no_words rows net many = cond_if_below 4096 (rule_word_total rows) _ _ many
+no_words rows net many = cond_if_below 4096 (policy_row_word_total rows) _ _ many
 
-worded : (rows : List Row) (net : Net) → rule_word_total rows ≤ 4096
+worded : (rows : List Row) (net : Net) → policy_row_word_total rows ≤ 4096
     → partition_plan_of rows net ≡ partition_plan_of_tree net (tree_of (rules_of rows) net.leaf_rules)
 unfolding partition_plan_of
-worded rows net few = cond_if_above 4096 (rule_word_total rows) _ _ few
+worded rows net few = cond_if_above 4096 (policy_row_word_total rows) _ _ few
 
-pub no_leaves : (rows : List Row) (net : Net) → rule_word_total rows ≤ 4096
+pub no_leaves : (rows : List Row) (net : Net) → policy_row_word_total rows ≤ 4096
     → 512 < leaf_count (tree_of (rules_of rows) net.leaf_rules)
     → partition_plan_of rows net ≡ Err TooManyLeaves
 no_leaves rows net few many = worded rows net few
     ∙ cond_if_below 512 (leaf_count (tree_of (rules_of rows) net.leaf_rules)) _ _ many
 
-pub hosted_plan : (rows : List Row) (net : Net) (tree : Shape) → rule_word_total rows ≤ 4096
+pub hosted_plan : (rows : List Row) (net : Net) (tree : Shape) → policy_row_word_total rows ≤ 4096
     → tree ≡ tree_of (rules_of rows) net.leaf_rules → leaf_count tree ≤ 512
     → partition_plan_of rows net ≡ partition_plan_hosted_on net (parts_of tree)
 hosted_plan rows net tree few is small =
     worded rows net few ∙ sym (ap (partition_plan_of_tree net) is) ∙ cond_if_above 512 (leaf_count tree) _ _ small
 
-pub no_room : (rows : List Row) (net : Net) (tree : Shape) (number : ℕ) → rule_word_total rows ≤ 4096
+pub no_room : (rows : List Row) (net : Net) (tree : Shape) (number : ℕ) → policy_row_word_total rows ≤ 4096
     → tree ≡ tree_of (rules_of rows) net.leaf_rules → leaf_count tree ≤ 512
     → placement_of (sizes_of (parts_of tree)) (rooms_of net) net.backups ≡ Err number
     → partition_plan_of rows net ≡ Err (NoRoom number)
 no_room rows net tree number few is small none = cc (hosted_plan rows net tree few is small, none)
 
 pub planned : (rows : List Row) (net : Net) (tree : Shape) (targets : List (List ℕ))
-    → rule_word_total rows ≤ 4096 → tree ≡ tree_of (rules_of rows) net.leaf_rules → leaf_count tree ≤ 512
+    → policy_row_word_total rows ≤ 4096 → tree ≡ tree_of (rules_of rows) net.leaf_rules → leaf_count tree ≤ 512
     → placement_of (sizes_of (parts_of tree)) (rooms_of net) net.backups ≡ Ok targets
     → partition_plan_of rows net ≡ Ok (zip (parts_of tree) targets)
 planned rows net tree targets few is small hosted = search (rules, hosted_plan, NoRoom)

@@ -7,7 +7,7 @@ use Rattle.ternary.specs.Exports.{WordValue}
 use Rattle.policy_rules.specs.Exports.{first_rule, policy_hit_of_rule, is_in_policy_partition}
 use Rattle.policy_rules.specs.declared.rules.Partition.{Partition}
 use Rattle.policy_rules.specs.declared.rules.Rule.{Rule}
-use Rattle.cut_tree.specs.Exports.{Shape, leaves_of, tree_of}
+use Rattle.cut_tree.specs.Exports.{Shape, cut_leaves_of, tree_of}
 
 abbrev pub partition_numbered : ℕ × (WordValue × List Rule) → Partition
 partition_numbered (number, leaf) = record { number = number; region = leaf.0; rules = leaf.1 }
@@ -18,7 +18,7 @@ partitions_from number leaves = map partition_numbered (enumerate_from number le
 
 -- the partitions of a tree: its leaves, low side before high side, numbered from 0
 abbrev pub parts_of : Shape → List Partition
-parts_of tree = partitions_from 0 (leaves_of tree)
+parts_of tree = partitions_from 0 (cut_leaves_of tree)
 
 -- the partitions of a list of rules with this cap
 abbrev pub partitions_of : List Rule → ℕ → List Partition

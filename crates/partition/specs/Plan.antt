@@ -8,7 +8,7 @@ use Rattle.net_file.specs.Exports.{IsNet}
 use Rattle.net_file.specs.declared.net.Net.{Net}
 use Rattle.placement.specs.Placement.{IsPlacement, placement_of}
 pub use Rattle.policy_rules.specs.Hosted.{Hosted}
-use Rattle.policy_rules.specs.Exports.{AreSoundPolicyPartitions, IsPolicy, LastRuleCovers, NoPolicyPlan, NoRoom, TooManyLeaves, TooManyWords, rules_of, rule_word_total}
+use Rattle.policy_rules.specs.Exports.{AreSoundPolicyPartitions, IsPolicy, LastRuleCovers, NoPolicyPlan, NoRoom, TooManyLeaves, TooManyWords, rules_of, policy_row_word_total}
 use Rattle.policy_rules.specs.declared.policy.Row.{Row}
 use Rattle.policy_rules.specs.declared.rules.Partition.{Partition}
 use Rattle.policy_rules.specs.declared.rules.Rule.{Rule}
@@ -33,8 +33,8 @@ partition_plan_of_tree net tree =
 -- the plan of a policy: the partitions of its tree, whose cap is the network's `leaf_rules`, hosted
 -- by the network's switches
 unfoldable pub partition_plan_of : List Row → Net → Result (List Hosted) NoPolicyPlan
-partition_plan_of rows net = if nat_lt 4096 (rule_word_total rows)
-    then Err (TooManyWords (rule_word_total rows))
+partition_plan_of rows net = if nat_lt 4096 (policy_row_word_total rows)
+    then Err (TooManyWords (policy_row_word_total rows))
     else partition_plan_of_tree net (tree_of (rules_of rows) net.leaf_rules)
 
 -- the partitions are the leaves of the tree that is defined for the rules with this cap

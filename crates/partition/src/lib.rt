@@ -19,4 +19,4 @@ mod plan;
 
 pub use laws::partition_laws;
 pub use parts::{find, list};
-pub use plan::plan_laws;
+pub use plan::partition_plan_laws;

@@ -3,7 +3,7 @@ ghost use Rattle.policy_rules.specs.Exports.{AreSoundPolicyPartitions, IsPolicy,
 ghost use Rattle.policy_rules.specs.declared.policy.Row.{Row};
 ghost use Rattle.policy_rules.specs.declared.rules.Rule.{Rule};
 ghost use Rattle.cut_tree.specs.DefinedTree.{IsDefinedTree};
-ghost use Rattle.cut_tree.specs.Shape.{leaf_count, leaves_of, shape_of};
+ghost use Rattle.cut_tree.specs.Shape.{leaf_count, cut_leaves_of, shape_of};
 ghost use Rattle.partition.specs.Parts.{PartitionsDecideAs, partitions_from, parts_of};
 
 use cut_tree::Tree;
@@ -39,7 +39,7 @@ pub fn list(alloc: Global, tree: &Tree) -> Result<Vec<Partition>, AllocError>
 fn push_leaves(tree: &Tree, parts: &mut Vec<Partition>) -> Result<(), AllocError>
     requires { length parts.old.items + leaf_count (shape_of tree.now) < 2 ^ 32 }
     ensures { OnOk result (parts.new.items ≡ parts.old.items
-        ++ partitions_from (length parts.old.items) (leaves_of (shape_of tree.now))) }
+        ++ partitions_from (length parts.old.items) (cut_leaves_of (shape_of tree.now))) }
 {
     match tree {
         Tree::Leaf { region, rules } => {

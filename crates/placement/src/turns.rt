@@ -47,8 +47,8 @@ impl Load {
         let mut loads = vec![in alloc; 0; rooms.len()]?;
         let order = by_falling_key(alloc, keys)?;
         for partition in &order {
-            let size = number_at(sizes, *partition);
-            let key = number_at(keys, *partition);
+            let size = placement_number_at(sizes, *partition);
+            let key = placement_number_at(keys, *partition);
             let switches = by_switch_load(alloc, &held, &loads, rooms, size)?;
             let Some(targets) = front(&switches, backups) else {
                 return Err(Failure::Refused(NoRoom {
@@ -79,8 +79,8 @@ fn by_falling_key(alloc: Global, numbers: &[u64]) -> Result<Vec<u32>, AllocError
     ensures { IfOk result (λ order.
         order.items ≡ in_order (is_placed_earlier numbers.now) (range_with_len 0 (length numbers.now))) }
 {
-    let mut order = numbers_below(alloc, numbers.len() as u32)?;
-    order.sort_unstable_by_key(|place| (Reverse(number_at(numbers, *place)), *place));
+    let mut order = placement_numbers_below(alloc, numbers.len() as u32)?;
+    order.sort_unstable_by_key(|place| (Reverse(placement_number_at(numbers, *place)), *place));
     Ok(order)
 }
 
@@ -97,9 +97,9 @@ fn by_switch_load(
         switches.items
         ≡ in_order (is_lighter_switch load) (placement_with_room (slice_index held.now) rooms.now size)) }
 {
-    let mut switches = numbers_below(alloc, rooms.len() as u32)?;
+    let mut switches = placement_numbers_below(alloc, rooms.len() as u32)?;
     switches.retain(|switch| has_room(held, rooms, size, *switch));
-    switches.sort_unstable_by_key(|switch| (number_at(loads, *switch), *switch));
+    switches.sort_unstable_by_key(|switch| (placement_number_at(loads, *switch), *switch));
     Ok(switches)
 }
 
@@ -131,7 +131,7 @@ fn add_switch_load(loads: &mut [u64], targets: &[u32], more: u64)
 }
 
 // The number at this place, or 0 beyond the end.
-fn number_at(numbers: &[u64], place: u32) -> u64
+fn placement_number_at(numbers: &[u64], place: u32) -> u64
     ensures { result ≡ slice_index numbers.now place }
 {
     numbers.get(place as usize).copied().unwrap_or(0)
@@ -154,13 +154,13 @@ pub fn widened(alloc: Global, numbers: &[u32]) -> Result<Vec<u64>, AllocError>
 fn has_room(held: &[u64], rooms: &[u32], size: u64, switch: u32) -> bool
     ensures { result ≡ has_room (slice_index held.now) rooms.now size switch }
 {
-    let taken = number_at(held, switch).saturating_add(size);
+    let taken = placement_number_at(held, switch).saturating_add(size);
     let room = rooms.get(switch as usize).copied().unwrap_or(0);
     (switch as usize) < rooms.len() && taken <= u64::from(room)
 }
 
 // The first `count` numbers, from 0.
-fn numbers_below(alloc: Global, count: u32) -> Result<Vec<u32>, AllocError>
+fn placement_numbers_below(alloc: Global, count: u32) -> Result<Vec<u32>, AllocError>
     ensures { IfOk result (λ numbers. numbers.items ≡ range_with_len 0 count) }
 {
     (0..count).collect(alloc)

@@ -4,7 +4,7 @@ use Rattle.csv.specs.Records.{field_at}
 use Rattle.csv_records.specs.Texts.{field_or_empty, is_heading}
 use Rattle.five_tuple.specs.Exports.{number_up_to}
 use Rattle.policy_rules.specs.declared.amendment.Edit.TheVariants.{Remove, Add}
-use Rattle.policy_file.specs.Exports.{change_heading, csv_edit_read, on_ok, policy_heading, csv_removal_read, csv_policy_row_read, with_policy_file_field}
+use Rattle.policy_file.specs.Exports.{change_heading, csv_policy_edit_read, on_ok, policy_heading, csv_policy_removal_read, csv_policy_row_read, with_policy_file_field}
 use Rattle.policy_file.specs.declared.error.PolicyRefusal.TheVariants as why
 
 pub is_heading-change : (fields : List (List ℕ)) → is_heading change_heading fields
@@ -13,26 +13,26 @@ unfolding field_at
 is_heading-change [] = refl
 is_heading-change (op ∷ fields) = refl
 
-pub csv_edit_read-by : (fields : List (List ℕ)) → csv_edit_read fields
-    ≡ cond (bytes_eq (field_or_empty fields 0) (codes "remove")) (csv_removal_read (drop 1 fields))
+pub csv_policy_edit_read-by : (fields : List (List ℕ)) → csv_policy_edit_read fields
+    ≡ cond (bytes_eq (field_or_empty fields 0) (codes "remove")) (csv_policy_removal_read (drop 1 fields))
     (cond (bytes_eq (field_or_empty fields 0) (codes "add")) (on_ok Add (csv_policy_row_read (drop 1 fields)))
     (Err why.Op))
 unfolding field_at
-csv_edit_read-by [] = refl
-csv_edit_read-by (op ∷ fields) = refl
+csv_policy_edit_read-by [] = refl
+csv_policy_edit_read-by (op ∷ fields) = refl
 
-pub csv_removal_read-two : (fields : List (List ℕ)) → length fields ≡ 2
-    → csv_removal_read (drop 1 fields) ≡ with_policy_file_field (number_up_to 4294967295 (field_or_empty fields 1))
+pub csv_policy_removal_read-two : (fields : List (List ℕ)) → length fields ≡ 2
+    → csv_policy_removal_read (drop 1 fields) ≡ with_policy_file_field (number_up_to 4294967295 (field_or_empty fields 1))
     why.Priority (λ priority. Ok (Remove priority))
 unfolding field_at
-csv_removal_read-two (op ∷ priority ∷ []) two = refl
-csv_removal_read-two _ two = absurd (omega arith)
+csv_policy_removal_read-two (op ∷ priority ∷ []) two = refl
+csv_policy_removal_read-two _ two = absurd (omega arith)
 
-pub csv_removal_read-other : (fields : List (List ℕ)) → length fields ≢ 2
-    → csv_removal_read (drop 1 fields) ≡ Err why.Width
-csv_removal_read-other [] other = refl
-csv_removal_read-other (op ∷ []) other = refl
-csv_removal_read-other (op ∷ priority ∷ []) other = absurd (other refl)
-csv_removal_read-other (op ∷ priority ∷ next ∷ fields) other = refl
+pub csv_policy_removal_read-other : (fields : List (List ℕ)) → length fields ≢ 2
+    → csv_policy_removal_read (drop 1 fields) ≡ Err why.Width
+csv_policy_removal_read-other [] other = refl
+csv_policy_removal_read-other (op ∷ []) other = refl
+csv_policy_removal_read-other (op ∷ priority ∷ []) other = absurd (other refl)
+csv_policy_removal_read-other (op ∷ priority ∷ next ∷ fields) other = refl
 
-pub ruleset edits = (is_heading-change, csv_edit_read-by, csv_removal_read-two, csv_removal_read-other)
+pub ruleset edits = (is_heading-change, csv_policy_edit_read-by, csv_policy_removal_read-two, csv_policy_removal_read-other)

@@ -7,13 +7,13 @@ use Rattle.csv.specs.Writing.{default_writer, field_text, fields_text, is_blank,
 use Rattle.csv.specs.declared.parser.State.TheVariants as st
 use Rattle.csv.proofs.RoundTrip.{read-write-many}
 use Rattle.csv_records.specs.Texts.{is_heading}
-use Rattle.five_tuple.specs.Exports.{PlainFieldTextLaws, number_up_to, prefix_of, prefix_text, proto_of, proto_text, range_of, range_text}
-use Rattle.policy_rules.specs.Exports.{EditAddsOnly, HasSmallRulePort, IsAmendment, IsPolicy, IsSoundEdit, IsSoundRow, action_of, action_text}
+use Rattle.five_tuple.specs.Exports.{PlainTupleTextLaws, number_up_to, prefix_of, prefix_text, proto_of, proto_text, range_of, range_text}
+use Rattle.policy_rules.specs.Exports.{EditAddsOnly, HasSmallActionPort, IsAmendment, IsPolicy, IsSoundEdit, IsSoundPolicyRow, action_of, action_text}
 use Rattle.policy_rules.specs.declared.amendment.Edit.{Edit}
 use Rattle.policy_rules.specs.declared.amendment.Edit.TheVariants.{Remove, Add}
 use Rattle.policy_rules.specs.declared.file.PolicyFile.TheVariants.{Whole, Change}
 use Rattle.policy_rules.specs.declared.policy.Row.{Row}
-use Rattle.policy_file.specs.Exports.{IsPolicyReadUpTo, PolicyRowFormat, PolicyRecordsStateEach, change_heading, csv_change_of, change_rows, policy_change_text, edit_fields, csv_edit_read, policy_fields_line, is_change_text, on_ok, policy_file_of, policy_heading, policy_of, policy_file_rows, policy_text, row_fields, csv_policy_row_read, rows_text, policy_rows_under_heading}
+use Rattle.policy_file.specs.Exports.{IsPolicyReadUpTo, PolicyRowFormat, PolicyRecordsStateEach, change_heading, csv_change_of, change_rows, policy_change_text, policy_file_edit_fields, csv_policy_edit_read, policy_fields_line, is_change_text, on_ok, policy_file_of, policy_heading, policy_of, policy_file_rows, policy_text, row_fields, csv_policy_row_read, rows_text, policy_rows_under_heading}
 use Rattle.policy_file.proofs.PolicyFilePlainFields.{ArePlain, IsPlain, IsPlainRecord, plain_edit, plain_row}
 use Rattle.policy_file.proofs.PolicyFileRows.{NoneRepeats, all_fresh_edits, all_fresh_rows, all_read}
 use Rattle.csv_records.proofs.CsvRecordsCallerLemmas.{over}
@@ -128,20 +128,20 @@ row_back row priority src dst sport dport proto action =
     rw (priority, src, dst, sport, dport, proto, action) refl
 
 abbrev pub AreStatedRows : Type 0
-AreStatedRows = (row : Row) → IsSoundRow row → HasSmallRulePort row.action
+AreStatedRows = (row : Row) → IsSoundPolicyRow row → HasSmallActionPort row.action
     → csv_policy_row_read (row_fields row) ≡ Ok row
 
 abbrev HaveSmallPorts : List Row → Type 0
-HaveSmallPorts rows = All (λ (row : Row). HasSmallRulePort row.action) rows
+HaveSmallPorts rows = All (λ (row : Row). HasSmallActionPort row.action) rows
 
-policy_records : PlainFieldTextLaws → (rows : List Row) → IsPolicy rows → HaveSmallPorts rows
+policy_records : PlainTupleTextLaws → (rows : List Row) → IsPolicy rows → HaveSmallPorts rows
     → records default_config (policy_text rows) ≡ policy_heading ∷ map row_fields rows
 policy_records laws rows policy small = records_of_text row_fields policy_heading rows
     (refl, (refl, (refl, (refl, (refl, (refl, (refl, tt)))))))
     (recursion_from_All (λ (row : Row). IsPlainRecord (row_fields row)) rows
     (λ k d h. plain_row laws _ (policy.sound k d h) (small k d h)))
 
-pub policy_back : PlainFieldTextLaws → AreStatedRows → (rows : List Row) → IsPolicy rows
+pub policy_back : PlainTupleTextLaws → AreStatedRows → (rows : List Row) → IsPolicy rows
     → length rows ≤ 2000 → HaveSmallPorts rows → policy_of (policy_text rows) ≡ Ok rows
 unfolding policy_of strip_bom
 policy_back laws stated rows policy few small = rw (policy_records laws rows policy small)
@@ -149,12 +149,12 @@ policy_back laws stated rows policy few small = rw (policy_records laws rows pol
     (recursion_from_All (λ (row : Row). csv_policy_row_read (row_fields row) ≡ Ok row) rows
     (λ k d h. stated _ (policy.sound k d h) (small k d h))) refl)
 
-no_change : PlainFieldTextLaws → (rows : List Row) → IsPolicy rows → HaveSmallPorts rows
+no_change : PlainTupleTextLaws → (rows : List Row) → IsPolicy rows → HaveSmallPorts rows
     → is_change_text (policy_text rows) ≡ false
 unfolding is_change_text strip_bom
 no_change laws rows policy small = rw (policy_records laws rows policy small) refl
 
-pub whole_back : PlainFieldTextLaws → AreStatedRows → (rows : List Row) → IsPolicy rows
+pub whole_back : PlainTupleTextLaws → AreStatedRows → (rows : List Row) → IsPolicy rows
     → length rows ≤ 2000 → HaveSmallPorts rows → policy_file_of (policy_text rows) ≡ Ok (Whole rows)
 unfolding policy_file_of
 whole_back laws stated rows policy few small = let text = policy_text rows in
@@ -169,36 +169,36 @@ AreRead = (priority : ℕ) → priority < 2 ^ 32
     → number_up_to 4294967295 (decimal priority) ≡ Some priority
 
 abbrev AddSmallPorts : List Edit → Type 0
-AddSmallPorts edits = All (EditAddsOnly (λ (row : Row). HasSmallRulePort row.action)) edits
+AddSmallPorts edits = All (EditAddsOnly (λ (row : Row). HasSmallActionPort row.action)) edits
 
 -- an edit's printed fields state the edit
 edit_back : AreRead → AreStatedRows → (edit : Edit) → IsSoundEdit edit
-    → EditAddsOnly (λ (row : Row). HasSmallRulePort row.action) edit
-    → csv_edit_read (edit_fields edit) ≡ Ok edit
+    → EditAddsOnly (λ (row : Row). HasSmallActionPort row.action) edit
+    → csv_policy_edit_read (policy_file_edit_fields edit) ≡ Ok edit
 edit_back read stated (Remove priority) sound small = rw (read priority sound) refl
 edit_back read stated (Add row) sound small = ap (on_ok Add) (stated row sound small)
 
-change_records : PlainFieldTextLaws → (edits : List Edit) → IsAmendment edits → AddSmallPorts edits
-    → records default_config (policy_change_text edits) ≡ change_heading ∷ map edit_fields edits
-change_records laws edits change small = records_of_text edit_fields change_heading edits
+change_records : PlainTupleTextLaws → (edits : List Edit) → IsAmendment edits → AddSmallPorts edits
+    → records default_config (policy_change_text edits) ≡ change_heading ∷ map policy_file_edit_fields edits
+change_records laws edits change small = records_of_text policy_file_edit_fields change_heading edits
     (refl, (refl, (refl, (refl, (refl, (refl, (refl, (refl, tt))))))))
-    (recursion_from_All (λ edit. IsPlainRecord (edit_fields edit)) edits
+    (recursion_from_All (λ edit. IsPlainRecord (policy_file_edit_fields edit)) edits
     (λ k d h. plain_edit laws _ (change.sound k d h) (small k d h)))
 
-pub change_back : PlainFieldTextLaws → AreRead → AreStatedRows → (edits : List Edit) → IsAmendment edits
+pub change_back : PlainTupleTextLaws → AreRead → AreStatedRows → (edits : List Edit) → IsAmendment edits
     → length edits ≤ 2000 → AddSmallPorts edits → csv_change_of (policy_change_text edits) ≡ Ok edits
 unfolding csv_change_of strip_bom
 change_back laws read stated edits change few small = rw (change_records laws edits change small)
-    (rows_back edit_fields change_rows edits (all_fresh_edits edits change.distinct) few
-    (recursion_from_All (λ edit. csv_edit_read (edit_fields edit) ≡ Ok edit) edits
+    (rows_back policy_file_edit_fields change_rows edits (all_fresh_edits edits change.distinct) few
+    (recursion_from_All (λ edit. csv_policy_edit_read (policy_file_edit_fields edit) ≡ Ok edit) edits
     (λ k d h. edit_back read stated _ (change.sound k d h) (small k d h))) refl)
 
-is_change : PlainFieldTextLaws → (edits : List Edit) → IsAmendment edits → AddSmallPorts edits
+is_change : PlainTupleTextLaws → (edits : List Edit) → IsAmendment edits → AddSmallPorts edits
     → is_change_text (policy_change_text edits) ≡ true
 unfolding is_change_text strip_bom
 is_change laws edits change small = rw (change_records laws edits change small) refl
 
-pub change_file_back : PlainFieldTextLaws → AreRead → AreStatedRows → (edits : List Edit)
+pub change_file_back : PlainTupleTextLaws → AreRead → AreStatedRows → (edits : List Edit)
     → IsAmendment edits → length edits ≤ 2000 → AddSmallPorts edits
     → policy_file_of (policy_change_text edits) ≡ Ok (Change edits)
 unfolding policy_file_of

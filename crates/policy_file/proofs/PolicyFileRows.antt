@@ -9,7 +9,7 @@ use Rattle.policy_rules.proofs.PolicyRulesCallerLemmas.{fresh_edits}
 use Rattle.policy_file.specs.declared.error.PolicyRefusal.{PolicyRefusal}
 use Rattle.policy_file.specs.declared.error.PolicyRefusal.TheVariants as why
 use Rattle.base.specs.declared.row.InRow.{InRow}
-use Rattle.policy_file.specs.Exports.{IsPolicyReadUpTo, PolicyRowFormat, PolicyRecordsStateEach, change_heading, change_rows, first_row_refused, has_change_heading, policy_file_rows, policy_row_refusal_after, row_refusal_at, rows_of, csv_rows_stated, policy_rows_under_heading}
+use Rattle.policy_file.specs.Exports.{IsPolicyReadUpTo, PolicyRowFormat, PolicyRecordsStateEach, change_heading, change_rows, first_row_refused, has_change_heading, policy_file_rows, policy_row_refusal_after, row_refusal_at, rows_of, csv_policy_rows_stated, policy_rows_under_heading}
 
 -- ---- the first number that has something
 
@@ -62,9 +62,9 @@ module _ {X : Type 0} (format : PolicyRowFormat X) where
       ∙ ap (λ xs. get_or xs k (fine d)) stated ∙ get_or-map fine rows k d (fine d) within
 
   state_rows : (records : Records) (rows : List X) → PolicyRecordsStateEach format records rows
-      → csv_rows_stated format records ≡ rows
+      → csv_policy_rows_stated format records ≡ rows
   state_rows records rows stated = cc (outcomes records, stated, all_fine rows) where
-    outcomes : (records : Records) → csv_rows_stated format records ≡ filter_map result_ok
+    outcomes : (records : Records) → csv_policy_rows_stated format records ≡ filter_map result_ok
         (map format.read records)
     outcomes [] = refl
     outcomes (fields ∷ records) = cc (outcomes records)
@@ -94,11 +94,11 @@ module _ {X : Type 0} (format : PolicyRowFormat X) where
       subst (λ xs. PolicyRecordsStateEach format xs (take k rows)) (take-take k n records (omega arith))
       (state_take (take n records) rows k stated) in
       ap (λ b. cond b (Some why.TooManyRows) (policy_row_refusal_after format
-      (csv_rows_stated format (take k records)) (format.read (get_or records k []))))
+      (csv_policy_rows_stated format (take k records)) (format.read (get_or records k []))))
       (ne_eqb k 2000 (λ full. absurd (omega arith)))
-      ∙ ap (λ fields. policy_row_refusal_after format (csv_rows_stated format (take k records))
+      ∙ ap (λ fields. policy_row_refusal_after format (csv_policy_rows_stated format (take k records))
       (format.read fields)) (sym (get_or-take n records k [] within))
-      ∙ ap (policy_row_refusal_after format (csv_rows_stated format (take k records)))
+      ∙ ap (policy_row_refusal_after format (csv_policy_rows_stated format (take k records)))
       (state_at (take n records) rows k d stated within)
       ∙ ap (λ earlier. cond (format.repeats earlier row) (Some why.SamePriority) None)
       (state_rows (take k records) (take k rows) earlier)
@@ -151,7 +151,7 @@ module _ {X : Type 0} (format : PolicyRowFormat X) where
   pub all_read : (records : Records) (rows : List X) → IsPolicyReadUpTo format records rows None
       → NoneRepeats rows (length rows) → rows_of format records ≡ Ok rows
   all_read records rows read none = let end : length records ≡ length rows = read.ends in
-      ap (λ first. option_map_or Err first (Ok (csv_rows_stated format records)))
+      ap (λ first. option_map_or Err first (Ok (csv_policy_rows_stated format records)))
       (none_below (λ place. option_map (at_row place) (row_refusal_at format records place))
       (length records) (λ k h. ap (option_map (at_row k))
       (clean records rows (length rows) read.stated read.few (omega arith) none k (omega arith))))

@@ -22,22 +22,22 @@ abbrev pub change_heading : List (List ℕ)
 change_heading = codes "op" ∷ policy_heading
 
 -- the edit that removes the row of a priority, which is the only field
-abbrev pub csv_removal_read : List (List ℕ) → Result Edit PolicyRefusal
-csv_removal_read (priority ∷ []) =
+abbrev pub csv_policy_removal_read : List (List ℕ) → Result Edit PolicyRefusal
+csv_policy_removal_read (priority ∷ []) =
     with_policy_file_field (number_up_to 4294967295 priority) why.Priority (λ priority. Ok (Remove priority))
-csv_removal_read _ = Err why.Width
+csv_policy_removal_read _ = Err why.Width
 
 -- the edit that the fields state, or the refusal of the first field that can't be read
-abbrev pub csv_edit_read : List (List ℕ) → Result Edit PolicyRefusal
-csv_edit_read [] = Err why.Op
-csv_edit_read (op ∷ fields) =
-    if bytes_eq op (codes "remove") then csv_removal_read fields
+abbrev pub csv_policy_edit_read : List (List ℕ) → Result Edit PolicyRefusal
+csv_policy_edit_read [] = Err why.Op
+csv_policy_edit_read (op ∷ fields) =
+    if bytes_eq op (codes "remove") then csv_policy_removal_read fields
     else if bytes_eq op (codes "add") then on_ok Add (csv_policy_row_read fields)
     else Err why.Op
 
 -- no two edits of a change do the same to a row of the same priority
 abbrev pub change_rows : PolicyRowFormat Edit
-change_rows = record { heading = change_heading; read = csv_edit_read; repeats = repeats }
+change_rows = record { heading = change_heading; read = csv_policy_edit_read; repeats = repeats }
 
 -- the change that a text states
 unfoldable pub csv_change_of : List ℕ → Result (List Edit) (InRow PolicyRefusal)

@@ -20,9 +20,9 @@ row_fields row =
     ∷ range_text row.dport ∷ proto_text row.proto ∷ action_text row.action ∷ []
 
 -- the printed forms of an edit's fields
-abbrev pub edit_fields : Edit → List (List ℕ)
-edit_fields (Remove priority) = codes "remove" ∷ decimal priority ∷ []
-edit_fields (Add row) = codes "add" ∷ row_fields row
+abbrev pub policy_file_edit_fields : Edit → List (List ℕ)
+policy_file_edit_fields (Remove priority) = codes "remove" ∷ decimal priority ∷ []
+policy_file_edit_fields (Add row) = codes "add" ∷ row_fields row
 
 -- the lines of rows, of any kind, by the printed forms of their fields
 abbrev pub rows_text : {X : Type 0} → (X → List (List ℕ)) → List X → List ℕ
@@ -34,4 +34,4 @@ policy_text rows = policy_fields_line policy_heading ++ rows_text row_fields row
 
 -- the heading's line, and then the edits'
 abbrev pub policy_change_text : List Edit → List ℕ
-policy_change_text edits = policy_fields_line change_heading ++ rows_text edit_fields edits
+policy_change_text edits = policy_fields_line change_heading ++ rows_text policy_file_edit_fields edits

@@ -62,8 +62,8 @@ pub record PolicyRowFormat (X : Type 0) : Type 0 where
   pub repeats : List X → X → Bool
 
 -- the rows that records state
-abbrev pub csv_rows_stated : {X : Type 0} → PolicyRowFormat X → List (List (List ℕ)) → List X
-csv_rows_stated format records = filter_map (λ fields. result_ok (format.read fields)) records
+abbrev pub csv_policy_rows_stated : {X : Type 0} → PolicyRowFormat X → List (List (List ℕ)) → List X
+csv_policy_rows_stated format records = filter_map (λ fields. result_ok (format.read fields)) records
 
 -- why a record is refused after earlier rows: it states no row, or one that repeats an earlier one
 abbrev pub policy_row_refusal_after : {X : Type 0} → PolicyRowFormat X → List X → Result X PolicyRefusal
@@ -76,7 +76,7 @@ policy_row_refusal_after format earlier (Ok row) =
 abbrev pub row_refusal_at : {X : Type 0} → PolicyRowFormat X → List (List (List ℕ)) → ℕ → Option PolicyRefusal
 row_refusal_at format records place =
     if place == 2000 then Some why.TooManyRows
-    else policy_row_refusal_after format (csv_rows_stated format (take place records))
+    else policy_row_refusal_after format (csv_policy_rows_stated format (take place records))
     (format.read (slice_index_or records place []))
 
 -- the value of the least of the numbers below n that has one
@@ -100,7 +100,7 @@ policy_file_first_refusal format records = first_row_refused (policy_row_refused
 abbrev pub rows_of : {X : Type 0} → PolicyRowFormat X → List (List (List ℕ))
     → Result (List X) (InRow PolicyRefusal)
 rows_of format records =
-    option_map_or Err (policy_file_first_refusal format records) (Ok (csv_rows_stated format records))
+    option_map_or Err (policy_file_first_refusal format records) (Ok (csv_policy_rows_stated format records))
 
 abbrev pub no_policy_heading : {X : Type 0} → Result (List X) (InRow PolicyRefusal)
 no_policy_heading = Err (record { refusal = why.Header; row = 0 })

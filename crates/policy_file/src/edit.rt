@@ -1,11 +1,11 @@
 ghost use Rattle.std.specs.Prelude.{◌≡◌, drop, IfOk};
 ghost use Rattle.csv.specs.Records.{fields_of};
 ghost use Rattle.csv_records.specs.Texts.{is_heading};
-ghost use Rattle.policy_rules.specs.Exports.{EditAddsOnly, HasSmallRulePort};
-ghost use Rattle.policy_file.specs.Changes.{change_heading, csv_edit_read, csv_removal_read};
+ghost use Rattle.policy_rules.specs.Exports.{EditAddsOnly, HasSmallActionPort};
+ghost use Rattle.policy_file.specs.Changes.{change_heading, csv_policy_edit_read, csv_policy_removal_read};
 
 use crate::error::PolicyRefusal;
-use crate::row::{is_heading, read_priority, read_row};
+use crate::row::{is_heading, read_policy_file_row, read_priority};
 use csv_records::{ByteRecord, csv_field_has_text, field};
 use policy_rules::Edit;
 
@@ -32,14 +32,14 @@ pub fn is_change_heading(fields: &ByteRecord) -> bool
 /// the refusal of the first field that can't be read.
 #[tactic(auto, using(crate::proofs::PolicyFileEdits::edits))]
 pub fn read_edit(fields: &ByteRecord) -> Result<Edit, PolicyRefusal>
-    ensures edit { result ≡ csv_edit_read (fields_of fields.now) }
-    ensures small_port { IfOk result (EditAddsOnly (λ row. HasSmallRulePort row.action)) }
+    ensures edit { result ≡ csv_policy_edit_read (fields_of fields.now) }
+    ensures small_port { IfOk result (EditAddsOnly (λ row. HasSmallActionPort row.action)) }
 {
     if csv_field_has_text(fields, 0, REMOVE) {
         return read_removal(fields);
     }
     if csv_field_has_text(fields, 0, ADD) {
-        return Ok(Edit::Add(read_row(fields, 1)?));
+        return Ok(Edit::Add(read_policy_file_row(fields, 1)?));
     }
     Err(PolicyRefusal::Op)
 }
@@ -47,8 +47,8 @@ pub fn read_edit(fields: &ByteRecord) -> Result<Edit, PolicyRefusal>
 // The edit that removes the row of a priority, which is the second and last field.
 #[tactic(auto, using(crate::proofs::PolicyFileEdits::edits))]
 fn read_removal(fields: &ByteRecord) -> Result<Edit, PolicyRefusal>
-    ensures edit { result ≡ csv_removal_read (drop 1 (fields_of fields.now)) }
-    ensures small_port { IfOk result (EditAddsOnly (λ row. HasSmallRulePort row.action)) }
+    ensures edit { result ≡ csv_policy_removal_read (drop 1 (fields_of fields.now)) }
+    ensures small_port { IfOk result (EditAddsOnly (λ row. HasSmallActionPort row.action)) }
 {
     if fields.len() != 2 {
         return Err(PolicyRefusal::Width);

@@ -1,5 +1,5 @@
 ghost use Rattle.std.specs.Prelude.{◌≡◌, ◌≤◌, Ok, IfOk, IfErr, All, length};
-ghost use Rattle.policy_rules.specs.Exports.{EditAddsOnly, PolicyRulesGiveOnly, HasSmallRulePort, IsAmendment, IsPolicyOrAmendment};
+ghost use Rattle.policy_rules.specs.Exports.{EditAddsOnly, PolicyFileRowsAre, HasSmallActionPort, IsAmendment, IsPolicyRulesOrAmendment};
 ghost use Rattle.policy_file.specs.Changes.{csv_change_of, policy_file_length, is_change_text, policy_file_of};
 ghost use Rattle.base.specs.Refusals.{IsCallRefusal};
 
@@ -43,7 +43,7 @@ pub fn read_change(alloc: Global, bytes: &[u8]) -> Result<Amendment, PolicyError
     ensures change { IfOk result (λ change. csv_change_of bytes.now ≡ Ok change) }
     ensures sound { IfOk result IsAmendment }
     ensures few { IfOk result (λ change. length change ≤ 2000) }
-    ensures small_ports { IfOk result (All (EditAddsOnly (λ row. HasSmallRulePort row.action))) }
+    ensures small_ports { IfOk result (All (EditAddsOnly (λ row. HasSmallActionPort row.action))) }
     ensures refused { IfErr result (IsCallRefusal (csv_change_of bytes.now)) }
 {
     let Reading { rows, refusal } = read_policy_rows(alloc, bytes)?;
@@ -75,9 +75,9 @@ pub fn read_change(alloc: Global, bytes: &[u8]) -> Result<Amendment, PolicyError
 #[tactic(auto, unfolding(crate::specs::Changes::policy_file_of))]
 pub fn read_file(alloc: Global, bytes: &[u8]) -> Result<PolicyFile, PolicyError>
     ensures file { IfOk result (λ file. policy_file_of bytes.now ≡ Ok file) }
-    ensures sound { IfOk result IsPolicyOrAmendment }
+    ensures sound { IfOk result IsPolicyRulesOrAmendment }
     ensures few { IfOk result (λ file. policy_file_length file ≤ 2000) }
-    ensures small_ports { IfOk result (PolicyRulesGiveOnly (λ row. HasSmallRulePort row.action)) }
+    ensures small_ports { IfOk result (PolicyFileRowsAre (λ row. HasSmallActionPort row.action)) }
     ensures refused { IfErr result (IsCallRefusal (policy_file_of bytes.now)) }
 {
     let is_change = is_change(alloc, bytes)?;

@@ -1,14 +1,14 @@
 ghost use Rattle.std.specs.Prelude.{◌≡◌, ◌≤◌, All, IfErr, IfOk, length};
 ghost use Rattle.csv.specs.Records.{fields_of};
 ghost use Rattle.csv_records.specs.Texts.{is_heading};
-ghost use Rattle.policy_rules.specs.Exports.{EditAddsOnly, HasSmallRulePort};
+ghost use Rattle.policy_rules.specs.Exports.{EditAddsOnly, HasSmallActionPort};
 ghost use Rattle.policy_file.specs.Changes.{change_rows};
 ghost use Rattle.policy_file.specs.Reading.{IsPolicyReadFrom, IsPolicyReadUpTo, PolicyRowFormat, policy_file_rows, csv_policy_rows_in};
 ghost use Rattle.base.specs.Refusals.{IsCallRefusal};
 
 use crate::edit::{is_change_heading, read_edit};
 use crate::error::{PolicyError, PolicyRefusal};
-use crate::row::{is_heading, read_row};
+use crate::row::{is_heading, read_policy_file_row};
 use base::InRow;
 use csv_records::{ByteRecord, Records};
 use policy_rules::{Edit, MAX_ROWS, Row};
@@ -35,21 +35,21 @@ pub trait FileRow: Drop {
 impl FileRow for Row {
     ghost format = { policy_file_rows };
 
-    ghost has_small_port = { λ row. HasSmallRulePort row.action };
+    ghost has_small_port = { λ row. HasSmallActionPort row.action };
 
     fn is_heading(fields: &ByteRecord) -> bool {
         is_heading(fields, 0)
     }
 
     fn read(fields: &ByteRecord) -> Result<Row, PolicyRefusal> {
-        read_row(fields, 0)
+        read_policy_file_row(fields, 0)
     }
 }
 
 impl FileRow for Edit {
     ghost format = { change_rows };
 
-    ghost has_small_port = { EditAddsOnly (λ row. HasSmallRulePort row.action) };
+    ghost has_small_port = { EditAddsOnly (λ row. HasSmallActionPort row.action) };
 
     fn is_heading(fields: &ByteRecord) -> bool {
         is_change_heading(fields)
@@ -82,11 +82,11 @@ pub fn read_policy_rows<R: FileRow>(alloc: Global, bytes: &[u8]) -> Result<Readi
         let refusal = PolicyRefusal::Header;
         return Err(PolicyError::Refused(InRow { refusal, row: 0 }));
     }
-    Ok(read_row_records(alloc, &mut records, &mut fields)?)
+    Ok(read_policy_row_records(alloc, &mut records, &mut fields)?)
 }
 
 // Reads rows until the records end, one states no row, or there are more than 2,000.
-fn read_row_records<R: FileRow>(
+fn read_policy_row_records<R: FileRow>(
     alloc: Global,
     records: &mut Records<'_>,
     fields: &mut ByteRecord,

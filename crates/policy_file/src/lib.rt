@@ -3,9 +3,9 @@
 //!
 //! `read_policy` and `read_change` return the policy or the change that the text states, or the
 //! first refusal in the text and its row; `read_file` reads either, by its heading. `check_ports`
-//! and `check_file_ports` find the first row that names a port outside a set. `write_policy` and
-//! `write_change` return the text, which is read back to what was written if that has at most 2,000
-//! rows and ports below 64. Which bytes make a record is what the crate `csv` defines.
+//! and `check_policy_file_ports` find the first row that names a port outside a set. `write_policy`
+//! and `write_change` return the text, which is read back to what was written if that has at most
+//! 2,000 rows and ports below 64. Which bytes make a record is what the crate `csv` defines.
 //!
 //! ```text
 //! fn tidy(alloc: Global, text: &[u8], ports: u64) -> anyhow::Result<Vec<u8>> {
@@ -32,9 +32,9 @@ pub use file::{is_change, read_change, read_file};
 pub use policy_rules::{
     Action, Amendment, Edit, Policy, PolicyFile, PortRange, Prefix, Proto, Row,
 };
-pub use ports::{NoPort, check_file_ports, check_ports};
+pub use ports::{NoPort, check_policy_file_ports, check_ports};
 pub use read::read_policy;
-pub use row::read_row;
+pub use row::read_policy_file_row;
 pub use write::{
     change_texts_are_read_back, policy_texts_are_read_back, write_change, write_policy,
 };

@@ -1,5 +1,5 @@
 ghost use Rattle.std.specs.Prelude.{◌≡◌, ◌≤◌, Ok, IfOk, IfErr, All, length};
-ghost use Rattle.policy_rules.specs.Exports.{HasSmallRulePort, IsPolicy};
+ghost use Rattle.policy_rules.specs.Exports.{HasSmallActionPort, IsPolicy};
 ghost use Rattle.policy_file.specs.Reading.{policy_of};
 ghost use Rattle.base.specs.Refusals.{IsCallRefusal};
 
@@ -23,7 +23,7 @@ pub fn read_policy(alloc: Global, bytes: &[u8]) -> Result<Policy, PolicyError>
     ensures policy { IfOk result (λ policy. policy_of bytes.now ≡ Ok policy) }
     ensures sound { IfOk result IsPolicy }
     ensures few { IfOk result (λ policy. length policy ≤ 2000) }
-    ensures small_ports { IfOk result (All (λ row. HasSmallRulePort row.action)) }
+    ensures small_ports { IfOk result (All (λ row. HasSmallActionPort row.action)) }
     ensures refused { IfErr result (IsCallRefusal (policy_of bytes.now)) }
 {
     let Reading { rows, refusal } = read_policy_rows(alloc, bytes)?;

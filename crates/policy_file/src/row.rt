@@ -2,13 +2,13 @@ ghost use Rattle.std.specs.Prelude.{◌≡◌, ◌<◌, ◌+◌, ◌^◌, ◌&&�
 ghost use Rattle.csv.specs.Records.{fields_of};
 ghost use Rattle.csv_records.specs.Texts.{field_or_empty, is_heading};
 ghost use Rattle.five_tuple.specs.Texts.{number_up_to};
-ghost use Rattle.policy_rules.specs.Read.{HasSmallRulePort};
+ghost use Rattle.policy_rules.specs.Read.{HasSmallActionPort};
 ghost use Rattle.policy_file.specs.Reading.{policy_heading, csv_policy_row_read};
 
 use crate::error::PolicyRefusal;
 use csv_records::{ByteRecord, csv_field_has_text, field};
 use five_tuple::{read_number, read_prefix, read_proto, read_range};
-use policy_rules::{Row, read_action};
+use policy_rules::{Row, read_policy_rule_action};
 
 /// How many fields a row has.
 const WIDTH: usize = 7;
@@ -29,7 +29,7 @@ pub const PROTO: &str = "proto";
 pub const ACTION: &str = "action";
 
 // Whether the fields at this place and the next are these texts.
-fn csv_fields_are(fields: &ByteRecord, place: usize, one: &str, next: &str) -> bool
+fn policy_csv_fields_are(fields: &ByteRecord, place: usize, one: &str, next: &str) -> bool
     requires { place + 1 < 2 ^ 64 }
     ensures { result ≡ (bytes_eq (field_or_empty (fields_of fields.now) place) one.now
         && bytes_eq (field_or_empty (fields_of fields.now) (place + 1)) next.now) }
@@ -47,9 +47,9 @@ pub fn is_heading(fields: &ByteRecord, from: usize) -> bool
         return false;
     }
     csv_field_has_text(fields, from, PRIORITY)
-        && csv_fields_are(fields, from + 1, SRC, DST)
-        && csv_fields_are(fields, from + 3, SPORT, DPORT)
-        && csv_fields_are(fields, from + 5, PROTO, ACTION)
+        && policy_csv_fields_are(fields, from + 1, SRC, DST)
+        && policy_csv_fields_are(fields, from + 3, SPORT, DPORT)
+        && policy_csv_fields_are(fields, from + 5, PROTO, ACTION)
 }
 
 /// The priority that the field states, up to 4294967295; `None` if it states none.
@@ -66,9 +66,9 @@ pub fn read_priority(text: &[u8]) -> Option<u32>
 /// `Width` if there aren't seven fields from there on; otherwise the refusal of the first
 /// field that can't be read.
 #[tactic(auto, using(crate::proofs::PolicyFileRowFields::sevens))]
-pub fn read_row(fields: &ByteRecord, from: usize) -> Result<Row, PolicyRefusal>
+pub fn read_policy_file_row(fields: &ByteRecord, from: usize) -> Result<Row, PolicyRefusal>
     ensures row { result ≡ csv_policy_row_read (drop from (fields_of fields.now)) }
-    ensures small_port { IfOk result (λ row. HasSmallRulePort row.action) }
+    ensures small_port { IfOk result (λ row. HasSmallActionPort row.action) }
 {
     if fields.len() < from || fields.len() - from != WIDTH {
         return Err(PolicyRefusal::Width);
@@ -84,7 +84,7 @@ fn read_row_fields(fields: &ByteRecord, from: usize) -> Result<Row, PolicyRefusa
         ∷ field_or_empty all (from + 2) ∷ field_or_empty all (from + 3)
         ∷ field_or_empty all (from + 4) ∷ field_or_empty all (from + 5)
         ∷ field_or_empty all (from + 6) ∷ []) }
-    ensures small_port { IfOk result (λ row. HasSmallRulePort row.action) }
+    ensures small_port { IfOk result (λ row. HasSmallActionPort row.action) }
 {
     Ok(Row {
         priority: read_priority(field(fields, from)).ok_or(PolicyRefusal::Priority)?,
@@ -93,6 +93,6 @@ fn read_row_fields(fields: &ByteRecord, from: usize) -> Result<Row, PolicyRefusa
         sport: read_range(field(fields, from + 3)).ok_or(PolicyRefusal::Sport)?,
         dport: read_range(field(fields, from + 4)).ok_or(PolicyRefusal::Dport)?,
         proto: read_proto(field(fields, from + 5)).ok_or(PolicyRefusal::Proto)?,
-        action: read_action(field(fields, from + 6)).ok_or(PolicyRefusal::Action)?,
+        action: read_policy_rule_action(field(fields, from + 6)).ok_or(PolicyRefusal::Action)?,
     })
 }

@@ -2,17 +2,17 @@ ghost use Rattle.std.specs.Prelude.{ℕ, ◌≡◌, ◌<◌, ◌≤◌, ◌^◌,
 ghost use Rattle.std.specs.List.{join_with_byte};
 ghost use Rattle.std.specs.String.{string_bytes};
 ghost use Rattle.five_tuple.specs.Texts.{number_up_to};
-ghost use Rattle.policy_rules.specs.Exports.{EditAddsOnly, HasSmallRulePort, IsAmendment, IsPolicy, IsSoundRow};
+ghost use Rattle.policy_rules.specs.Exports.{EditAddsOnly, HasSmallActionPort, IsAmendment, IsPolicy, IsSoundPolicyRow};
 ghost use Rattle.policy_rules.specs.declared.amendment.Edit.{Edit};
 ghost use Rattle.policy_rules.specs.declared.file.PolicyFile.TheVariants.{Whole, Change};
 ghost use Rattle.policy_rules.specs.declared.policy.Row.{Row};
 ghost use Rattle.policy_file.specs.Changes.{change_heading, csv_change_of, policy_file_of};
-ghost use Rattle.policy_file.specs.Printing.{policy_change_text, edit_fields, policy_fields_line, policy_text, row_fields, rows_text};
+ghost use Rattle.policy_file.specs.Printing.{policy_change_text, policy_file_edit_fields, policy_fields_line, policy_text, row_fields, rows_text};
 ghost use Rattle.policy_file.specs.Reading.{policy_heading, policy_of, csv_policy_row_read};
 
 use crate::edit::{ADD, REMOVE};
-use five_tuple::{printed_fields_are_plain, printed_fields_are_read_back};
-use policy_rules::{Amendment, Edit, Policy, Row, printed_actions_are_read_back};
+use five_tuple::{tuple_fields_print_plain, tuple_fields_read_back};
+use policy_rules::{Amendment, Edit, Policy, Row, printed_rule_actions_read_back};
 use std::alloc::{AllocError, Global};
 use std::fmt;
 use std::fmt::Write;
@@ -24,10 +24,10 @@ use std::fmt::Write;
 pub fn write_policy(alloc: Global, policy: &Policy) -> Result<Vec<u8>, AllocError>
     ensures text { IfOk result (λ bytes. bytes.items ≡ policy_text policy.now) }
     ensures read_back { IfOk result (λ bytes. length policy.now ≤ 2000
-        → All (λ row. HasSmallRulePort row.action) policy.now → policy_of bytes.items ≡ Ok policy.now) }
+        → All (λ row. HasSmallActionPort row.action) policy.now → policy_of bytes.items ≡ Ok policy.now) }
 {
     policy_texts_are_read_back();
-    Ok(text_of(alloc, policy.rows())?)
+    Ok(policy_csv_text_of(alloc, policy.rows())?)
 }
 
 /// The change's text: the heading and a record for each edit, each with a line feed at its end.
@@ -37,49 +37,49 @@ pub fn write_policy(alloc: Global, policy: &Policy) -> Result<Vec<u8>, AllocErro
 pub fn write_change(alloc: Global, change: &Amendment) -> Result<Vec<u8>, AllocError>
     ensures text { IfOk result (λ bytes. bytes.items ≡ policy_change_text change.now) }
     ensures read_back { IfOk result (λ bytes. length change.now ≤ 2000
-        → All (EditAddsOnly (λ row. HasSmallRulePort row.action)) change.now
+        → All (EditAddsOnly (λ row. HasSmallActionPort row.action)) change.now
         → policy_file_of bytes.items ≡ Ok (Change change.now)) }
 {
     change_texts_are_read_back();
-    Ok(text_of(alloc, change.edits())?)
+    Ok(policy_csv_text_of(alloc, change.edits())?)
 }
 
 /// The text of a policy is read back to the policy, for at most 2,000 rows with ports below 64: a
 /// law about the texts only.
 pub fn policy_texts_are_read_back()
     ensures policy { (rows : List Row) → IsPolicy rows → length rows ≤ 2000
-        → All (λ row. HasSmallRulePort row.action) rows → policy_of (policy_text rows) ≡ Ok rows }
+        → All (λ row. HasSmallActionPort row.action) rows → policy_of (policy_text rows) ≡ Ok rows }
     ensures file { (rows : List Row) → IsPolicy rows → length rows ≤ 2000
-        → All (λ row. HasSmallRulePort row.action) rows
+        → All (λ row. HasSmallActionPort row.action) rows
         → policy_file_of (policy_text rows) ≡ Ok (Whole rows) }
 {
     row_fields_state_the_row();
-    printed_fields_are_plain();
+    tuple_fields_print_plain();
 }
 
 /// The text of a change is read back to the change, for at most 2,000 edits that add rows with
 /// ports below 64: a law about the texts only.
 pub fn change_texts_are_read_back()
     ensures change { (edits : List Edit) → IsAmendment edits → length edits ≤ 2000
-        → All (EditAddsOnly (λ row. HasSmallRulePort row.action)) edits
+        → All (EditAddsOnly (λ row. HasSmallActionPort row.action)) edits
         → csv_change_of (policy_change_text edits) ≡ Ok edits }
     ensures file { (edits : List Edit) → IsAmendment edits → length edits ≤ 2000
-        → All (EditAddsOnly (λ row. HasSmallRulePort row.action)) edits
+        → All (EditAddsOnly (λ row. HasSmallActionPort row.action)) edits
         → policy_file_of (policy_change_text edits) ≡ Ok (Change edits) }
 {
     row_fields_state_the_row();
     priorities_are_read_back();
-    printed_fields_are_plain();
+    tuple_fields_print_plain();
 }
 
 // The printed fields of a row whose port is below 64 state the row: a law about the texts only.
 fn row_fields_state_the_row()
-    ensures { (row : Row) → IsSoundRow row → HasSmallRulePort row.action
+    ensures { (row : Row) → IsSoundPolicyRow row → HasSmallActionPort row.action
         → csv_policy_row_read (row_fields row) ≡ Ok row }
 {
     priorities_are_read_back();
-    printed_fields_are_read_back();
-    printed_actions_are_read_back();
+    tuple_fields_read_back();
+    printed_rule_actions_read_back();
 }
 
 // A priority is read back from its digits: a law about the texts only.
@@ -87,11 +87,11 @@ fn priorities_are_read_back()
     ensures { (priority : ℕ) → priority < 2 ^ 32
         → number_up_to 4294967295 (decimal priority) ≡ Some priority }
 {
-    printed_fields_are_read_back();
+    tuple_fields_read_back();
 }
 
 // A row that is written as a CSV record.
-trait CsvRecord {
+trait PolicyFileRecord {
     /// The heading of such records.
     ghost heading: { List (List ℕ) };
 
@@ -109,7 +109,7 @@ trait CsvRecord {
             (string_bytes text.new ≡ string_bytes text.old ++ policy_fields_line (fields self.now)) };
 }
 
-impl CsvRecord for Row {
+impl PolicyFileRecord for Row {
     ghost heading = { policy_heading };
 
     ghost fields = { row_fields };
@@ -125,10 +125,10 @@ impl CsvRecord for Row {
     }
 }
 
-impl CsvRecord for Edit {
+impl PolicyFileRecord for Edit {
     ghost heading = { change_heading };
 
-    ghost fields = { edit_fields };
+    ghost fields = { policy_file_edit_fields };
 
     fn write_heading(text: &mut String) -> Result<(), AllocError> {
         text.push_str("op,priority,src,dst,sport,dport,proto,action\n")
@@ -147,18 +147,21 @@ impl CsvRecord for Edit {
 }
 
 // The heading's line, and then a line for each row.
-fn text_of<R: CsvRecord>(alloc: Global, rows: &[R]) -> Result<Vec<u8>, AllocError>
+fn policy_csv_text_of<R: PolicyFileRecord>(alloc: Global, rows: &[R]) -> Result<Vec<u8>, AllocError>
     ensures { IfOk result (λ bytes.
         bytes.items ≡ policy_fields_line R.heading ++ rows_text R.fields rows.now) }
 {
     let mut text = String::new(alloc);
     R::write_heading(&mut text)?;
-    write_csv_rows(&mut text, rows)?;
+    write_policy_csv_rows(&mut text, rows)?;
     Ok(text.into_bytes())
 }
 
 // Appends a line for each row.
-fn write_csv_rows<R: CsvRecord>(text: &mut String, rows: &[R]) -> Result<(), AllocError>
+fn write_policy_csv_rows<R: PolicyFileRecord>(
+    text: &mut String,
+    rows: &[R],
+) -> Result<(), AllocError>
     ensures { OnOk result
         (string_bytes text.new ≡ string_bytes text.old ++ rows_text R.fields rows.now) }
 {

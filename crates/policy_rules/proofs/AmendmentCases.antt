@@ -2,7 +2,7 @@
 use Rattle.std.proofs.Common.{[], ◌&&◌, ◌+◌, ◌<◌, ◌||◌, ◌∙◌, ◌∷◌, ◌≡◌, ◌≢◌, ◌≤◌, ◌⊎◌, All, AllPairs, Bool, Contains, Err, List, Ok, Result, ap, arith, cond, count_by, eq-eqb, eqb, false, filter, inl, inr, le-ltb, length, lt-ltb, ltb, ltb-false, map, not, refl, subst, suc, sym, true, ℕ, rules}
 use Rattle.base.proofs.Exports.{All-append, All-cons, All-contains_itself, All-filter, All-nil, All-weaker, AllPairs-append, AllPairs-filter, AllPairs-map, Decides-eqb, IsDistinct, IsDistinct-from_AllPairs, IsIntersection, any-filter_same, any_key, count_by-le-length, exact_unsigned_eq, is_member, length-IsIntersection, length-filter_both, length-map, list_all, list_any, list_any_at, nat_eq_equiv, nat_tests, sum_by-cons}
 use Rattle.policy_rules.specs.declared.policy.Row.{Row}
-use Rattle.policy_rules.specs.Exports.{EditAddsOnly, HaveDistinctPriorities, IsAmendment, IsPolicy, IsSoundEdit, IsSoundRow, additions, adds_taken, amended_rows, applied, has_priority, removals, removes, removes_absent, rows_after_removal}
+use Rattle.policy_rules.specs.Exports.{EditAddsOnly, HaveDistinctPriorities, IsAmendment, IsPolicy, IsSoundEdit, IsSoundPolicyRow, additions, adds_taken, amended_rows, applied, has_priority, removals, removes, removes_absent, rows_after_removal}
 use Rattle.policy_rules.proofs.PolicyRowWords.{eqb_sym}
 use Rattle.policy_rules.specs.declared.amendment.Edit.{Edit}
 use Rattle.policy_rules.specs.declared.amendment.Edit.TheVariants.{Remove, Add}
@@ -79,11 +79,11 @@ All-additions P (Add row ∷ edits) only = All-cons P row (additions edits)
     (All-additions P edits (λ k d within. only (suc k) d (omega arith)))
 
 -- the rows that sound edits add are sound
-pub additions_sound : (edits : List Edit) → All IsSoundEdit edits → All IsSoundRow (additions edits)
-additions_sound edits sound = All-additions IsSoundRow edits
-    (All-weaker IsSoundEdit (EditAddsOnly IsSoundRow) by_edit edits sound)
+pub additions_sound : (edits : List Edit) → All IsSoundEdit edits → All IsSoundPolicyRow (additions edits)
+additions_sound edits sound = All-additions IsSoundPolicyRow edits
+    (All-weaker IsSoundEdit (EditAddsOnly IsSoundPolicyRow) by_edit edits sound)
   where
-    by_edit : (edit : Edit) → IsSoundEdit edit → EditAddsOnly IsSoundRow edit
+    by_edit : (edit : Edit) → IsSoundEdit edit → EditAddsOnly IsSoundPolicyRow edit
     by_edit (Remove priority) sound = tt
     by_edit (Add row) sound = sound
 
@@ -97,8 +97,8 @@ pub IsPolicy-amended : (rows : List Row) (change : List Edit) → IsPolicy rows 
     → IsPolicy (amended_rows rows change)
 IsPolicy-amended rows change policy amendment free few =
     let stays : Row → Bool = λ row. not (removes change row.priority) in record {
-      sound = All-append IsSoundRow (rows_after_removal rows change) (additions change)
-          (All-filter stays IsSoundRow rows policy.sound) (additions_sound change amendment.sound);
+      sound = All-append IsSoundPolicyRow (rows_after_removal rows change) (additions change)
+          (All-filter stays IsSoundPolicyRow rows policy.sound) (additions_sound change amendment.sound);
       distinct = AllPairs-append (λ (x y : Row). x.priority ≢ y.priority) (rows_after_removal rows change)
           (additions change)
           (AllPairs-filter (λ (x y : Row). x.priority ≢ y.priority) stays rows policy.distinct)

@@ -2,7 +2,7 @@
 use Rattle.std.proofs.Common.{[], ◌++◌, ◌+◌, ◌<◌, ◌||◌, ◌∙◌, ◌∷◌, ◌≡◌, ◌≢◌, AllPairs, Bool, List, ap, arith, cond, drop, eq-eqb, eqb, false, get_or, get_or-take, length, length-take, map, ne_eqb, refl, subst, sym, take, take-append-drop, take-take, true, ℕ, rules}
 use Rattle.base.proofs.Exports.{all_pairs_push, drop_more, filter_map-append, list_any-append, list_any_at, list_any_none, pairs_before}
 use Rattle.policy_rules.specs.declared.policy.Row.{Row}
-use Rattle.policy_rules.specs.Exports.{AreDistinctEdits, AreEditsSeen, HaveDistinctPriorities, policy_addition, additions, edits_of, removal, removals, repeats}
+use Rattle.policy_rules.specs.Exports.{AreDistinctEdits, AreEditsSeen, HaveDistinctPriorities, policy_addition, additions, edits_of, policy_removal, removals, repeats}
 use Rattle.policy_rules.proofs.PolicyDistinctRows.{distinct_push}
 use Rattle.policy_rules.specs.declared.amendment.Edit.{Edit}
 use Rattle.policy_rules.specs.declared.amendment.Edit.TheVariants.{Remove, Add}
@@ -11,7 +11,7 @@ use Rattle.policy_rules.specs.declared.amendment.Edit.TheVariants.{Remove, Add}
 
 removals_remove : (edits : List Edit) (priority : ℕ) → removals (edits ++ Remove priority ∷ [])
     ≡ removals edits ++ priority ∷ []
-removals_remove edits priority = filter_map-append removal edits (Remove priority ∷ [])
+removals_remove edits priority = filter_map-append policy_removal edits (Remove priority ∷ [])
 
 removals_add : (edits : List Edit) (row : Row) → removals (edits ++ Add row ∷ []) ≡ removals edits
 removals_add edits row = search (rules, filter_map-append)
@@ -94,7 +94,7 @@ fresh_before : (earlier later : List Edit) (edit : Edit)
 fresh_before earlier later (Remove priority) distinct = list_any_none (λ x. eqb x priority)
     (removals earlier) (λ k d within. ne_eqb _ _
     (pairs_before (λ (x y : ℕ). x ≢ y) (removals earlier) priority (removals later)
-    (rw (filter_map-append removal earlier (Remove priority ∷ later)) at distinct.removed_once) k d
+    (rw (filter_map-append policy_removal earlier (Remove priority ∷ later)) at distinct.removed_once) k d
     within))
 fresh_before earlier later (Add row) distinct =
     list_any_none (λ (x : Row). eqb x.priority row.priority) (additions earlier)

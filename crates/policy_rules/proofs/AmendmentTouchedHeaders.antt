@@ -5,7 +5,7 @@ use Rattle.five_tuple.specs.Exports.{IsHeader, fields_of, number_of}
 use Rattle.five_tuple.specs.declared.header.Header.{Header}
 use Rattle.ternary.specs.Exports.{WordValue, holds, meets}
 use Rattle.ternary.proofs.TernaryCallerLemmas.{held_meets}
-use Rattle.policy_rules.specs.Exports.{HaveDistinctPriorities, IsAmendment, IsFirstMatch, IsPolicy, IsSoundRow, additions, amended_rows, applied, highest_row, hit_of, removals, removed_rows, removes, row_matches, scan, rows_after_removal, touched_policy_rows, touched_policy_words, words_of_row}
+use Rattle.policy_rules.specs.Exports.{HaveDistinctPriorities, IsAmendment, IsFirstMatch, IsPolicy, IsSoundPolicyRow, additions, amended_rows, applied, highest_row, hit_of, removals, removed_rows, removes, policy_row_matches, scan, rows_after_removal, touched_policy_rows, touched_policy_words, words_of_row}
 use Rattle.policy_rules.specs.declared.amendment.Edit.{Edit}
 use Rattle.policy_rules.specs.declared.policy.Row.{Row}
 use Rattle.policy_rules.proofs.AmendmentCases.{additions_sound, can_apply}
@@ -95,12 +95,12 @@ passes_same p rows change distinct none =
 
 pub scan-untouched : (rows after : List Row) (change : List Edit) (header : Header)
     → IsPolicy rows → applied rows change ≡ Ok after
-    → All (λ row. IsFalse (row_matches row (fields_of header))) (touched_policy_rows rows change)
+    → All (λ row. IsFalse (policy_row_matches row (fields_of header))) (touched_policy_rows rows change)
     → scan after header ≡ scan rows header
 scan-untouched rows after change header policy is none =
     ap (λ rows. scan rows header) (sym (can_apply rows after change is).is)
     ∙ ap (λ matching. hit_of (highest_row matching))
-    (passes_same (λ row. row_matches row (fields_of header)) rows change policy.distinct none)
+    (passes_same (λ row. policy_row_matches row (fields_of header)) rows change policy.distinct none)
 
 pub first_match-amended : (rows after : List Row) (change : List Edit) (header : Header)
     → applied rows change ≡ Ok after
@@ -113,9 +113,9 @@ first_match-amended rows after change header is =
 
 -- a row whose words are apart from a word matches no header of it
 unmatched : (word : WordValue) (header : Header) → IsHeader header
-    → IsTrue (holds word (number_of header)) → (row : Row) → IsSoundRow row
+    → IsTrue (holds word (number_of header)) → (row : Row) → IsSoundPolicyRow row
     → All (λ touched. IsFalse (meets word touched)) (words_of_row row)
-    → IsFalse (row_matches row (fields_of header))
+    → IsFalse (policy_row_matches row (fields_of header))
 unmatched word header bits held row sound words_apart =
     sym (holds-words_of_row row header sound bits)
     ∙ list_any_none (λ w. holds w (number_of header)) (words_of_row row)
@@ -133,8 +133,8 @@ pub scan-apart : (rows after : List Row) (change : List Edit) (word : WordValue)
     → IsTrue (holds word (number_of header)) → scan after header ≡ scan rows header
 scan-apart rows after change word header policy amendment bits is words_apart held =
     let touched = touched_policy_rows rows change in
-    let sound = All-append IsSoundRow (removed_rows rows change) (additions change)
-    (All-removed IsSoundRow rows (removals change) policy.sound)
+    let sound = All-append IsSoundPolicyRow (removed_rows rows change) (additions change)
+    (All-removed IsSoundPolicyRow rows (removals change) policy.sound)
     (additions_sound change amendment.sound) in
     let parts = All-flat_map_parts (λ w. IsFalse (meets word w)) words_of_row touched words_apart in
     scan-untouched rows after change header policy is

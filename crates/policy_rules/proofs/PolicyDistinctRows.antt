@@ -2,7 +2,7 @@
 use Rattle.std.proofs.Common.{[], ◌++◌, ◌+◌, ◌<◌, ◌^◌, ◌||◌, ◌∙◌, ◌∷◌, ◌≡◌, ◌≢◌, ◌≤◌, All, Bool, List, ap, cond, eq-eqb, eqb, false, get_or, length, subst, sym, take, take_all, true, ℕ, rules}
 use Rattle.base.proofs.Exports.{All-more, all_pairs_push, get_or_default, list_any-from_Any, list_any_more, take_more}
 use Rattle.policy_rules.specs.declared.policy.Row.{Row}
-use Rattle.policy_rules.specs.Exports.{HaveDistinctPriorities, IsPolicy, IsSoundRow, has_priority}
+use Rattle.policy_rules.specs.Exports.{HaveDistinctPriorities, IsPolicy, IsSoundPolicyRow, has_priority}
 
 or_from_cond : (a b : Bool) → cond a true b ≡ (b || a)
 or_from_cond a b = search rules
@@ -38,21 +38,21 @@ distinct_more rows i row within is distinct new =
 
 -- the first rows are as those of a policy are
 pub record AreSoFar (rows : List Row) (i : ℕ) : Type 0 where
-  pub sound : All IsSoundRow (take i rows)
+  pub sound : All IsSoundPolicyRow (take i rows)
   pub distinct : HaveDistinctPriorities (take i rows)
 
 pub so_far_more : (rows : List Row) (i : ℕ) (row : Row) → i < length rows
-    → row ≡ get_or rows i row → AreSoFar rows i → IsSoundRow row
+    → row ≡ get_or rows i row → AreSoFar rows i → IsSoundPolicyRow row
     → has_priority (take i rows) row.priority ≡ false → AreSoFar rows (i + 1)
 so_far_more rows i row within is so_far sound new = record {
-  sound = All-more IsSoundRow rows i row within so_far.sound (subst IsSoundRow is sound);
+  sound = All-more IsSoundPolicyRow rows i row within so_far.sound (subst IsSoundPolicyRow is sound);
   distinct = distinct_more rows i row within is so_far.distinct new;
 }
 
 pub so_far_all : (rows : List Row) (i : ℕ) → length rows ≤ i → length rows < 2 ^ 32
     → AreSoFar rows i → IsPolicy rows
 so_far_all rows i past few so_far = let all = take_all i rows past in record {
-  sound = subst (All IsSoundRow) all so_far.sound;
+  sound = subst (All IsSoundPolicyRow) all so_far.sound;
   distinct = subst HaveDistinctPriorities all so_far.distinct;
   few = few;
 }

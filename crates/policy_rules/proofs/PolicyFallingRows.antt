@@ -2,7 +2,7 @@
 use Rattle.std.proofs.Common.{[], ◌&&◌, ◌++◌, ◌+◌, ◌<◌, ◌^◌, ◌∙◌, ◌∷◌, ◌≡◌, ◌≢◌, ◌≤◌, All, Bool, Contains, IsPermutation, IsSortedBy, List, MatchOption, None, Option, Some, ap, arith, cond, eq-eqb, eqb, eqb-true, false, filter, find, get_or, is_lt, le-ltb, lt-ltb, ltb, ltb-true, nat_cmp, not, refl, subst, suc, sum_by, sym, true, zero, ℕ}
 use Rattle.base.proofs.Exports.{All-append, All-cons, All-contains, All-contains_itself, All-filter, All-head, All-nil, All-permutation, All-tail, AllPairs-cons, AllPairs-filter, Contains-append_right, Contains-permutation, IsPermutation-append_right, IsPermutation-filter_both, IsPermutation-refl, IsPermutation-sym, IsPermutation-trans, filter_all, filter_filter, filter_passes, ge_from_not_lt, nat_tests, sum_by-IsPermutation, sum_by-cons}
 use Rattle.policy_rules.specs.declared.policy.Row.{Row}
-use Rattle.policy_rules.specs.Exports.{HaveDistinctPriorities, IsPriorityFalling, IsHighestIn, IsSoundRow, by_falling_priority, policy_rows_falling_below, highest_row}
+use Rattle.policy_rules.specs.Exports.{HaveDistinctPriorities, IsPriorityFalling, IsHighestIn, IsSoundPolicyRow, by_falling_priority, policy_rows_falling_below, highest_row}
 use Rattle.policy_rules.proofs.PolicyFirstMatch.{highest_is, one_of_priority}
 
 -- ---- the rows below a priority are a permutation of them
@@ -38,7 +38,7 @@ moved_below (suc p) rows =
     (IsPermutation-append_right (filter has rows) (filter (below p) rows) (policy_rows_falling_below p rows)
     (moved_below p rows))
 
-pub IsPermutation-by_falling_priority : (rows : List Row) → All IsSoundRow rows
+pub IsPermutation-by_falling_priority : (rows : List Row) → All IsSoundPolicyRow rows
     → IsPermutation rows (by_falling_priority rows)
 unfolding by_falling_priority
 IsPermutation-by_falling_priority rows sound =
@@ -132,7 +132,7 @@ same_falling P one (x ∷ xs) (y ∷ ys) f g p q counts =
     cc
 
 -- rows of distinct priorities in falling order are the defined list
-pub same_sorted : (rows sorted : List Row) → All IsSoundRow rows → HaveDistinctPriorities rows
+pub same_sorted : (rows sorted : List Row) → All IsSoundPolicyRow rows → HaveDistinctPriorities rows
     → IsPermutation rows sorted → IsPriorityFalling sorted → sorted ≡ by_falling_priority rows
 same_sorted rows sorted sound distinct moved falling =
     let all = All-contains_itself rows in
@@ -212,7 +212,7 @@ in_filter p (row ∷ rows) = by_case (p row) refl (in_filter p rows) where
       (λ passes. absurd (cc)) rest
 
 -- among rows by falling priority the first that passes is the highest
-pub find-by_falling_priority : (p : Row → Bool) (rows : List Row) → All IsSoundRow rows
+pub find-by_falling_priority : (p : Row → Bool) (rows : List Row) → All IsSoundPolicyRow rows
     → HaveDistinctPriorities rows → find p (by_falling_priority rows) ≡ highest_row (filter p rows)
 unfolding FirstPasses
 find-by_falling_priority p rows sound distinct = by_case (find p (by_falling_priority rows))

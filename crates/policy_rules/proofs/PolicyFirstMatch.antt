@@ -6,7 +6,7 @@ use Rattle.five_tuple.specs.declared.header.Header.{Header}
 use Rattle.policy_rules.specs.declared.policy.Action.{Action}
 use Rattle.policy_rules.specs.declared.policy.Hit.{Hit}
 use Rattle.policy_rules.specs.declared.policy.Row.{Row}
-use Rattle.policy_rules.specs.Exports.{HaveDistinctPriorities, IsFirstMatch, IsHighestIn, highest_row, hit_of, is_highest_row, row_matches, scan}
+use Rattle.policy_rules.specs.Exports.{HaveDistinctPriorities, IsFirstMatch, IsHighestIn, highest_row, hit_of, is_highest_row, policy_row_matches, scan}
 
 -- ---- the highest of some rows
 
@@ -102,8 +102,8 @@ highest_of (row ∷ rows) = by_case (top_of row rows) (find (is_highest_row (row
         record { member = there; highest = bounds (row ∷ rows) found test }
 
 first_match_of : (rows : List Row) (header : Header) (best : Option Row)
-    → MatchOption best (filter (λ row. row_matches row (fields_of header)) rows ≡ [])
-    (IsHighestIn (filter (λ row. row_matches row (fields_of header)) rows))
+    → MatchOption best (filter (λ row. policy_row_matches row (fields_of header)) rows ≡ [])
+    (IsHighestIn (filter (λ row. policy_row_matches row (fields_of header)) rows))
     → IsFirstMatch rows header (hit_of best)
 first_match_of rows header best none = search rules
 
@@ -122,7 +122,7 @@ first_match_by rows header None action distinct (none, drop) = cc (drop, none)
 first_match_by rows header (Some priority) action distinct (row, is, names, acts) =
     ap (λ n. hit_with (Some n) action) (sym names) ∙ ap (hit_with (Some row.priority)) (sym acts)
     ∙ sym (ap hit_of (highest_is _ row (AllPairs-filter (λ (x y : Row). x.priority ≢ y.priority)
-    (λ x. row_matches x (fields_of header)) rows distinct) is))
+    (λ x. policy_row_matches x (fields_of header)) rows distinct) is))
 
 -- rows of distinct priorities have one first match
 pub first_match-only : (rows : List Row) (header : Header) (hit : Hit) → HaveDistinctPriorities rows

@@ -8,7 +8,7 @@ use Rattle.five_tuple.specs.declared.matching.Proto.{Proto}
 use Rattle.five_tuple.specs.declared.matching.Proto.TheVariants.{Any, Is}
 use Rattle.ternary.specs.Exports.{IsWord, holds}
 use Rattle.policy_rules.specs.declared.policy.Row.{Row}
-use Rattle.policy_rules.specs.Exports.{IsSoundRow, rule_prefix_mask, rule_proto_mask, rule_proto_value, word_of_row}
+use Rattle.policy_rules.specs.Exports.{IsSoundPolicyRow, rule_prefix_mask, rule_proto_mask, rule_proto_value, word_of_row}
 use Rattle.five_tuple.proofs.FiveTupleCallerLemmas.{HasBits, and_packed, masked_packed}
 
 -- the address of a block has no bit past those that the block fixes
@@ -51,25 +51,25 @@ masked_proto (Is this) number small bound =
     ap (λ n. eqb n this) (and_high_mask 8 0 (omega arith) number bound ∙ omega arith)
     ∙ eqb_sym number this
 
-value_bits : (row : Row) (source destination : Block) → IsSoundRow row → IsPortBlock source
+value_bits : (row : Row) (source destination : Block) → IsSoundPolicyRow row → IsPortBlock source
     → IsPortBlock destination → HasBits row.dst.address source.0 destination.0
     (rule_proto_value row.proto)
 value_bits row source destination sound s d = search (rules, proto_bound)
 
-mask_bits : (row : Row) (source destination : Block) → IsSoundRow row → IsPortBlock source
+mask_bits : (row : Row) (source destination : Block) → IsSoundPolicyRow row → IsPortBlock source
     → IsPortBlock destination → HasBits (rule_prefix_mask row.dst) source.1 destination.1
     (rule_proto_mask row.proto)
 mask_bits row source destination sound s d = search (rules, mask_bound, proto_bound)
 
 -- no bit of the value is outside the mask, and the mask has the bits of a header's number
-pub IsWord-word_of_row : (row : Row) (source destination : Block) → IsSoundRow row
+pub IsWord-word_of_row : (row : Row) (source destination : Block) → IsSoundPolicyRow row
     → IsPortBlock source → IsPortBlock destination → IsWord (word_of_row row source destination)
 unfolding word_of_row
 IsWord-word_of_row row source destination sound s d =
     search (rules, mask_bits, and_packed, value_bits, prefix_within, proto_within, mask_bound)
 
 -- the word holds a header that the row matches by addresses and protocol, with ports in the blocks
-pub holds-word_of_row : (row : Row) (source destination : Block) (h : Header) → IsSoundRow row
+pub holds-word_of_row : (row : Row) (source destination : Block) (h : Header) → IsSoundPolicyRow row
     → IsPortBlock source → IsPortBlock destination → IsHeader h →
     holds (word_of_row row source destination) (number_of h)
     ≡ (prefix_matches row.src (fields_of h).src && prefix_matches row.dst (fields_of h).dst

@@ -7,7 +7,7 @@ use Rattle.five_tuple.specs.declared.header.Header.{Header}
 use Rattle.ternary.specs.Exports.{WordValue, any_word, holds}
 use Rattle.policy_rules.specs.declared.policy.Row.{Row}
 use Rattle.policy_rules.specs.declared.policy.Hit.{Hit}
-use Rattle.policy_rules.specs.Exports.{IsPolicy, IsSoundRow, by_falling_priority, policy_row_word_hits, first_rule, hit_of, policy_hit_of_rule, is_held, rules_ranked_from, row_matches, rules_of, scan, with_default, policy_words_with_hit, word_of_row, words_of_row}
+use Rattle.policy_rules.specs.Exports.{IsPolicy, IsSoundPolicyRow, by_falling_priority, policy_row_word_hits, first_rule, hit_of, policy_hit_of_rule, is_held, rules_ranked_from, policy_row_matches, rules_of, scan, with_default, policy_words_with_hit, word_of_row, words_of_row}
 use Rattle.policy_rules.proofs.PolicyRowWords.{holds-word_of_row}
 use Rattle.policy_rules.proofs.PolicyFallingRows.{IsPermutation-by_falling_priority, find-by_falling_priority}
 
@@ -38,8 +38,8 @@ none_passes : (a b : Bool) → (a && false && b) ≡ false
 none_passes a b = search rules
 
 -- some word of the row holds a header where the row matches it
-pub holds-words_of_row : (row : Row) (h : Header) → IsSoundRow row → IsHeader h
-    → list_any (λ word. holds word (number_of h)) (words_of_row row) ≡ row_matches row (fields_of h)
+pub holds-words_of_row : (row : Row) (h : Header) → IsSoundPolicyRow row → IsHeader h
+    → list_any (λ word. holds word (number_of h)) (words_of_row row) ≡ policy_row_matches row (fields_of h)
 holds-words_of_row row h sound bits =
     let f = fields_of h in
     let n = number_of h in
@@ -64,8 +64,8 @@ holds-words_of_row row h sound bits =
     (λ k d within. inner (get_or (cover_of row.sport) k d) (sources.masked k d within))
     ∙ rw (sources.exact f.sport bits.sport, destinations.exact f.dport bits.dport) refl
 
-found-row : (row : Row) (h : Header) → IsSoundRow row → IsHeader h
-    → found (number_of h) (policy_row_word_hits row) ≡ cond (row_matches row (fields_of h))
+found-row : (row : Row) (h : Header) → IsSoundPolicyRow row → IsHeader h
+    → found (number_of h) (policy_row_word_hits row) ≡ cond (policy_row_matches row (fields_of h))
     (Some (hit_of (Some row))) None
 found-row row h sound bits = found-policy_words_with_hit (number_of h) row (words_of_row row)
     ∙ ap (λ b. cond b (Some (hit_of (Some row))) None) (holds-words_of_row row h sound bits)
@@ -76,22 +76,22 @@ holds-any_word : (n : ℕ) → holds any_word n ≡ true
 unfolding holds
 holds-any_word n = eq-eqb (bit_and n 0) 0 (and_zero_r n)
 
-found-rows : (rows : List Row) (h : Header) → All IsSoundRow rows → IsHeader h
+found-rows : (rows : List Row) (h : Header) → All IsSoundPolicyRow rows → IsHeader h
     → found (number_of h) (with_default rows) ≡ Some
-    (hit_of (find (λ row. row_matches row (fields_of h)) rows))
+    (hit_of (find (λ row. policy_row_matches row (fields_of h)) rows))
 found-rows [] h sound bits = cc (holds-any_word (number_of h))
 found-rows (row ∷ rows) h sound bits =
     let n = number_of h in
     let here = found-row row h (sound 0 row (omega arith)) bits in
-    let there = found-rows rows h (All-tail IsSoundRow row rows sound) bits in
+    let there = found-rows rows h (All-tail IsSoundPolicyRow row rows sound) bits in
     ap (found n) (append_assoc (policy_row_word_hits row) (flat_map policy_row_word_hits rows)
     ((any_word, hit_of None) ∷ []))
     ∙ found-append n (policy_row_word_hits row) (with_default rows)
-    ∙ rw (here, there) (by_case (row_matches row (fields_of h)))
+    ∙ rw (here, there) (by_case (policy_row_matches row (fields_of h)))
   where
     by_case : (b : Bool) → option_or (cond b (Some (hit_of (Some row))) None)
-        (Some (hit_of (find (λ row. row_matches row (fields_of h)) rows))) ≡ Some
-        (hit_of (cond b (Some row) (find (λ row. row_matches row (fields_of h)) rows)))
+        (Some (hit_of (find (λ row. policy_row_matches row (fields_of h)) rows))) ≡ Some
+        (hit_of (cond b (Some row) (find (λ row. policy_row_matches row (fields_of h)) rows)))
     by_case true = refl
     by_case false = refl
 
@@ -100,10 +100,10 @@ pub first_rule-rules_of : (rows : List Row) (h : Header) → IsPolicy rows → I
     → option_map policy_hit_of_rule (first_rule (rules_of rows) h) ≡ Some (scan rows h)
 unfolding rules_of
 first_rule-rules_of rows h policy bits =
-    let sorted = All-permutation IsSoundRow rows (by_falling_priority rows)
+    let sorted = All-permutation IsSoundPolicyRow rows (by_falling_priority rows)
     (IsPermutation-by_falling_priority rows policy.sound) policy.sound in
     found-ranked (number_of h) 0 (with_default (by_falling_priority rows))
     ∙ found-rows (by_falling_priority rows) h sorted bits
     ∙ ap (λ best. Some (hit_of best))
-    (find-by_falling_priority (λ row. row_matches row (fields_of h)) rows policy.sound
+    (find-by_falling_priority (λ row. policy_row_matches row (fields_of h)) rows policy.sound
     policy.distinct)

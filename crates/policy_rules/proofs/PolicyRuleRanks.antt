@@ -5,7 +5,7 @@ use Rattle.ternary.specs.Exports.{WordValue}
 use Rattle.policy_rules.specs.declared.policy.Hit.{Hit}
 use Rattle.policy_rules.specs.declared.policy.Row.{Row}
 use Rattle.policy_rules.specs.declared.rules.Rule.{Rule}
-use Rattle.policy_rules.specs.Exports.{policy_row_word_hits, rules_ranked_from, ranked_rule, policy_words_with_hit, policy_row_word_count, word_of_row, rule_word_total, words_of_row}
+use Rattle.policy_rules.specs.Exports.{policy_row_word_hits, rules_ranked_from, ranked_rule, policy_words_with_hit, policy_row_word_count, word_of_row, policy_row_word_total, words_of_row}
 use Rattle.five_tuple.specs.Exports.{Block, cover_of}
 
 pub length-rules_ranked_from : (n : ℕ) (xs : List (WordValue × Hit)) → length (rules_ranked_from n xs) ≡ length
@@ -62,7 +62,7 @@ few_pairs row destinations sources few most =
     omega (arith, same, length-pairs row destinations sources, mul-le-mul_left (length sources) few)
 
 -- as many entries as words
-pub length-entries : (rows : List Row) → length (flat_map policy_row_word_hits rows) ≡ rule_word_total rows
+pub length-entries : (rows : List Row) → length (flat_map policy_row_word_hits rows) ≡ policy_row_word_total rows
 length-entries [] = refl
 length-entries (row ∷ rows) =
     let same : length (policy_row_word_hits row) ≡ length (words_of_row row) = length-map _ _ in

@@ -7,7 +7,7 @@ use Rattle.ternary.specs.Exports.{IsWord, WordValue, any_word}
 use Rattle.policy_rules.specs.declared.policy.Row.{Row}
 use Rattle.policy_rules.specs.declared.policy.Hit.{Hit}
 use Rattle.policy_rules.specs.declared.rules.Rule.{Rule}
-use Rattle.policy_rules.specs.Exports.{IsPolicy, IsRuleList, IsSoundRow, by_falling_priority, default_rule, policy_row_word_hits, hit_of, rules_ranked_from, ranked_rule, rules_of, with_default, policy_row_word_count, word_of_row, rule_word_total, words_of_row}
+use Rattle.policy_rules.specs.Exports.{IsPolicy, IsRuleList, IsSoundPolicyRow, by_falling_priority, default_rule, policy_row_word_hits, hit_of, rules_ranked_from, ranked_rule, rules_of, with_default, policy_row_word_count, word_of_row, policy_row_word_total, words_of_row}
 use Rattle.policy_rules.proofs.PolicyRowWords.{IsWord-word_of_row}
 use Rattle.policy_rules.proofs.PolicyRuleRanks.{length-rules_ranked_from, rules_ranked_from-append, length-entries}
 use Rattle.policy_rules.proofs.PolicyFallingRows.{IsPermutation-by_falling_priority}
@@ -18,14 +18,14 @@ HasWord entry = IsWord entry.0
 no_words : All HasWord []
 no_words = λ k d h. absurd (omega arith)
 
-words_at : (row : Row) (source : Block) (destinations : List Block) → IsSoundRow row
+words_at : (row : Row) (source : Block) (destinations : List Block) → IsSoundPolicyRow row
     → IsPortBlock source → All IsPortBlock destinations
     → All IsWord (map (word_of_row row source) destinations)
 words_at row source destinations sound masked all = All-map IsWord (word_of_row row source)
     destinations (λ k d within. IsWord-word_of_row row source (get_or destinations k d) sound masked
     (all k d within))
 
-words_of_pairs : (row : Row) (destinations sources : List Block) → IsSoundRow row
+words_of_pairs : (row : Row) (destinations sources : List Block) → IsSoundPolicyRow row
     → All IsPortBlock sources → All IsPortBlock destinations
     → All IsWord (flat_map (λ source. map (word_of_row row source) destinations) sources)
 words_of_pairs row destinations [] sound all masked = All-nil _
@@ -35,17 +35,17 @@ words_of_pairs row destinations (s ∷ ss) sound all masked = All-append IsWord
     (words_at row s destinations sound (all 0 s (omega arith)) masked)
     (words_of_pairs row destinations ss sound (All-tail IsPortBlock s ss all) masked)
 
-pub IsWord-words_of_row : (row : Row) → IsSoundRow row → All IsWord (words_of_row row)
+pub IsWord-words_of_row : (row : Row) → IsSoundPolicyRow row → All IsWord (words_of_row row)
 IsWord-words_of_row row sound = words_of_pairs row (cover_of row.dport) (cover_of row.sport) sound
     (is_cover_of row.sport sound.sport).masked (is_cover_of row.dport sound.dport).masked
 
-words_of_rows : (rows : List Row) → All IsSoundRow rows → All HasWord (flat_map policy_row_word_hits rows)
+words_of_rows : (rows : List Row) → All IsSoundPolicyRow rows → All HasWord (flat_map policy_row_word_hits rows)
 unfolding HasWord
 words_of_rows [] sound = no_words
 words_of_rows (row ∷ rows) sound = All-append HasWord (policy_row_word_hits row) (flat_map policy_row_word_hits rows)
     (All-map HasWord (λ word. (word, hit_of (Some row))) (words_of_row row)
     (IsWord-words_of_row row (sound 0 row (omega arith))))
-    (words_of_rows rows (All-tail IsSoundRow row rows sound))
+    (words_of_rows rows (All-tail IsSoundPolicyRow row rows sound))
 
 words_ranked : (k : ℕ) (entries : List (WordValue × Hit)) → All HasWord entries
     → All (λ (rule : Rule). IsWord rule.word) (rules_ranked_from k entries)
@@ -79,7 +79,7 @@ IsRuleList-rules_of rows policy =
     let last : WordValue × Hit = (any_word, hit_of None) in record {
       ranks = rank_at (with_default sorted);
       words = words_ranked 0 (with_default sorted)
-          (All-append HasWord entries (last ∷ []) (words_of_rows sorted (All-permutation IsSoundRow
+          (All-append HasWord entries (last ∷ []) (words_of_rows sorted (All-permutation IsSoundPolicyRow
           rows sorted (IsPermutation-by_falling_priority rows policy.sound) policy.sound))
           (All-cons HasWord last [] any_is_word no_words));
       ends = (
@@ -90,7 +90,7 @@ IsRuleList-rules_of rows policy =
       );
     }
 
-pub length-rules_of : (rows : List Row) → IsPolicy rows → length (rules_of rows) ≡ rule_word_total
+pub length-rules_of : (rows : List Row) → IsPolicy rows → length (rules_of rows) ≡ policy_row_word_total
     rows + 1
 unfolding rules_of
 length-rules_of rows policy =

@@ -2,7 +2,7 @@
 -- what they make of a policy.
 use Rattle.std.specs.Prelude.{if◌then◌else◌, ◌++◌, ◌<◌, ◌==◌, ◌^◌, ◌≢◌, All, AllPairs, Bool, Err, List, None, Ok, Option, Result, Some, filter, filter_map, length, nat_lt, not, ℕ}
 use Rattle.base.specs.Exports.{list_all, list_any}
-use Rattle.policy_rules.specs.SoundPolicies.{HaveDistinctPriorities, IsSoundRow}
+use Rattle.policy_rules.specs.SoundPolicies.{HaveDistinctPriorities, IsSoundPolicyRow}
 use Rattle.policy_rules.specs.declared.policy.Row.{Row}
 use Rattle.policy_rules.specs.declared.amendment.Edit.{Edit}
 use Rattle.policy_rules.specs.declared.amendment.Edit.TheVariants.{Remove, Add}
@@ -14,9 +14,9 @@ abbrev pub has_priority : List Row → ℕ → Bool
 has_priority rows priority = list_any (λ row. row.priority == priority) rows
 
 -- the priority of the row that the edit removes, if it removes one
-abbrev pub removal : Edit → Option ℕ
-removal (Remove priority) = Some priority
-removal (Add row) = None
+abbrev pub policy_removal : Edit → Option ℕ
+policy_removal (Remove priority) = Some priority
+policy_removal (Add row) = None
 
 -- the row that it adds, if it adds one
 abbrev pub policy_addition : Edit → Option Row
@@ -25,7 +25,7 @@ policy_addition (Add row) = Some row
 
 -- the priorities of the rows that edits remove, in order
 abbrev pub removals : List Edit → List ℕ
-removals edits = filter_map removal edits
+removals edits = filter_map policy_removal edits
 
 -- the rows that they add, in order
 abbrev pub additions : List Edit → List Row
@@ -39,7 +39,7 @@ pub record AreDistinctEdits (edits : List Edit) : Type 0 where
 -- each field of the edit satisfies the invariant of its type
 abbrev pub IsSoundEdit : Edit → Type 0
 IsSoundEdit (Remove priority) = priority < 2 ^ 32
-IsSoundEdit (Add row) = IsSoundRow row
+IsSoundEdit (Add row) = IsSoundPolicyRow row
 
 -- what is true of the edits of each amendment
 pub record IsAmendment (edits : List Edit) : Type 0 where

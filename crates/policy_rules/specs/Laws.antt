@@ -5,10 +5,10 @@ use Rattle.base.specs.Exports.{list_any}
 use Rattle.five_tuple.specs.Exports.{IsHeader, fields_of, number_of}
 use Rattle.five_tuple.specs.declared.header.Header.{Header}
 use Rattle.ternary.specs.Exports.{IsWord, WordValue, holds, meets}
-use Rattle.policy_rules.specs.Policy.{IsFirstMatch, row_matches}
-use Rattle.policy_rules.specs.SoundPolicies.{IsPolicy, IsSoundRow}
+use Rattle.policy_rules.specs.Policy.{IsFirstMatch, policy_row_matches}
+use Rattle.policy_rules.specs.SoundPolicies.{IsPolicy, IsSoundPolicyRow}
 use Rattle.policy_rules.specs.Rules.{first_rule}
-use Rattle.policy_rules.specs.RuleList.{IsRuleList, by_falling_priority, policy_hit_of_rule, rules_of, policy_row_word_count, rule_word_total}
+use Rattle.policy_rules.specs.RuleList.{IsRuleList, by_falling_priority, policy_hit_of_rule, rules_of, policy_row_word_count, policy_row_word_total}
 use Rattle.policy_rules.specs.Words.{words_of_row}
 use Rattle.policy_rules.specs.Applied.{IsAmendment, additions, applied, rows_after_removal}
 use Rattle.policy_rules.specs.declared.amendment.Edit.{Edit}
@@ -32,20 +32,20 @@ pub record PolicyLaws : Type 0 where
 
 -- the words of a sound row ..
 pub record RowWordsLaws : Type 0 where
-  pub words : (row : Row) → IsSoundRow row → All IsWord (words_of_row row)
+  pub words : (row : Row) → IsSoundPolicyRow row → All IsWord (words_of_row row)
   -- .. are as many as pairs of blocks ..
   pub count : (row : Row) → length (words_of_row row) ≡ policy_row_word_count row
   -- .. and hold exactly the headers that the row matches
-  pub holds : (row : Row) (header : Header) → IsSoundRow row → IsHeader header
+  pub holds : (row : Row) (header : Header) → IsSoundPolicyRow row → IsHeader header
       → list_any (λ word. holds word (number_of header)) (words_of_row row)
-      ≡ row_matches row (fields_of header)
+      ≡ policy_row_matches row (fields_of header)
 
 -- the rules of a policy's rows ..
 pub record RuleListLaws : Type 0 where
   -- .. are a rule list ..
   pub list : (rows : List Row) → IsPolicy rows → IsRuleList (rules_of rows)
   -- .. of one rule more than the rows have words, ..
-  pub count : (rows : List Row) → IsPolicy rows → length (rules_of rows) ≡ rule_word_total rows + 1
+  pub count : (rows : List Row) → IsPolicy rows → length (rules_of rows) ≡ policy_row_word_total rows + 1
   -- .. of which the first that holds a header has the rule and the action of the first match
   pub first_match : (rows : List Row) (header : Header) → IsPolicy rows → IsHeader header
       → option_map policy_hit_of_rule (first_rule (rules_of rows) header) ≡ Some (scan rows header)
@@ -68,7 +68,7 @@ pub record AmendmentLaws : Type 0 where
   -- .. a header that no removed and no added row matches has the first match that it had, ..
   pub same : (rows after : List Row) (change : List Edit) (header : Header) → IsPolicy rows
       → applied rows change ≡ Ok after
-      → All (λ row. IsFalse (row_matches row (fields_of header))) (touched_policy_rows rows change)
+      → All (λ row. IsFalse (policy_row_matches row (fields_of header))) (touched_policy_rows rows change)
       → scan after header ≡ scan rows header
   -- .. and so has each header of a word that meets no word of these rows
   pub apart : (rows after : List Row) (change : List Edit) (word : WordValue) (header : Header)

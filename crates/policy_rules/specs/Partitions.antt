@@ -13,8 +13,8 @@ use Rattle.policy_rules.specs.declared.rules.Rule.{Rule}
 use Rattle.policy_rules.specs.Hosted.{is_in_policy_partition}
 
 -- partitions that are numbered from 0
-abbrev pub ArePartsNumbered : List Partition → Type 0
-ArePartsNumbered parts =
+abbrev pub ArePolicyPartitionsNumbered : List Partition → Type 0
+ArePolicyPartitionsNumbered parts =
     (place : ℕ) (d : Partition) → place < length parts
     → (slice_index_or parts place d).number ≡ place
 
@@ -34,4 +34,4 @@ pub record AreSoundPolicyPartitions (rows : List Row) (parts : List Partition) :
   pub decides : (header : Header) → IsHeader header
       → All (λ part. IsTrue (is_in_policy_partition header part)
       → option_map policy_hit_of_rule (first_rule part.rules header) ≡ Some (scan rows header)) parts
-  pub numbers : ArePartsNumbered parts
+  pub numbers : ArePolicyPartitionsNumbered parts

@@ -7,11 +7,11 @@ use Rattle.policy_rules.specs.declared.policy.Row.{Row}
 use Rattle.policy_rules.specs.declared.policy.Hit.{Hit}
 use Rattle.policy_rules.specs.declared.policy.Action.TheVariants.{Drop, Out}
 use Rattle.policy_rules.specs.declared.policy.Action.{Action}
-pub use Rattle.policy_rules.specs.SoundPolicies.{HaveDistinctPriorities, IsPolicy, IsSoundRow}
+pub use Rattle.policy_rules.specs.SoundPolicies.{HaveDistinctPriorities, IsPolicy, IsSoundPolicyRow}
 
 -- a row matches if each of its five fields does
-abbrev pub row_matches : Row → Fields → Bool
-row_matches row f =
+abbrev pub policy_row_matches : Row → Fields → Bool
+policy_row_matches row f =
     prefix_matches row.src f.src && prefix_matches row.dst f.dst
     && range_matches row.sport f.sport && range_matches row.dport f.dport
     && proto_matches row.proto f.proto
@@ -25,7 +25,7 @@ pub record IsHighestIn (rows : List Row) (row : Row) : Type 0 where
 -- if none matches
 abbrev pub IsFirstMatch : List Row → Header → Hit → Type 0
 IsFirstMatch rows header hit =
-    let matching = filter (λ row. row_matches row (fields_of header)) rows in
+    let matching = filter (λ row. policy_row_matches row (fields_of header)) rows in
     MatchOption hit.rule
     ((matching ≡ []) × (hit.action ≡ Drop))
     (λ priority. (row : Row) × IsHighestIn matching row × (row.priority ≡ priority)

@@ -9,9 +9,9 @@ use Rattle.policy_rules.specs.declared.file.PolicyFile.{PolicyFile}
 use Rattle.policy_rules.specs.declared.file.PolicyFile.TheVariants.{Whole, Change}
 
 -- what is true of each file
-abbrev pub IsPolicyOrAmendment : PolicyFile → Type 0
-IsPolicyOrAmendment (Whole rows) = IsPolicy rows
-IsPolicyOrAmendment (Change edits) = IsAmendment edits
+abbrev pub IsPolicyRulesOrAmendment : PolicyFile → Type 0
+IsPolicyRulesOrAmendment (Whole rows) = IsPolicy rows
+IsPolicyRulesOrAmendment (Change edits) = IsAmendment edits
 
 -- the row that the edit adds, if it adds one, has this property
 abbrev pub EditAddsOnly : (Row → Type 0) → Edit → Type 0
@@ -19,6 +19,6 @@ EditAddsOnly P (Remove priority) = ⊤
 EditAddsOnly P (Add row) = P row
 
 -- each row that the file states, of a policy or added by a change, has this property
-abbrev pub PolicyRulesGiveOnly : (Row → Type 0) → PolicyFile → Type 0
-PolicyRulesGiveOnly P (Whole rows) = All P rows
-PolicyRulesGiveOnly P (Change edits) = All (EditAddsOnly P) edits
+abbrev pub PolicyFileRowsAre : (Row → Type 0) → PolicyFile → Type 0
+PolicyFileRowsAre P (Whole rows) = All P rows
+PolicyFileRowsAre P (Change edits) = All (EditAddsOnly P) edits

@@ -12,6 +12,6 @@ action_of text =
     then option_map Out (number_up_to 63 (drop 4 text)) else None
 
 -- if the action names a port, its number is below 64
-abbrev pub HasSmallRulePort : Action → Type 0
-HasSmallRulePort Drop = ⊤
-HasSmallRulePort (Out port) = port < 64
+abbrev pub HasSmallActionPort : Action → Type 0
+HasSmallActionPort Drop = ⊤
+HasSmallActionPort (Out port) = port < 64

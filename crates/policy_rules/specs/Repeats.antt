@@ -10,7 +10,7 @@ abbrev pub IsPriorityFalling : List Row → Type 0
 IsPriorityFalling rows = AllPairs (λ row later. later.priority ≤ row.priority) rows
 
 -- the row at this place is the first that has an earlier row's priority
-pub record IsFirstRepeat (rows : List Row) (place : ℕ) : Type 0 where
+pub record IsFirstPriorityRepeat (rows : List Row) (place : ℕ) : Type 0 where
   pub there : place < length rows
   pub repeats : (d : Row)
       → IsTrue (has_priority (take place rows) (slice_index_or rows place d).priority)
@@ -18,4 +18,4 @@ pub record IsFirstRepeat (rows : List Row) (place : ℕ) : Type 0 where
 
 -- why these rows are no policy: one, counted from 1, repeats a priority
 abbrev pub RefusesSamePriorityRows : List Row → SamePriority → Type 0
-RefusesSamePriorityRows rows same = (place : ℕ) × (same.row ≡ place + 1) × IsFirstRepeat rows place
+RefusesSamePriorityRows rows same = (place : ℕ) × (same.row ≡ place + 1) × IsFirstPriorityRepeat rows place

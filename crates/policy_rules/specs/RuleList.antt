@@ -39,8 +39,8 @@ unfoldable pub rules_ranked_from : ℕ → List (WordValue × Hit) → List Rule
 rules_ranked_from rank entries = map ranked_rule (enumerate_from rank entries)
 
 -- the new rules are the old ones and after them these entries, each ranked by its place
-abbrev pub AppendsRankedRules : List Rule → List Rule → List (WordValue × Hit) → Type 0
-AppendsRankedRules old new entries = new ≡ old ++ rules_ranked_from (length old) entries
+abbrev pub AppendsRankedPolicyRules : List Rule → List Rule → List (WordValue × Hit) → Type 0
+AppendsRankedPolicyRules old new entries = new ≡ old ++ rules_ranked_from (length old) entries
 
 -- the entries of rows, and last the default, whose word holds each header
 abbrev pub with_default : List Row → List (WordValue × Hit)
@@ -55,12 +55,12 @@ abbrev pub policy_row_word_count : Row → ℕ
 policy_row_word_count row = length (cover_of row.sport) * length (cover_of row.dport)
 
 -- how many words the rows have together
-abbrev pub rule_word_total : List Row → ℕ
-rule_word_total rows = sum_by policy_row_word_count rows
+abbrev pub policy_row_word_total : List Row → ℕ
+policy_row_word_total rows = sum_by policy_row_word_count rows
 
 -- why rows have no list of rules: they have too many words
-abbrev pub RefusesRules : List Row → TooManyWords → Type 0
-RefusesRules rows many = (many.words ≡ rule_word_total rows) × (4096 < many.words)
+abbrev pub RefusesPolicyRuleList : List Row → TooManyWords → Type 0
+RefusesPolicyRuleList rows many = (many.words ≡ policy_row_word_total rows) × (4096 < many.words)
 
 -- the rule for headers that no row matches
 abbrev pub default_rule : ℕ → Rule

@@ -7,12 +7,12 @@ use Rattle.five_tuple.specs.declared.header.Header.{Header}
 use Rattle.policy_rules.specs.declared.policy.Row.{Row}
 use Rattle.policy_rules.specs.declared.policy.Hit.{Hit}
 use Rattle.policy_rules.specs.declared.policy.Action.TheVariants.{Drop}
-use Rattle.policy_rules.specs.Policy.{row_matches, IsHighestIn}
+use Rattle.policy_rules.specs.Policy.{policy_row_matches, IsHighestIn}
 
 -- a reference to the matching row of the greatest priority, or `None` if no row matches
-abbrev pub IsHighestMatch : List Row → Fields → Option (Bor Row) → Type 0
-IsHighestMatch rows f best =
-    let matching = filter (λ row. row_matches row f) rows in
+abbrev pub IsHighestPolicyMatch : List Row → Fields → Option (Bor Row) → Type 0
+IsHighestPolicyMatch rows f best =
+    let matching = filter (λ row. policy_row_matches row f) rows in
     MatchOption best (matching ≡ []) (λ row. IsHighestIn matching row.now)
 
 -- none of the rows exceeds this one in priority
@@ -29,7 +29,7 @@ hit_of (Some row) = record { rule = Some row.priority; action = row.action }
 
 -- the first match of a header with these fields, as a function
 abbrev pub policy_scan_by : List Row → Fields → Hit
-policy_scan_by rows f = hit_of (highest_row (filter (λ row. row_matches row f) rows))
+policy_scan_by rows f = hit_of (highest_row (filter (λ row. policy_row_matches row f) rows))
 
 -- the first match of a header, as a function
 abbrev pub scan : List Row → Header → Hit

@@ -8,7 +8,7 @@ abbrev pub HaveDistinctPriorities : List Row → Type 0
 HaveDistinctPriorities rows = AllPairs (λ row later. row.priority ≢ later.priority) rows
 
 -- each field of the row satisfies the invariant of its type
-pub record IsSoundRow (row : Row) : Type 0 where
+pub record IsSoundPolicyRow (row : Row) : Type 0 where
   pub priority : row.priority < 2 ^ 32
   pub src : IsAddressBlock row.src
   pub dst : IsAddressBlock row.dst
@@ -18,6 +18,6 @@ pub record IsSoundRow (row : Row) : Type 0 where
 
 -- what is true of the rows of each policy
 pub record IsPolicy (rows : List Row) : Type 0 where
-  pub sound : All IsSoundRow rows
+  pub sound : All IsSoundPolicyRow rows
   pub distinct : HaveDistinctPriorities rows
   pub few : length rows < 2 ^ 32

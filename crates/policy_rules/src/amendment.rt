@@ -1,7 +1,7 @@
 ghost use Rattle.std.specs.Prelude.{◌≡◌, ◌+◌, ◌<◌, ◌^◌, ◌++◌, ◌∷◌, [], List, IfOk, IfErr, OnOk, length, vec_len, not};
 ghost use Rattle.std.specs.BTreeSet.{contains};
 ghost use Rattle.std.specs.Ordering.{nat_cmp};
-ghost use Rattle.policy_rules.specs.Exports.{AreEditsSeen, IsAmendment, IsSoundEdit, RefusesEdits, policy_addition, additions, edits_of, removal, removals, repeats};
+ghost use Rattle.policy_rules.specs.Exports.{AreEditsSeen, IsAmendment, IsSoundEdit, RefusesEdits, policy_addition, additions, edits_of, policy_removal, removals, repeats};
 ghost use Rattle.policy_rules.specs.declared.amendment.Edit.{Edit};
 ghost use Rattle.base.specs.Refusals.{IfRefused};
 
@@ -135,8 +135,8 @@ fn list_edits(alloc: Global, removed: &[u32], added: &[Row]) -> Result<Vec<Edit>
     removals.chain(additions).collect(alloc)
 }
 
-fn removal(edit: &Edit) -> Option<u32>
-    ensures { result ≡ removal edit.now }
+fn policy_removal(edit: &Edit) -> Option<u32>
+    ensures { result ≡ policy_removal edit.now }
 {
     match edit {
         Edit::Remove(priority) => Some(*priority),
@@ -156,7 +156,7 @@ fn policy_addition(edit: &Edit) -> Option<Row>
 fn list_removals(alloc: Global, edits: &[Edit]) -> Result<Vec<u32>, AllocError>
     ensures { IfOk result (λ removed. removed.items ≡ removals edits.now) }
 {
-    edits.iter().filter_map(removal).collect(alloc)
+    edits.iter().filter_map(policy_removal).collect(alloc)
 }
 
 fn list_additions(alloc: Global, edits: &[Edit]) -> Result<Vec<Row>, AllocError>
@@ -177,8 +177,8 @@ fn check_edits(alloc: Global, edits: &[Edit]) -> Result<(), Failure<Repeated>>
     for edit in edits {
         number += 1;
         // For the proof: the fields of an edit satisfy the invariants of their types.
-        edit_is_sound(edit);
-        if !is_new(&mut removed, &mut added, edit)? {
+        policy_edit_is_sound(edit);
+        if !is_policy_edit_new(&mut removed, &mut added, edit)? {
             return Err(Failure::Refused(Repeated { edit: number }));
         }
     }
@@ -187,7 +187,7 @@ fn check_edits(alloc: Global, edits: &[Edit]) -> Result<(), Failure<Repeated>>
 
 // Whether no earlier edit did the same at this edit's priority. The sets have the priorities of the
 // rows that earlier edits removed and added; afterwards they have this edit's, too.
-fn is_new(
+fn is_policy_edit_new(
     removed: &mut BTreeSet<u32>,
     added: &mut BTreeSet<u32>,
     edit: &Edit,
@@ -207,7 +207,7 @@ fn is_new(
 }
 
 // Each field of an edit satisfies the invariant of its type.
-fn edit_is_sound(edit: &Edit)
+fn policy_edit_is_sound(edit: &Edit)
     ensures { IsSoundEdit edit.now }
 {
     match edit {

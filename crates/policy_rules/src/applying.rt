@@ -54,7 +54,7 @@ pub fn apply(alloc: Global, policy: &Policy, change: &Amendment) -> Result<Polic
         return Err(ApplyError::Refused(Inapplicable::Absent));
     }
     let new = row_priorities_of(alloc, added)?;
-    if has_some(&amended, &new) {
+    if policy_rows_meet_priorities(&amended, &new) {
         return Err(ApplyError::Refused(Inapplicable::Taken));
     }
     amended.extend_from_slice(added)?;
@@ -85,7 +85,7 @@ fn row_priorities_of(alloc: Global, rows: &[Row]) -> Result<BTreeSet<u32>, Alloc
 }
 
 // Whether one of the rows has a priority of the set.
-fn has_some(rows: &[Row], priorities: &BTreeSet<u32>) -> bool
+fn policy_rows_meet_priorities(rows: &[Row], priorities: &BTreeSet<u32>) -> bool
     ensures { result ≡ list_any (λ row. contains nat_cmp priorities.now row.priority) rows.now }
 {
     rows.iter().any(|row| priorities.contains(&row.priority))

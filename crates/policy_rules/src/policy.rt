@@ -1,7 +1,7 @@
 ghost use Rattle.std.specs.Prelude.{◌≡◌, ◌<◌, ◌^◌, nat_lt, true, IfOk, IfErr, IsTrue, OnOk, vec_len, length, Some};
 ghost use Rattle.std.specs.Option.{option_map_or};
 ghost use Rattle.five_tuple.specs.SoundFields.{IsPortRange, IsProtocol};
-ghost use Rattle.policy_rules.specs.Exports.{IsFirstMatch, IsHighestMatch, IsPolicy, IsSoundRow, RefusesSamePriorityRows, hit_of, row_matches, scan};
+ghost use Rattle.policy_rules.specs.Exports.{IsFirstMatch, IsHighestPolicyMatch, IsPolicy, IsSoundPolicyRow, RefusesSamePriorityRows, hit_of, policy_row_matches, scan};
 ghost use Rattle.base.specs.Refusals.{IfRefused};
 
 use base::Failure;
@@ -69,7 +69,7 @@ impl Model for Policy {
 impl Row {
     /// Whether each of the five fields matches.
     pub fn matches(&self, fields: &Fields) -> bool
-        ensures { result ≡ row_matches self.now fields.now }
+        ensures { result ≡ policy_row_matches self.now fields.now }
     {
         self.src.matches(fields.src)
             && self.dst.matches(fields.dst)
@@ -108,7 +108,7 @@ impl Policy {
         ensures policy { OnOk result (IsPolicy rows.items) }
         ensures refused { IfErr result (IfRefused (RefusesSamePriorityRows rows.items)) }
     {
-        check_row_priorities(alloc, &rows)?;
+        check_policy_row_priorities(alloc, &rows)?;
         Ok(Policy { rows })
     }
 
@@ -152,7 +152,7 @@ impl Clone for Policy {
 
 // Of the rows that match, the one of the greatest priority; `None` if no row matches.
 fn highest_match<'a>(rows: &'a [Row], fields: &Fields) -> Option<&'a Row>
-    ensures { IsHighestMatch rows.now fields.now result }
+    ensures { IsHighestPolicyMatch rows.now fields.now result }
 {
     let mut best: Option<&Row> = None;
     for row in rows {
@@ -175,7 +175,7 @@ fn exceeds(row: &Row, other: Option<&Row>) -> bool
 }
 
 // Finds the first row that has an earlier row's priority.
-fn check_row_priorities(alloc: Global, rows: &[Row]) -> Result<(), Failure<SamePriority>>
+fn check_policy_row_priorities(alloc: Global, rows: &[Row]) -> Result<(), Failure<SamePriority>>
     requires { length rows.now < 2 ^ 32 }
     ensures policy { OnOk result (IsPolicy rows.now) }
     ensures refused { IfErr result (IfRefused (RefusesSamePriorityRows rows.now)) }
@@ -219,7 +219,7 @@ fn are_priorities_falling(rows: &[Row]) -> bool
 /// Each field of a row satisfies the invariant of its type. The body reads the fields, because a
 /// proof gets the invariant of a field when the field is read.
 pub fn row_is_sound(row: &Row)
-    ensures { IsSoundRow row.now }
+    ensures { IsSoundPolicyRow row.now }
 {
     let _priority = row.priority;
     let _ = (row.src.len, row.dst.len);

@@ -3,14 +3,14 @@ ghost use Rattle.base.specs.Refusals.{IfRefused};
 ghost use Rattle.base.specs.declared.error.Failure.TheVariants.{Refused};
 ghost use Rattle.five_tuple.specs.Exports.{IsHeader};
 ghost use Rattle.five_tuple.specs.declared.header.Header.{Header};
-ghost use Rattle.policy_rules.specs.Exports.{AppendsRankedRules, IsPolicy, IsRuleList, IsSoundRow, RefusesRules, by_falling_priority, policy_row_word_hits, first_rule, policy_hit_of_rule, rules_ranked_from, rules_of, scan, with_default, rule_word_total};
+ghost use Rattle.policy_rules.specs.Exports.{AppendsRankedPolicyRules, IsPolicy, IsRuleList, IsSoundPolicyRow, RefusesPolicyRuleList, by_falling_priority, policy_row_word_hits, first_rule, policy_hit_of_rule, rules_ranked_from, rules_of, scan, with_default, policy_row_word_total};
 
 use crate::laws::rule_list_laws;
 use crate::policy::{Hit, Policy, Row};
 use crate::rules::Rule;
-use crate::words::push_match_words;
+use crate::words::push_policy_row_words;
 use base::Failure;
-use five_tuple::count_port_blocks;
+use five_tuple::count_tuple_port_blocks;
 use std::alloc::{AllocError, Global};
 use std::cmp::Reverse;
 use ternary::Word;
@@ -38,15 +38,15 @@ pub fn to_rules(alloc: Global, policy: &Policy) -> Result<Vec<Rule>, Failure<Too
     ensures first_match { IfOk result (λ rules. (header : Header) → IsHeader header →
         option_map policy_hit_of_rule (first_rule rules.items header) ≡ Some (scan policy.now header)) }
     ensures list { IfOk result (λ rules. IsRuleList rules.items) }
-    ensures count { IfOk result (λ rules. length rules.items ≡ rule_word_total policy.now + 1) }
-    ensures few { OnOk result (rule_word_total policy.now ≤ 4096) }
+    ensures count { IfOk result (λ rules. length rules.items ≡ policy_row_word_total policy.now + 1) }
+    ensures few { OnOk result (policy_row_word_total policy.now ≤ 4096) }
     ensures policy { OnOk result (IsPolicy policy.now) }
-    ensures refused { IfErr result (IfRefused (RefusesRules policy.now)) }
-    ensures many { 4096 < rule_word_total policy.now
-        → result ≡ Err (Refused (record { words = rule_word_total policy.now })) }
+    ensures refused { IfErr result (IfRefused (RefusesPolicyRuleList policy.now)) }
+    ensures many { 4096 < policy_row_word_total policy.now
+        → result ≡ Err (Refused (record { words = policy_row_word_total policy.now })) }
 {
     rule_list_laws();
-    let words = count_match_words(policy);
+    let words = count_policy_match_words(policy);
     if words > MAX_WORDS {
         return Err(Failure::Refused(TooManyWords { words }));
     }
@@ -56,12 +56,14 @@ pub fn to_rules(alloc: Global, policy: &Policy) -> Result<Vec<Rule>, Failure<Too
 }
 
 /// How many words the rows of the policy have together: as many as it has rules before the default.
-pub fn count_match_words(policy: &Policy) -> u64
-    ensures { result ≡ rule_word_total policy.now }
+pub fn count_policy_match_words(policy: &Policy) -> u64
+    ensures { result ≡ policy_row_word_total policy.now }
 {
     let mut words = 0;
     for row in policy.rows() {
-        words += u64::from(count_port_blocks(&row.sport) * count_port_blocks(&row.dport));
+        words += u64::from(
+            count_tuple_port_blocks(&row.sport) * count_tuple_port_blocks(&row.dport),
+        );
     }
     words
 }
@@ -78,36 +80,40 @@ fn by_falling_priority(alloc: Global, rows: &[Row]) -> Result<Vec<Row>, AllocErr
 
 // The rules of rows that are given by falling priority, in a list with room for this many.
 fn list_rules(alloc: Global, rows: &[Row], room: usize) -> Result<Vec<Rule>, AllocError>
-    requires few { rule_word_total rows.now ≤ 4096 }
-    requires sound { All IsSoundRow rows.now }
+    requires few { policy_row_word_total rows.now ≤ 4096 }
+    requires sound { All IsSoundPolicyRow rows.now }
     ensures { IfOk result (λ rules. rules.items ≡ rules_ranked_from 0 (with_default rows.now)) }
 {
     let mut rules = Vec::with_capacity(alloc, room)?;
     let mut words = Vec::new(alloc);
     for row in rows {
-        push_row(&mut rules, &mut words, row)?;
+        push_policy_row_rules(&mut rules, &mut words, row)?;
     }
-    push_rule(&mut rules, Word::any(), Hit::DEFAULT)?;
+    push_policy_rule(&mut rules, Word::any(), Hit::DEFAULT)?;
     Ok(rules)
 }
 
 // Adds the rules of the row's words. `words` is a buffer: what was in it is replaced.
-fn push_row(rules: &mut Vec<Rule>, words: &mut Vec<Word>, row: &Row) -> Result<(), AllocError>
+fn push_policy_row_rules(
+    rules: &mut Vec<Rule>,
+    words: &mut Vec<Word>,
+    row: &Row,
+) -> Result<(), AllocError>
     requires few { length rules.old.items ≤ 4096 }
-    requires row { IsSoundRow row.now }
-    ensures { OnOk result (AppendsRankedRules rules.old.items rules.new.items (policy_row_word_hits row.now)) }
+    requires row { IsSoundPolicyRow row.now }
+    ensures { OnOk result (AppendsRankedPolicyRules rules.old.items rules.new.items (policy_row_word_hits row.now)) }
 {
     words.clear();
-    push_match_words(words, row)?;
+    push_policy_row_words(words, row)?;
     for word in words.as_slice() {
-        push_rule(rules, *word, Hit::of(row))?;
+        push_policy_rule(rules, *word, Hit::of(row))?;
     }
     Ok(())
 }
 
-fn push_rule(rules: &mut Vec<Rule>, word: Word, hit: Hit) -> Result<(), AllocError>
+fn push_policy_rule(rules: &mut Vec<Rule>, word: Word, hit: Hit) -> Result<(), AllocError>
     requires { length rules.old.items < 2 ^ 32 }
-    ensures { OnOk result (AppendsRankedRules rules.old.items rules.new.items ((word, hit) ∷ [])) }
+    ensures { OnOk result (AppendsRankedPolicyRules rules.old.items rules.new.items ((word, hit) ∷ [])) }
 {
     let rank = rules.len() as u32;
     rules.push(Rule {

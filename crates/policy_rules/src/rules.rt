@@ -41,10 +41,10 @@ pub fn first_hit(rules: &[Rule], header: &Header) -> Option<usize>
     ensures rule { option_and_then (slice_get rules.now) result ≡ first_rule rules.now header.now }
     ensures header { IsHeader header.now }
 {
-    place_of(rules, header.number())
+    policy_rule_place(rules, header.number())
 }
 
-fn place_of(rules: &[Rule], number: u128) -> Option<usize>
+fn policy_rule_place(rules: &[Rule], number: u128) -> Option<usize>
     ensures { result ≡ position (is_held number) rules.now }
 {
     rules.iter().position(|rule| rule.word.holds(number))

@@ -17,17 +17,17 @@ pub struct Targets {
 
 impl Model for Targets {
     ghost use Rattle.std.specs.Prelude.{List, ℕ, take};
-    ghost use Rattle.policy_rules.specs.Targets.{AreFilledTargets, filled_targets, filled_targets-take};
+    ghost use Rattle.policy_rules.specs.Targets.{ArePolicyTargetsFilled, policy_filled_targets, policy_filled_targets-take};
 
     ghost Value = { List ℕ };
 
     ghost view = { λ t. take t.len t.places };
 
-    ghost invariant = { AreFilledTargets };
+    ghost invariant = { ArePolicyTargetsFilled };
 
-    ghost inverse = { filled_targets };
+    ghost inverse = { policy_filled_targets };
 
-    ghost inverse_ok = { filled_targets-take };
+    ghost inverse_ok = { policy_filled_targets-take };
 }
 
 impl Targets {

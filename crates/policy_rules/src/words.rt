@@ -1,7 +1,7 @@
 ghost use Rattle.std.specs.Prelude.{◌≡◌, ◌++◌, map, OnOk};
 ghost use Rattle.five_tuple.specs.Cover.{IsPortBlock, cover_of};
 ghost use Rattle.five_tuple.specs.HeaderNumbers.{packed_header_number};
-ghost use Rattle.policy_rules.specs.Exports.{IsSoundRow, rule_prefix_mask, rule_proto_mask, rule_proto_value, word_of_row};
+ghost use Rattle.policy_rules.specs.Exports.{IsSoundPolicyRow, rule_prefix_mask, rule_proto_mask, rule_proto_value, word_of_row};
 ghost use Rattle.policy_rules.specs.Words.{words_of_row};
 
 use crate::policy::Row;
@@ -14,23 +14,23 @@ use ternary::Word;
 ///
 /// # Errors
 /// Only out of memory; then some of the words may have been added.
-pub fn push_match_words(words: &mut Vec<Word>, row: &Row) -> Result<(), AllocError>
-    requires { IsSoundRow row.now }
+pub fn push_policy_row_words(words: &mut Vec<Word>, row: &Row) -> Result<(), AllocError>
+    requires { IsSoundPolicyRow row.now }
     ensures { OnOk result (words.new.items ≡ words.old.items ++ words_of_row row.now) }
 {
     for source in row.sport.blocks() {
-        push_source_match_words(words, row, source)?;
+        push_policy_source_words(words, row, source)?;
     }
     Ok(())
 }
 
 // Adds the words for one block of the row's source ports.
-fn push_source_match_words(
+fn push_policy_source_words(
     words: &mut Vec<Word>,
     row: &Row,
     source: PortBlock,
 ) -> Result<(), AllocError>
-    requires row { IsSoundRow row.now }
+    requires row { IsSoundPolicyRow row.now }
     requires source { IsPortBlock source }
     ensures { OnOk result (words.new.items
         ≡ words.old.items ++ map (word_of_row row.now source) (cover_of row.now.dport)) }
@@ -44,7 +44,7 @@ fn push_source_match_words(
 /// The word of the headers that this row matches by its addresses and protocol, and whose ports are
 /// in the two blocks.
 pub fn word_of_row(row: &Row, source: PortBlock, destination: PortBlock) -> Word
-    requires row { IsSoundRow row.now }
+    requires row { IsSoundPolicyRow row.now }
     requires source { IsPortBlock source }
     requires destination { IsPortBlock destination }
     ensures { result ≡ word_of_row row.now source destination }

@@ -9,7 +9,7 @@ use Rattle.placement.specs.Placement.{IsPlacement}
 use Rattle.policy_rules.specs.Exports.{LastRuleCovers}
 use Rattle.policy_rules.proofs.PolicyRulesCallerLemmas.{first_match-scan}
 use Rattle.rebalance.specs.Loads.{Fits, bound, peak, weight}
-use Rattle.rebalance.specs.Proposals.{IsProposalFoundFor, IsRebalanceProposedFor, ProposesFor, rebalance_peaks_text, proposal_sizes_in, rebalance_partition_targets, proposal_weights_in, with_targets}
+use Rattle.rebalance.specs.Proposals.{IsProposalFoundFor, IsRebalanceProposedFor, RebalanceProposesFor, rebalance_peaks_text, proposal_sizes_in, rebalance_partition_targets, proposal_weights_in, with_targets}
 use Rattle.rebalance.specs.Spread.{AreRebalancePartitionsWeighed, IsRebalanceProposal, RebalanceSpreadLaws}
 use Rattle.rebalance.specs.declared.plan_proposal.Proposal.{Proposal}
 use Rattle.show_text.specs.Text.{compile_text}
@@ -171,7 +171,7 @@ pub text_of_found : {E : Type 0} (rows : List Row) (plan : List Hosted) (net : N
     → IsProposalFoundFor rows plan net journal found
     → text ≡ compile_text found.plan.policy found.plan.hosted net → IfOk result
     (λ whole. whole.items ≡ rebalance_peaks_text found.old_peak found.new_peak found.bound ++ text)
-    → IfOk result (λ whole. ProposesFor rows plan net journal (λ told. whole.items ≡ told))
+    → IfOk result (λ whole. RebalanceProposesFor rows plan net journal (λ told. whole.items ≡ told))
 text_of_found rows plan net journal found text (Err error) is plan_text made = tt
 text_of_found rows plan net journal found text (Ok whole) is plan_text made =
     let weights = proposal_weights_in journal plan in

@@ -4,18 +4,18 @@ use Rattle.std.proofs.Common.{[], ◌*◌, ◌+◌, ◌<◌, ◌||◌, ◌∙◌
 use Rattle.base.proofs.Exports.{AllByRecursion, div_ceil, div_ceil_times, fun_ext, get_or-map-range_with_len, get_or_default, length-map-range_with_len, list_any, or_left, range_more, range_with_len, same_lists, sum_by-le-sum_by, sum_by_push}
 use Rattle.placement.specs.Placement.{is_placed_target, placed_targets_at}
 use Rattle.placement.proofs.PlacementCallerLemmas.{each_by_count, range-within, sum-filter, sum_none}
-use Rattle.rebalance.specs.Loads.{Fits, bound, greatest, greatest_traffic, is_primary_traffic_target, traffic, rebalance_usable_rooms}
+use Rattle.rebalance.specs.Loads.{Fits, bound, greatest, greatest_traffic, is_rebalance_primary_target, traffic, rebalance_usable_rooms}
 use Rattle.rebalance.proofs.RebalanceSums.{most-each, most-le, passing-le, places-le, share-le, shared-le, sum-le, sum-places, sum-scaled, term-le}
 
 -- ---- the traffic of a switch
 
 -- what the partitions put on the switch whose first target it is
 abbrev pub carried : List ℕ → List (List ℕ) → ℕ → ℕ → ℕ
-carried weights P s p = cond (is_primary_traffic_target P p s) (get_or weights p 0) 0
+carried weights P s p = cond (is_rebalance_primary_target P p s) (get_or weights p 0) 0
 
 pub traffic-sum : (weights : List ℕ) (P : List (List ℕ)) (s : ℕ)
     → traffic weights P s ≡ sum_by (carried weights P s) (range_with_len 0 (length weights))
-traffic-sum weights P s = sum-filter (λ p. get_or weights p 0) (λ p. is_primary_traffic_target P p s)
+traffic-sum weights P s = sum-filter (λ p. get_or weights p 0) (λ p. is_rebalance_primary_target P p s)
     (range_with_len 0 (length weights))
 
 traffic-le : (n : ℕ) (weights : List ℕ) (P : List (List ℕ)) (s : ℕ) → s < n
@@ -60,7 +60,7 @@ abbrev first_of : List (List ℕ) → ℕ → ℕ
 first_of P p = get_or (placed_targets_at P p) 0 0
 
 is-first : (sizes rooms : List ℕ) (backups : ℕ) (P : List (List ℕ)) (p : ℕ)
-    → Fits sizes rooms backups P → p < length sizes → is_primary_traffic_target P p (first_of P p) ≡ true
+    → Fits sizes rooms backups P → p < length sizes → is_rebalance_primary_target P p (first_of P p) ≡ true
 is-first sizes rooms backups P p fits within =
     primary-among (placed_targets_at P p) (omega (arith, fits.targets p within))
 
@@ -89,7 +89,7 @@ weight-le n sizes weights rooms backups P settled p within =
     (arith, first-there sizes rooms backups P p settled.fits here, settled.few) in
     omega (
       arith,
-      passing-le weights (λ o. is_primary_traffic_target P o s) p within
+      passing-le weights (λ o. is_rebalance_primary_target P o s) p within
           (is-first sizes rooms backups P p settled.fits here),
       traffic-le n weights P s below,
     )
@@ -101,9 +101,9 @@ no-traffic : (n : ℕ) (sizes weights rooms : List ℕ) (backups : ℕ) (P : Lis
 no-traffic n sizes weights rooms backups P settled s none = traffic-sum weights P s
     ∙ sum_none (carried weights P s) (range_with_len 0 (length weights))
     (each_by_count (λ p. carried weights P s p ≡ 0) (range_with_len 0 (length weights))
-    (λ p there. by_case p (range-within p (length weights) there) (is_primary_traffic_target P p s) refl))
+    (λ p there. by_case p (range-within p (length weights) there) (is_rebalance_primary_target P p s) refl))
   where
-    by_case : (p : ℕ) → p < length weights → (b : Bool) → is_primary_traffic_target P p s ≡ b
+    by_case : (p : ℕ) → p < length weights → (b : Bool) → is_rebalance_primary_target P p s ≡ b
         → carried weights P s p ≡ 0
     by_case p within false is = ap (λ b. cond b (get_or weights p 0) 0) is
     by_case p within true is = let here : p < length sizes = omega (arith, settled.each, within) in
@@ -126,10 +126,10 @@ total-le n sizes weights rooms backups P settled =
     let weight : ℕ → ℕ = λ p. get_or weights p 0 in
     let share : ℕ → ℕ = λ room. cond (not (eqb room 0)) most 0 in
     let had : AllByRecursion
-    (λ p. weight p ≤ sum_by (λ s. cond (is_primary_traffic_target P p s) (weight p) 0) switches) parts =
-    each_by_count (λ p. weight p ≤ sum_by (λ s. cond (is_primary_traffic_target P p s) (weight p) 0) switches) parts
+    (λ p. weight p ≤ sum_by (λ s. cond (is_rebalance_primary_target P p s) (weight p) 0) switches) parts =
+    each_by_count (λ p. weight p ≤ sum_by (λ s. cond (is_rebalance_primary_target P p s) (weight p) 0) switches) parts
     (λ p there. some_has p (range-within p (length weights) there)) in
-    let spread = shared-le weight (is_primary_traffic_target P) switches parts had in
+    let spread = shared-le weight (is_rebalance_primary_target P) switches parts had in
     let same : sum_by (λ s. sum_by (carried weights P s) parts) switches
     ≡ sum_by (traffic weights P) switches = ap (λ f. sum_by f switches)
     (fun_ext (λ s. sym (traffic-sum weights P s))) in
@@ -147,16 +147,16 @@ total-le n sizes weights rooms backups P settled =
     )
   where
     some_has : (p : ℕ) → p < length weights → get_or weights p 0
-        ≤ sum_by (λ s. cond (is_primary_traffic_target P p s) (get_or weights p 0) 0) (range_with_len 0 n)
+        ≤ sum_by (λ s. cond (is_rebalance_primary_target P p s) (get_or weights p 0) 0) (range_with_len 0 n)
     some_has p within =
         let s = first_of P p in
         let here : p < length sizes = omega (arith, settled.each, within) in
         let below : s < n = omega
         (arith, first-there sizes rooms backups P p settled.fits here, settled.few) in
-        let all : cond (is_primary_traffic_target P p s) (get_or weights p 0) 0 ≡ get_or weights p 0 =
+        let all : cond (is_rebalance_primary_target P p s) (get_or weights p 0) 0 ≡ get_or weights p 0 =
         ap (λ b. cond b (get_or weights p 0) 0)
         (is-first sizes rooms backups P p settled.fits here) in
-        omega (arith, term-le (λ t. cond (is_primary_traffic_target P p t) (get_or weights p 0) 0) n s below, all)
+        omega (arith, term-le (λ t. cond (is_rebalance_primary_target P p t) (get_or weights p 0) 0) n s below, all)
 
     by_case : (s : ℕ) → s < n → (room : ℕ) → get_or rooms s 0 ≡ room
         → traffic weights P s ≤ cond (not (eqb (get_or rooms s 0) 0)) (greatest_traffic n weights P) 0
@@ -208,7 +208,7 @@ pub carried-within : (weights : List ℕ) (P : List (List ℕ)) (s k : ℕ) → 
 carried-within weights P s k within =
     let weight : ℕ → ℕ = λ p. get_or weights p 0 in
     let few = sum_by-le-sum_by (carried weights P s) weight (range_with_len 0 k)
-    (λ p. part_le (is_primary_traffic_target P p s) (weight p)) in
+    (λ p. part_le (is_rebalance_primary_target P p s) (weight p)) in
     let next : sum_by weight (range_with_len 0 (k + 1))
     ≡ sum_by weight (range_with_len 0 k) + weight k = ap (sum_by weight)
     (range_more 0 k k (zero-add k)) ∙ sum_by_push weight (range_with_len 0 k) k in

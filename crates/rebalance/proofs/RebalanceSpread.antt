@@ -4,7 +4,7 @@ use Rattle.base.proofs.Exports.{list_any, range_with_len}
 use Rattle.placement.specs.Placement.{AreHosted, PlacementTurnRule, is_placed_target, placing_by_size, placed_targets_at}
 use Rattle.placement.proofs.PlacementCallerLemmas.{first_distinct, first_there, hosted_fits, hosted_or_refused, same_hosted, same_refused, sum-filter}
 use Rattle.rebalance.specs.Loads.{Fits, peak}
-use Rattle.rebalance.specs.Spread.{AreRebalancePartitionsWeighed, RebalanceSpreadFindsFewer, KeepsPlacement, IsRebalanceProposal, IsRebalanceSpread, RebalanceSpreadLaws, spreading}
+use Rattle.rebalance.specs.Spread.{AreRebalancePartitionsWeighed, RebalanceSpreadFindsFewer, RebalanceKeepsPlacement, IsRebalanceProposal, IsRebalanceSpread, RebalanceSpreadLaws, spreading}
 use Rattle.rebalance.proofs.RebalanceLoads.{bound-le}
 
 -- ---- where there is room
@@ -35,7 +35,7 @@ hosted-fit t P each hosted =
 -- a spread that isn't lower is none, since there is no other one
 pub kept_by_peak : (sizes weights rooms : List ℕ) (backups : ℕ) (old P : List (List ℕ))
     → IsRebalanceSpread sizes weights rooms backups P → peak weights old ≤ peak weights P
-    → KeepsPlacement sizes weights rooms backups old old
+    → RebalanceKeepsPlacement sizes weights rooms backups old old
 kept_by_peak sizes weights rooms backups old P spread most = record {
   same = refl;
   none = λ other is. let same : P ≡ other = same_hosted (spreading sizes weights rooms backups) P
@@ -44,7 +44,7 @@ kept_by_peak sizes weights rooms backups old P spread most = record {
 
 -- where a partition is refused there is none
 pub kept_by_lack : (sizes weights rooms : List ℕ) (backups p : ℕ) (old : List (List ℕ))
-    → RebalanceSpreadFindsFewer sizes weights rooms backups p → KeepsPlacement sizes weights rooms backups old old
+    → RebalanceSpreadFindsFewer sizes weights rooms backups p → RebalanceKeepsPlacement sizes weights rooms backups old old
 kept_by_lack sizes weights rooms backups p old fewer = record {
   same = refl;
   none = λ other is.

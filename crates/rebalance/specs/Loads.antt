@@ -35,15 +35,15 @@ weights_of journal parts = map (weight journal) (range_with_len 0 parts)
 -- ---- the load of a placement
 
 -- the switch is the first target of the partition
-abbrev pub is_primary_traffic_target : List (List ℕ) → ℕ → ℕ → Bool
-is_primary_traffic_target placement partition switch =
+abbrev pub is_rebalance_primary_target : List (List ℕ) → ℕ → ℕ → Bool
+is_rebalance_primary_target placement partition switch =
     list_any (nat_eq switch) (take 1 (placed_targets_at placement partition))
 
 -- the sum of the weights of the partitions whose first target the switch is
 abbrev pub traffic : List ℕ → List (List ℕ) → ℕ → ℕ
 traffic weights placement switch =
     sum_by (slice_index weights)
-    (filter (λ partition. is_primary_traffic_target placement partition switch)
+    (filter (λ partition. is_rebalance_primary_target placement partition switch)
     (range_with_len 0 (length weights)))
 
 -- the sum of the sizes, in rules, of the partitions of which the switch is a target

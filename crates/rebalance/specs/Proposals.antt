@@ -76,7 +76,7 @@ pub record IsProposalFoundFor (rows : List Row) (plan : List Hosted) (net : Net)
   pub least : found.bound ≡ bound (proposal_weights_in journal plan) (rooms_of net)
 
 -- there is a proposal, and this is true of its text
-pub record ProposesFor (rows : List Row) (plan : List Hosted) (net : Net) (journal : List Item)
+pub record RebalanceProposesFor (rows : List Row) (plan : List Hosted) (net : Net) (journal : List Item)
     (IsWritten : List ℕ → Type 0) : Type 0 where
   pub placement : List (List ℕ)
   pub proposed : IsRebalanceProposedFor rows plan net journal placement

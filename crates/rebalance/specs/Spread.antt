@@ -28,7 +28,7 @@ pub record IsRebalancedSpreadLower (sizes weights rooms : List ℕ) (backups : �
   pub lower : peak weights new < peak weights old
 
 -- no spread has a lower peak, and so the old placement stays
-pub record KeepsPlacement (sizes weights rooms : List ℕ) (backups : ℕ) (old new : List (List ℕ))
+pub record RebalanceKeepsPlacement (sizes weights rooms : List ℕ) (backups : ℕ) (old new : List (List ℕ))
     : Type 0 where
   pub same : new ≡ old
   pub none : (other : List (List ℕ)) → IsRebalanceSpread sizes weights rooms backups other
@@ -36,7 +36,7 @@ pub record KeepsPlacement (sizes weights rooms : List ℕ) (backups : ℕ) (old 
 
 abbrev pub IsRebalanceProposal : List ℕ → List ℕ → List ℕ → ℕ → List (List ℕ) → List (List ℕ) → Type 0
 IsRebalanceProposal sizes weights rooms backups old new =
-    IsRebalancedSpreadLower sizes weights rooms backups old new ⊎ KeepsPlacement sizes weights rooms backups old new
+    IsRebalancedSpreadLower sizes weights rooms backups old new ⊎ RebalanceKeepsPlacement sizes weights rooms backups old new
 
 -- ---- what is true of each
 

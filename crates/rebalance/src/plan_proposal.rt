@@ -1,10 +1,10 @@
 ghost use Rattle.std.specs.Prelude.{◌≡◌, ◌++◌, ◌<◌, ◌≤◌, ◌^◌, IfOk, length, sum};
 ghost use Rattle.net_file.specs.Net.{IsNet};
 ghost use Rattle.partition.specs.Plan.{IsPartitionPlan};
-ghost use Rattle.rebalance.specs.Proposals.{IsProposalFoundFor, ProposesFor, rebalance_peaks_text, rebalance_partition_targets};
+ghost use Rattle.rebalance.specs.Proposals.{IsProposalFoundFor, RebalanceProposesFor, rebalance_peaks_text, rebalance_partition_targets};
 ghost use Rattle.rebalance.specs.Spread.{IsRebalanceProposal};
 
-use crate::laws::spread_laws;
+use crate::laws::rebalance_spread_laws;
 use crate::peaks::{bound, peak};
 use crate::proposing::proposed;
 use crate::spreading::spread;
@@ -35,7 +35,7 @@ pub struct Proposal {
 ///
 /// # Errors
 /// Only out of memory.
-pub fn proposal_text(
+pub fn rebalance_proposal_text(
     alloc: Global,
     journal: &Journal,
     plan: &Plan,
@@ -43,16 +43,16 @@ pub fn proposal_text(
 ) -> Result<Vec<u8>, AllocError>
     requires net { IsNet net.now }
     requires plan { IsPartitionPlan plan.now.policy net.now plan.now.hosted }
-    ensures { IfOk result (λ text. ProposesFor plan.now.policy plan.now.hosted net.now journal.now
+    ensures { IfOk result (λ text. RebalanceProposesFor plan.now.policy plan.now.hosted net.now journal.now
         (λ whole. text.items ≡ whole)) }
 {
     let found = find_proposal(alloc, journal, plan, net)?;
     let text = compile_text(alloc, &found.plan, net)?;
-    headed(alloc, found.old_peak, found.new_peak, found.bound, &text)
+    rebalance_headed_text(alloc, found.old_peak, found.new_peak, found.bound, &text)
 }
 
 // The two peaks and the bound of a proposal, and then this text.
-fn headed(
+fn rebalance_headed_text(
     alloc: Global,
     old_peak: u64,
     new_peak: u64,
@@ -80,13 +80,13 @@ fn find_proposal(
     requires plan { IsPartitionPlan plan.now.policy net.now plan.now.hosted }
     ensures { IfOk result (IsProposalFoundFor plan.now.policy plan.now.hosted net.now journal.now) }
 {
-    spread_laws();
+    rebalance_spread_laws();
     let hosted = plan.hosted();
     let weights = weights(alloc, journal, hosted.len() as u32)?;
     let parts = parts_of(alloc, hosted)?;
     let sizes = sizes_of(alloc, &parts)?;
     let rooms = rooms_of(alloc, net)?;
-    let old = targets_of(alloc, hosted)?;
+    let old = rebalance_targets_of(alloc, hosted)?;
     let old_peak = peak(&weights, &old);
     let new = proposed_targets(alloc, &sizes, &weights, &rooms, net.backups, old)?;
     let new_peak = peak(&weights, &new);
@@ -127,7 +127,10 @@ fn proposed_targets(
 }
 
 // The targets of each partition.
-fn targets_of(alloc: Global, hosted: &[(Partition, Targets)]) -> Result<Vec<Targets>, AllocError>
+fn rebalance_targets_of(
+    alloc: Global,
+    hosted: &[(Partition, Targets)],
+) -> Result<Vec<Targets>, AllocError>
     ensures { IfOk result (λ targets. targets.items ≡ rebalance_partition_targets hosted.now) }
 {
     let mut all = Vec::with_capacity(alloc, hosted.len())?;

@@ -16,7 +16,7 @@ pub fn weights(alloc: Global, journal: &Journal, parts: u32) -> Result<Vec<u64>,
     ensures small { IfOk result (λ weights. sum weights.items < 2 ^ 64) }
 {
     let items = journal.items();
-    let current = weighed_version_at_end(items);
+    let current = rebalance_version_at_end(items);
     let mut weights = vec![in alloc; 0; parts as usize]?;
     for item in items {
         add_one_weight(&mut weights, weighed_partition_in(item, current));
@@ -25,7 +25,7 @@ pub fn weights(alloc: Global, journal: &Journal, parts: u32) -> Result<Vec<u64>,
 }
 
 // The version that is current after the items.
-fn weighed_version_at_end(items: &[Item]) -> u32
+fn rebalance_version_at_end(items: &[Item]) -> u32
     ensures { result ≡ journal_current_mark items.now }
 {
     let mut current = 1;

@@ -3,8 +3,8 @@
 use Rattle.std.proofs.Common.{[], ◌++◌, ◌+◌, ◌<◌, ◌∙◌, ◌∷◌, ◌≡◌, ◌≤◌, All, Bool, IsFalse, List, None, Some, ap, append-nil, append_assoc, arith, cond, eq-eqb, get_or, length, map, ne_eqb, refl, subst, sym, ℕ}
 use Rattle.base.proofs.Exports.{All-from_recursion, AllByRecursion, length-map, sum_by-cons}
 use Rattle.controller.specs.declared.sends.Act.{Act}
-use Rattle.refinement.specs.Exports.{AreRefinedMessagesSpelled, RefineUpLinks, RefineUsableLinks, IsRefinedBagOf, IsControllerOf, RefinedNetworkState, RefineJournal, refined_switch_of, refined_acts_written}
-use Rattle.update_machine.specs.Exports.{Hello, IsJournalReached, Item, Message, NoneConcern, Setting, Step, item_concerns_calls, item_concerns_known, concerns_links, item_concerns_packets, count_of, item_gives_message, is_packet, is_sending, journal_last_given, message_of, journal_next_message, piece}
+use Rattle.refinement.specs.Exports.{AreRefinedMessagesSpelled, RefineUpLinks, RefineUsableLinks, IsRefinedBagOf, IsRefinedController, RefinedNetworkState, RefineJournal, refined_switch_of, refined_acts_written}
+use Rattle.update_machine.specs.Exports.{Hello, IsJournalReached, Item, Message, NoneConcern, Setting, Step, item_concerns_calls, item_concerns_known, concerns_links, item_concerns_packets, count_of, machine_item_gives_message, is_packet, is_sending, journal_last_given, journal_message_of, journal_next_message, piece}
 use Rattle.update_machine.proofs.Exports.{count_of_append, have_append, last_given_append, messages_keep, near_stays, next_sent, packets_keep}
 use Rattle.world_log.specs.Exports.{IsLoggedActSpelled, LogMayNote, LogMaySend, log_act_item, log_act_items, log_act_posts, log_number_after_act}
 use Rattle.refinement.proofs.RefinedPacketFacts.{NoneName, none_more}
@@ -136,7 +136,7 @@ pub record IsTold (setting : Setting) (journal : List Item) (row : ℕ) (step : 
       → get_or later.switches s d ≡ refined_switch_of setting (journal ++ Item.Row row step ∷ first) s
   pub bag : IsRefinedBagOf (journal ++ Item.Row row step ∷ first) later.posts
   pub number : length later.posts ≡ length state.posts
-  pub controller : IsControllerOf setting (journal ++ piece setting journal row step)
+  pub controller : IsRefinedController setting (journal ++ piece setting journal row step)
       later.controller
   pub up : RefineUpLinks setting (journal ++ Item.Row row step ∷ first) later.links
   pub usable : RefineUsableLinks setting (journal ++ Item.Row row step ∷ first) later.near
@@ -262,7 +262,7 @@ acts_fit setting journal row step first number acts few is =
 
 -- later numbers are other ones
 untold : (k number : ℕ) (acts : List Act) → k < number
-    → journal_last_given (item_gives_message k) (log_act_items number acts) ≡ None
+    → journal_last_given (machine_item_gives_message k) (log_act_items number acts) ≡ None
 unfolding log_act_items
 untold k number [] below = refl
 untold k number (Act.Current v ∷ acts) below = rw (untold k number acts below) refl
@@ -272,10 +272,10 @@ untold k number (Act.Post message ∷ acts) below =
     rw (untold k (number + 1) acts (omega (arith, below)), other) refl
 
 sent_there : (before : List Item) (number : ℕ) (message : Message) (acts : List Act)
-    → message_of (before ++ Item.Sent number message ∷ log_act_items (number + 1) acts) number
+    → journal_message_of (before ++ Item.Sent number message ∷ log_act_items (number + 1) acts) number
     ≡ Some message
-unfolding message_of
-sent_there before number message acts = last_given_append (item_gives_message number) before
+unfolding journal_message_of
+sent_there before number message acts = last_given_append (machine_item_gives_message number) before
     (Item.Sent number message ∷ log_act_items (number + 1) acts)
     ∙ rw (untold number (number + 1) acts (omega arith), eq-eqb number number refl) refl
 

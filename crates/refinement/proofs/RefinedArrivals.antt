@@ -3,10 +3,10 @@
 use Rattle.std.proofs.Common.{[], if◌then◌else◌, ◌++◌, ◌+◌, ◌==◌, ◌∙◌, ◌∷◌, ◌≡◌, Bool, IsTrue, List, None, Option, Some, ap, arith, eq-eqb, false, nat_eq, option_and_then, position, refl, slice_get, subst, sym, true, ℕ}
 use Rattle.base.proofs.Exports.{list_any, option_map, option_map_or, unwrap_or, ⊤}
 use Rattle.five_tuple.specs.Exports.{IsHeader, number_of}
-use Rattle.update_machine.specs.Exports.{Exit, Header, Item, Leg, NoneConcern, Ports, Seek, Setting, Tables, journal_leg_arrival_items, machine_arrive_items, machine_authority_items, journal_authority_rule, item_concerns_policies, journal_decision_of, first_place as first_place_in, journal_packet_header_at, holds_version, lookup_items, journal_next_message, journal_plan_at, policy_at, journal_tables_at, targets_of}
+use Rattle.update_machine.specs.Exports.{Exit, Header, Item, Leg, NoneConcern, Ports, Seek, Setting, Tables, journal_leg_arrival_items, machine_arrive_items, machine_authority_items, journal_authority_rule, item_concerns_policies, journal_decision_of, first_place as first_place_in, journal_packet_header_at, holds_version, machine_lookup_items, journal_next_message, journal_plan_at, policy_at, journal_tables_at, journal_leg_targets}
 use Rattle.net_file.specs.Exports.{net_port_owner}
 use Rattle.policy_rules.specs.Exports.{is_held}
-use Rattle.switch_core.specs.Exports.{SwitchArrival, SwitchValue, around, switch_arrival_on_leg, switch_answer_by_rule, switch_answer_in_partition, held_tables, looked_up, switch_part_numbered, switch_own_rule_place}
+use Rattle.switch_core.specs.Exports.{SwitchArrival, SwitchValue, around, switch_arrival_on_leg, switch_answer_by_rule, switch_answer_in_partition, held_tables, looked_up, switch_core_partition_numbered, switch_own_rule_place}
 use Rattle.switch_core.specs.Answers as arrived
 use Rattle.switch_core.specs.declared.tunnel_calls.Packet.{Packet}
 use Rattle.switch_table.specs.Exports.{Hosted}
@@ -102,7 +102,7 @@ module _ (setting : Setting) (journal : List Item) (s : ℕ) (w : SwitchValue) (
   -- and in the switch's own partition
   place_in_tables : (version partition : ℕ)
       (ours : IsOurs setting journal s packet.header version partition)
-      → switch_own_rule_place packet.header (switch_part_numbered (journal_tables_at setting journal version s) partition)
+      → switch_own_rule_place packet.header (switch_core_partition_numbered (journal_tables_at setting journal version s) partition)
       ≡ ours.finds.place
   place_in_tables version partition ours = ap (switch_own_rule_place packet.header)
       (own_numbered (journal_plan_at setting journal version) s version partition ours.hosted
@@ -112,7 +112,7 @@ module _ (setting : Setting) (journal : List Item) (s : ℕ) (w : SwitchValue) (
   -- at an authority that has the version, or not
   sought_law : (t : Flight) (version partition : ℕ) (b : Bool) → holds_version journal s version ≡ b
       → IsOurs setting journal s packet.header version partition → elim b [
-        | false ↦ lookup_items setting packet.number s journal
+        | false ↦ machine_lookup_items setting packet.number s journal
         | true ↦ machine_authority_items setting packet.number s (journal_authority_rule setting journal version
             partition (first_place_in setting journal version partition
             (journal_packet_header_at journal packet.number))) journal
@@ -128,7 +128,7 @@ module _ (setting : Setting) (journal : List Item) (s : ℕ) (w : SwitchValue) (
       ∙ sym (ruled_law setting journal s w mask ports packet asked version partition ours)
       ∙ ap (λ place. log_arrived_items (journal_next_message journal) at t.version t.rule
       (arrived.Answered (switch_answer_by_rule w (around mask ports) packet version
-      (switch_part_numbered (journal_tables_at setting journal version s) partition) place)))
+      (switch_core_partition_numbered (journal_tables_at setting journal version s) partition) place)))
       (sym (place_in_tables version partition ours))
       ∙ ap (λ (o : Option Tables). log_arrived_items (journal_next_message journal) at t.version t.rule
       (arrived.Answered (option_map_or (switch_answer_in_partition w (around mask ports) packet partition) o
@@ -158,17 +158,17 @@ module _ (setting : Setting) (journal : List Item) (s : ℕ) (w : SwitchValue) (
   arrive_law t (Seek version partition) of takes end =
       cc (takes, sought_law t version partition (holds_version journal s version) refl end)
 
-  pub arrive_comes : (leg : Leg) → GoesOut (targets_of setting journal) (at_switch s packet)
+  pub arrive_comes : (leg : Leg) → GoesOut (journal_leg_targets setting journal) (at_switch s packet)
       (switch_arrival_on_leg w (around mask ports) packet leg)
   unfolding switch_answer_in_partition
   arrive_comes (Exit port) = tt
   arrive_comes (Seek version partition) = by_tables (held_tables w version) where
-    by_tables : (o : Option Tables) → IsComing (targets_of setting journal) at
+    by_tables : (o : Option Tables) → IsComing (journal_leg_targets setting journal) at
         (option_map_or (switch_answer_in_partition w (around mask ports) packet partition) o (looked_up w (around mask ports) packet))
     by_tables None = looked_goes setting journal s w mask ports packet asked
     by_tables (Some tables) = ruled_goes setting journal s tables.version
-        (switch_own_rule_place packet.header (switch_part_numbered tables partition)) w mask ports packet
-        (switch_part_numbered tables partition) asked.owners
+        (switch_own_rule_place packet.header (switch_core_partition_numbered tables partition)) w mask ports packet
+        (switch_core_partition_numbered tables partition) asked.owners
 
 -- ---- what becomes of the packet
 

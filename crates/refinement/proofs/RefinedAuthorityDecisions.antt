@@ -1,13 +1,13 @@
 -- An authority rule decides a packet at a switch as the journal's definitions say.
 use Rattle.std.proofs.Common.{[], ◌++◌, ◌<◌, ◌==◌, ◌∙◌, ◌∷◌, ◌≡◌, Bool, Err, IsSomeAnd, IsTrue, List, None, Ok, Option, Result, Some, ap, append-nil, arith, eq-eqb, false, length, map, option_map, refl, slice_get, subst, sym, true, unwrap_or, ℕ}
-use Rattle.policy_rules.specs.Exports.{ArePartsNumbered}
-use Rattle.update_machine.specs.Exports.{AuthorityRule, CacheEntry, Cause, Found, JournalItemsHaveCauses, Header, IsSetting, Item, Leg, Message, Partition, Ports, Rule, Seek, Setting, Tables, machine_authority_items, journal_authority_rule, journal_cache_items, end_items, journal_found_down, found_items, journal_packet_header_at, in_turn, is_at, is_sending, lookup_at, lookup_items, journal_next_message, journal_plan_at, policy_at, cache_rule as rule_message, send_items, machine_sent_items_from, serves, journal_stamp_of, journal_tables_at, targets_of}
-use Rattle.switch_core.specs.Exports.{Decided, SwitchSite, SwitchValue, switch_answer_by_found, around, by_entry, by_rule, switch_answer_by_rule, looked_up, next_of, no_switch_part, no_rule, own_part, switch_part_numbered, switch_cache_rule_sent, switch_own_rule_in, switch_seek_by, set_out, stamp_tables}
+use Rattle.policy_rules.specs.Exports.{ArePolicyPartitionsNumbered}
+use Rattle.update_machine.specs.Exports.{AuthorityRule, CacheEntry, Cause, Found, JournalItemsHaveCauses, Header, IsSetting, Item, Leg, Message, Partition, Ports, Rule, Seek, Setting, Tables, machine_authority_items, journal_authority_rule, journal_cache_items, machine_end_items, journal_found_down, found_items, journal_packet_header_at, in_turn, is_at, is_sending, lookup_at, machine_lookup_items, journal_next_message, journal_plan_at, policy_at, cache_rule as rule_message, send_items, machine_sent_items_from, serves, journal_stamp_of, journal_tables_at, journal_leg_targets}
+use Rattle.switch_core.specs.Exports.{Decided, SwitchSite, SwitchValue, switch_answer_by_found, around, by_entry, by_rule, switch_answer_by_rule, looked_up, next_of, no_switch_core_partition, no_rule, own_part, switch_core_partition_numbered, switch_cache_rule_sent, switch_core_rule_in, switch_seek_by, set_out, stamp_tables}
 use Rattle.switch_table.specs.Exports.{Hosted, has_target, part_of, tables_of}
 use Rattle.refinement.proofs.RefinedSwitchKnowledge.{own_has}
 use Rattle.base.proofs.Exports.{get_or_from_slice_get}
 use Rattle.five_tuple.specs.Exports.{IsHeader, header_of}
-use Rattle.net_file.specs.Exports.{ArePortOwners}
+use Rattle.net_file.specs.Exports.{AreNetPortOwners}
 use Rattle.switch_core.specs.declared.deciding.Decision.{Decision}
 use Rattle.switch_core.specs.declared.tunnel_calls.Packet.{Packet}
 use Rattle.update_machine.proofs.Exports.{count_of_append}
@@ -23,14 +23,14 @@ use Rattle.travelling.specs.Travelling.{Standing}
 -- ---- a switch's own partition of a number is that of the plan
 
 unwrapped : (o : Option Partition) (this : Partition) → IsSomeAnd o (λ part. part ≡ this)
-    → unwrap_or o no_switch_part ≡ this
+    → unwrap_or o no_switch_core_partition ≡ this
 unwrapped None this is = absurd is
 unwrapped (Some part) this is = is
 
 pub own_numbered : (plan : List Hosted) (s version partition : ℕ) (hosted : Hosted)
-    → ArePartsNumbered (map part_of plan) → slice_get plan partition ≡ Some hosted
+    → ArePolicyPartitionsNumbered (map part_of plan) → slice_get plan partition ≡ Some hosted
     → hosted.0.number ≡ partition → IsTrue (has_target s hosted)
-    → switch_part_numbered (tables_of plan version s) partition ≡ part_of hosted
+    → switch_core_partition_numbered (tables_of plan version s) partition ≡ part_of hosted
 own_numbered plan s version partition hosted numbers there number target =
     unwrapped (own_part (tables_of plan version s) partition) (part_of hosted)
     (own_has (λ part. part ≡ part_of hosted) plan s version partition hosted numbers there number
@@ -72,7 +72,7 @@ told_by_rule s packet found =
     log_cache_message packet.ingress (switch_cache_rule_sent s packet found.version found.part found.place)
 
 -- a rule of this place is what the switch finds there
-own_rule : (found : AuthorityRule) → IsOwnRule found → switch_own_rule_in found.part found.place ≡ found.rule
+own_rule : (found : AuthorityRule) → IsOwnRule found → switch_core_rule_in found.part found.place ≡ found.rule
 own_rule found own = get_or_from_slice_get found.part.rules found.place found.rule no_rule own
 
 -- it tells the rule by which it decides
@@ -182,7 +182,7 @@ both_blocks first second journal = cc (append-nil (second (journal ++ first jour
 
 pub authority_law : (setting : Setting) (journal : List Item) (s : ℕ) (w : SwitchValue) (mask : ℕ)
     → Sees setting journal s w mask
-    → s < 64 → (ports : Ports) → ArePortOwners setting.net.switches ports
+    → s < 64 → (ports : Ports) → AreNetPortOwners setting.net.switches ports
     → (packet : Packet) → IsPacket journal packet → (found : AuthorityRule) → IsOwnRule found
     → machine_authority_items setting packet.number s (Some found) journal
     ≡ log_decided_items (at_switch s packet) (by_rule s found.version found.part.number found.rule)
@@ -200,8 +200,8 @@ authority_law setting journal s w mask sees there ports owners packet is found o
     ∙ ap (λ n. machine_sent_items_from n (log_message_list (told_by_rule s packet found)))
     (number_stays journal packet decision) in
     ap (λ items. decided ∷ items)
-    (both_blocks (journal_cache_items setting i s found) (end_items setting i s found.rule.action) after
-    ∙ ap (λ items. items ++ end_items setting i s found.rule.action (after ++ items)) told
+    (both_blocks (journal_cache_items setting i s found) (machine_end_items setting i s found.rule.action) after
+    ∙ ap (λ items. items ++ machine_end_items setting i s found.rule.action (after ++ items)) told
     ∙ ap (λ items. sent ++ items) (end_law setting (after ++ sent) s w mask (sees_sent setting after
     s w mask (journal_next_message journal) (told_by_rule s packet found) (sees_one setting journal decided
     s w mask (record { switch = refl; links = refl; policies = refl }) sees)) there ports owners
@@ -218,7 +218,7 @@ pub record IsAsked (setting : Setting) (journal : List Item) (s : ℕ) (w : Swit
   pub there : s < length setting.net.switches
   pub serving : IsTrue (serves journal s)
   pub sees : Sees setting journal s w mask
-  pub owners : ArePortOwners setting.net.switches ports
+  pub owners : AreNetPortOwners setting.net.switches ports
   pub sound : IsHeader packet.header
   pub of_packet : IsPacket journal packet
 
@@ -244,7 +244,7 @@ pub targets_are : (setting : Setting) (journal : List Item) (version partition :
     (targets : List ℕ) (hosted : Hosted)
     → slice_get (journal_plan_at setting journal version) hosted.0.number ≡ Some hosted
     → hosted.0.number ≡ partition → hosted.1 ≡ targets
-    → targets_of setting journal (Seek version partition) ≡ targets
+    → journal_leg_targets setting journal (Seek version partition) ≡ targets
 targets_are setting journal version partition targets hosted at number own = cc (number, at, own)
 
 module _ (setting : Setting) (journal : List Item) (s : ℕ) (w : SwitchValue) (mask : ℕ)
@@ -279,7 +279,7 @@ module _ (setting : Setting) (journal : List Item) (s : ℕ) (w : SwitchValue) (
   pub ruled_law : (version partition : ℕ) (ours : IsOurs setting journal s packet.header version
       partition) → log_answer_items (journal_next_message journal) (at_switch s packet)
       (switch_answer_by_rule w (around mask ports) packet version
-      (switch_part_numbered (journal_tables_at setting journal version s) partition) ours.finds.place)
+      (switch_core_partition_numbered (journal_tables_at setting journal version s) partition) ours.finds.place)
       ≡ machine_authority_items setting packet.number s
       (journal_authority_rule setting journal version partition ours.finds.place) journal
   unfolding switch_answer_by_rule
@@ -293,7 +293,7 @@ module _ (setting : Setting) (journal : List Item) (s : ℕ) (w : SwitchValue) (
       ours.planned.parts.sound.numbers
       (ap (slice_get (journal_plan_at setting journal version)) (sym ours.number) ∙ ours.finds.at)
       ours.number ours.target in
-      ap (λ part. items_of w.number part (switch_own_rule_in part place)) own
+      ap (λ part. items_of w.number part (switch_core_rule_in part place)) own
       ∙ ap (items_of w.number part)
       (get_or_from_slice_get ours.hosted.0.rules place ours.finds.rule no_rule ours.finds.ruled)
       ∙ ap (λ number. items_of number part ours.finds.rule) asked.sees.number
@@ -322,7 +322,7 @@ module _ (setting : Setting) (journal : List Item) (s : ℕ) (w : SwitchValue) (
         target = own.target;
       } in
       subst (λ k. log_answer_items (journal_next_message journal) at (switch_answer_by_rule w site packet version
-      (switch_part_numbered (journal_tables_at setting journal version s) partition) k) ≡ machine_authority_items setting
+      (switch_core_partition_numbered (journal_tables_at setting journal version s) partition) k) ≡ machine_authority_items setting
       packet.number s (journal_authority_rule setting journal version partition k) journal) own.found_at
       (ruled_law version partition ours)
   answer_law (Found.Redirect partition targets) answer =
@@ -337,10 +337,10 @@ module _ (setting : Setting) (journal : List Item) (s : ℕ) (w : SwitchValue) (
       ∙ sym (leg_law setting journal s w mask asked.sees packet (found_of journal packet asked.of_packet)
       leg)
 
-  pub looked_law : lookup_items setting packet.number s journal
+  pub looked_law : machine_lookup_items setting packet.number s journal
       ≡ log_answer_items (journal_next_message journal) (at_switch s packet)
       (looked_up w (around mask ports) packet)
-  unfolding lookup_items looked_up
+  unfolding machine_lookup_items looked_up
   looked_law = let what : Found = lookup_at setting journal s packet.header in
       ap (λ header. found_items setting packet.number s (lookup_at setting journal s header)
       journal) (header_is journal packet.number packet.header asked.of_packet.entered)

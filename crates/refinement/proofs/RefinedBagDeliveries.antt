@@ -1,8 +1,8 @@
 -- What the bag says of a message, and a message that is forgotten.
 use Rattle.std.proofs.Common.{[], ◌&&◌, ◌++◌, ◌<◌, ◌∙◌, ◌∷◌, ◌≡◌, Bool, IfSome, IsFalse, List, None, Option, Some, ap, append_assoc, arith, false, get_or, if◌then◌else◌, is_some, length, not, option_and_then, option_map, refl, rules, subst, sym, true, ℕ}
-use Rattle.message_bag.specs.Exports.{IsMessageOf, Post, is_post_deliverable, posted_frames, bag_frames_remembered, posts_with_forgotten}
+use Rattle.message_bag.specs.Exports.{IsBagMessageOf, Post, is_post_deliverable, posted_frames, bag_frames_remembered, posts_with_forgotten}
 use Rattle.message_bag.proofs.BagFramedMessages.{known_by_frames}
-use Rattle.update_machine.specs.Exports.{Forget, Item, Message, Place, Setting, Step, item_concerns_calls, forget_items, is_deliverable, is_forgotten_in_journal, message_of, near, nothing, piece, machine_message_to_switch, was_delivered}
+use Rattle.update_machine.specs.Exports.{Forget, Item, Message, Place, Setting, Step, item_concerns_calls, machine_forget_items, is_deliverable, is_forgotten_in_journal, journal_message_of, near, nothing, piece, machine_message_to_switch, was_delivered}
 use Rattle.steps.specs.Exports.{IsStep}
 use Rattle.update_machine.proofs.Exports.{message_keeps}
 use Rattle.refinement.specs.Exports.{IsRefinedBagOf, RefinedNetworkState, RefineJournal, RefinementTablesAreKnown, refined_post_at}
@@ -10,7 +10,7 @@ use Rattle.refinement.proofs.RefinedSteps.{Known, WroteOne, reached_known, refin
 use Rattle.refinement.proofs.RefinedPostedFrames.{bag_forgotten, bag_on, some_within}
 use Rattle.control_laws.specs.Exports.{StepsSendFew}
 use Rattle.control_laws.proofs.Exports.{piece_few, versions_few}
-use Rattle.switch_core.specs.Exports.{IsBodySoundForSwitch}
+use Rattle.switch_core.specs.Exports.{IsSoundSwitchBody}
 use Rattle.refinement.proofs.RefinedSwitchKnowledge.{requirements_hold}
 
 -- ---- what the bag says of a message
@@ -24,7 +24,7 @@ pub deliverable_as : (journal : List Item) (posts : List Post) (n : ℕ) → IsR
 unfolding is_deliverable refined_post_at
 deliverable_as journal posts n bag =
     sym (ap (λ o. is_some (option_and_then bag_frames_remembered o)) (bag.each n)
-    ∙ by_flag (message_of journal n) (was_delivered journal n) (is_forgotten_in_journal journal n))
+    ∙ by_flag (journal_message_of journal n) (was_delivered journal n) (is_forgotten_in_journal journal n))
   where
     by_flag : (o : Option Message) (was gone : Bool)
         → is_some (option_and_then bag_frames_remembered (flagged was gone o)) ≡ (is_some o && not gone)
@@ -33,10 +33,10 @@ deliverable_as journal posts n bag =
     by_flag (Some m) was false = refl
 
 pub sent_as : (journal : List Item) (posts : List Post) (n : ℕ) (message : Message)
-    → IsRefinedBagOf journal posts → IsMessageOf posts n message → message_of journal n ≡ Some message
+    → IsRefinedBagOf journal posts → IsBagMessageOf posts n message → journal_message_of journal n ≡ Some message
 unfolding refined_post_at
 sent_as journal posts n message bag is =
-    by_flag (message_of journal n) (was_delivered journal n) (is_forgotten_in_journal journal n)
+    by_flag (journal_message_of journal n) (was_delivered journal n) (is_forgotten_in_journal journal n)
     (sym (ap (option_and_then bag_frames_remembered) (bag.each n)) ∙ is.frames_are)
   where
     by_flag : (o : Option Message) (was gone : Bool)
@@ -48,15 +48,15 @@ sent_as journal posts n message bag is =
 
 -- a message that was found
 pub found_there : (posts : List Post) (n : ℕ) (message : Message) (o : Option Message)
-    → o ≡ Some message → IfSome o (IsMessageOf posts n) → IsMessageOf posts n message
-found_there posts n message o is all = subst (λ o. IfSome o (IsMessageOf posts n)) is all
+    → o ≡ Some message → IfSome o (IsBagMessageOf posts n) → IsBagMessageOf posts n message
+found_there posts n message o is all = subst (λ o. IfSome o (IsBagMessageOf posts n)) is all
 
 -- ---- pieces
 
 forget_piece : (setting : Setting) (journal : List Item) (row n : ℕ)
     → piece setting journal row (Forget n) ≡ Item.Row row (Forget n)
     ∷ (if is_deliverable journal n then Item.Forgotten n ∷ [] else nothing)
-unfolding piece forget_items
+unfolding piece machine_forget_items
 forget_piece setting journal row n =
     ap (λ b. Item.Row row (Forget n) ∷ elim b [ false ↦ nothing | true ↦ Item.Forgotten n ∷ [] ])
     (message_keeps n journal (Item.Row row (Forget n) ∷ []) (refl, tt)).deliverable
@@ -127,9 +127,9 @@ sends_few setting journal knows = λ row step. piece_few setting knows.is.net jo
 module _ {setting : Setting} {journal : List Item} {state : RefinedNetworkState}
     (refines : RefineJournal setting journal state) where
   -- a message's switch is there, and the body is sound
-  pub hear_ready : (n s : ℕ) (message : Message) → IsMessageOf state.posts n message
+  pub hear_ready : (n s : ℕ) (message : Message) → IsBagMessageOf state.posts n message
       → message.to ≡ Place.Switch s
-      → (s < length state.switches) × (s < 64) × IsBodySoundForSwitch message.body
+      → (s < length state.switches) × (s < 64) × IsSoundSwitchBody message.body
   hear_ready n s message there to =
       let sent = sent_as journal state.posts n message refines.bag there
       ∙ ap (λ p. Some (record { to = p; body = message.body })) to in

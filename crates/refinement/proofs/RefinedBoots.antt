@@ -1,7 +1,7 @@
 -- A switch that was down begins its next boot: what is written, and the parts after it.
 use Rattle.std.proofs.Common.{[], if◌then◌else◌, ◌&&◌, ◌++◌, ◌+◌, ◌<◌, ◌==◌, ◌∙◌, ◌∷◌, ◌≡◌, Bool, List, ap, append_assoc, arith, cond, eq-eqb, eqb-true, false, filter, get_or, length, not, refl, set, subst, sym, true, ℕ}
 use Rattle.base.proofs.Exports.{None, Some, length-set, option_or, unwrap_or}
-use Rattle.update_machine.specs.Exports.{HasRoom, JournalItemsHaveCauses, Hello, Item, LinkRow, Message, Restart, Setting, journal_boot_of, item_gives_boot, item_gives_serving, journal_usable_links_changed, machine_hello_of, is_link_up_in_journal, is_up, is_usable_in_journal, journal_items_then, journal_last_given, near, journal_next_message, nothing, piece, restart_items, send_items, machine_sent_items_from, serves}
+use Rattle.update_machine.specs.Exports.{HasRoom, JournalItemsHaveCauses, Hello, Item, LinkRow, Message, Restart, Setting, journal_boot_of, machine_item_gives_boot, machine_item_gives_serving, journal_usable_links_changed, machine_hello_of, is_link_up_in_journal, is_up, is_usable_in_journal, journal_items_then, journal_last_given, near, journal_next_message, nothing, piece, restart_items, send_items, machine_sent_items_from, serves}
 use Rattle.message_bag.specs.Exports.{new_post}
 use Rattle.control_laws.proofs.Exports.{caused_known, fit_in_room, serving_known}
 use Rattle.refinement.proofs.RefinedControllerResends.{steps_leave}
@@ -84,7 +84,7 @@ module _ {setting : Setting} {journal : List Item} {state : RefinedNetworkState}
 
   boot_now : journal_boot_of now s ≡ boot
   unfolding journal_boot_of
-  boot_now = cc (split, last_given_append (item_gives_boot s) rowed (booted ∷ []), eq-eqb s s refl)
+  boot_now = cc (split, last_given_append (machine_item_gives_boot s) rowed (booted ∷ []), eq-eqb s s refl)
 
   abbrev hello : Message
   hello = to_controller (Hello s boot)
@@ -115,7 +115,7 @@ module _ {setting : Setting} {journal : List Item} {state : RefinedNetworkState}
       → serves now x ≡ serves journal x
   unfolding serves
   serves_now x b down is =
-      cc (split, last_given_append (item_gives_serving x) rowed (booted ∷ []), is, by_own b is)
+      cc (split, last_given_append (machine_item_gives_serving x) rowed (booted ∷ []), is, by_own b is)
     where
       closed : (y : ℕ) → (s == y) ≡ true → serves journal y ≡ false
       closed y same = by_test (serves journal y) refl where
@@ -128,7 +128,7 @@ module _ {setting : Setting} {journal : List Item} {state : RefinedNetworkState}
             absurd cc
 
       by_own : (c : Bool) → (s == x) ≡ c → unwrap_or (option_or (if c then Some false else None)
-          (journal_last_given (item_gives_serving x) rowed)) true ≡ serves journal x
+          (journal_last_given (machine_item_gives_serving x) rowed)) true ≡ serves journal x
       by_own true same = sym (closed x same)
       by_own false other =
           (switch_keeps setting x journal (Item.Row row (Restart s) ∷ []) (refl, tt)).serving

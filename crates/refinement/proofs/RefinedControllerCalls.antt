@@ -1,12 +1,12 @@
 -- What the calls by which the controller begins, hears something and confirms write.
 use Rattle.std.proofs.Common.{[], if◌then◌else◌, ◌++◌, ◌+◌, ◌-◌, ◌<◌, ◌∙◌, ◌∷◌, ◌≡◌, Bool, IsFalse, IsTrue, List, None, Some, ap, append-nil, append_assoc, arith, false, get_or-set_same, length, length-set, map, nat_lt, refl, subst, sym, true, ℕ}
 use Rattle.base.proofs.Exports.{length-map, map_twice, range_with_len}
-use Rattle.update_machine.specs.Exports.{Body, Confirm, Deliver, Hello, Item, Setting, Step, after_hello, journal_body_to_controller, confirm_items, controller_items, journal_current_mark, deliver_items, machine_delivery_items, journal_install_for, machine_installs_to, is_deliverable, is_new_boot_in_journal, is_to_controller, is_up, journal_items_then, journal_known_boot, message_of, nothing, piece, machine_received_items, settling, journal_version_count, journal_versions_from_current}
+use Rattle.update_machine.specs.Exports.{Body, Confirm, Deliver, Hello, Item, Setting, Step, machine_after_hello, journal_body_to_controller, confirm_items, controller_items, journal_current_mark, deliver_items, machine_delivery_items, journal_install_for, machine_installs_to, is_deliverable, is_new_boot_in_journal, is_to_controller, is_up, journal_items_then, journal_known_boot, journal_message_of, nothing, piece, machine_received_items, settling, journal_version_count, journal_versions_from_current}
 use Rattle.ctrl_msg.specs.Exports.{to_controller}
 use Rattle.update_machine.proofs.Exports.{controller_keeps, first_touched, have_append, start_laws}
 use Rattle.control_laws.specs.Exports.{HasControlItemCause}
 use Rattle.control_laws.proofs.Exports.{count_more, current_more, in_two, installs_reopen, leaves_keep, message_more, sends_leave, up_more}
-use Rattle.version_update.specs.Exports.{MarksValue, after_over, at_switch, record_of, update_takes_hello, unknown_switch_record}
+use Rattle.version_update.specs.Exports.{MarksValue, mark_record_after_over, at_switch, record_of, update_takes_hello, unknown_switch_record}
 use Rattle.version_update.specs.Record as known
 use Rattle.version_update.specs.declared.record.Phase.TheVariants.{Joining}
 use Rattle.version_update.specs.declared.record.SwitchRecord.{SwitchRecord}
@@ -14,7 +14,7 @@ use Rattle.controller.specs.Exports.{ControllerValue, KeptPlan, ControllerReplyN
 use Rattle.controller.specs.Sends as acts
 use Rattle.controller.specs.declared.sends.Act.{Act}
 use Rattle.controller.specs.declared.sends.Act.TheVariants.{Post}
-use Rattle.refinement.specs.Exports.{AreRefinedActsWritten, IsControllerOf, refined_plan_to_keep, refined_acts_written}
+use Rattle.refinement.specs.Exports.{AreRefinedActsWritten, IsRefinedController, refined_plan_to_keep, refined_acts_written}
 use Rattle.refinement.proofs.RefinedControllerHearing.{marks_over, marks_told}
 use Rattle.refinement.proofs.RefinedKeptController.{marks_begun, posted, written_in_two}
 use Rattle.refinement.proofs.RefinedControllerPlans.{controller_on, plans_on, plans_stay, settles_with}
@@ -25,7 +25,7 @@ use Rattle.switch_table.specs.Exports.{cache_all_touched}
 -- ---- the start
 
 pub begins : (setting : Setting) (plan : PlanValue) → plan ≡ (refined_plan_to_keep setting [] 1).plan
-    → IsControllerOf setting [] (controller_at_start (length setting.net.switches) plan)
+    → IsRefinedController setting [] (controller_at_start (length setting.net.switches) plan)
 begins setting plan is = record {
   marks = marks_begun setting;
   plans = cc (is, first_touched setting [], start_laws.current, one);
@@ -45,8 +45,8 @@ behind_row setting before row step have =
 
 pub row_on : (setting : Setting) (before : List Item) (row : ℕ) (step : Step)
     (controller : ControllerValue) → AreCaused setting before
-    → IsControllerOf setting before controller
-    → IsControllerOf setting (before ++ Item.Row row step ∷ []) controller
+    → IsRefinedController setting before controller
+    → IsRefinedController setting (before ++ Item.Row row step ∷ []) controller
 row_on setting before row step controller have is =
     controller_on setting before (Item.Row row step ∷ []) controller have
     (controller_keeps before (Item.Row row step ∷ []) (refl, tt)) is
@@ -59,19 +59,19 @@ behind_two before one two items = sym (append_assoc before (one ∷ []) (two ∷
 
 pub are_written : (setting : Setting) (before : List Item) (one two : Item) (items : List Item)
     (acts : List Act) (new : ControllerValue) → let now = (before ++ one ∷ []) ++ two ∷ [] in
-    refined_acts_written now acts ≡ items → IsControllerOf setting (now ++ items) new
+    refined_acts_written now acts ≡ items → IsRefinedController setting (now ++ items) new
     → AreRefinedActsWritten setting before (one ∷ two ∷ []) acts new (one ∷ two ∷ items)
 are_written setting before one two items acts new same after = record {
   same = ap (λ more. one ∷ two ∷ more)
       (sym same ∙ ap (λ js. refined_acts_written js acts) (append_assoc before (one ∷ []) (two ∷ [])));
-  after = subst (λ js. IsControllerOf setting js new) (sym (behind_two before one two items)) after;
+  after = subst (λ js. IsRefinedController setting js new) (sym (behind_two before one two items)) after;
 }
 
 -- ---- what is delivered to the controller
 
 -- a switch that told a new boot
 hello_boot_is : (setting : Setting) (now : List Item) (s boot : ℕ) (old new : ControllerValue)
-    → IsControllerOf setting (now ++ settling setting now) new
+    → IsRefinedController setting (now ++ settling setting now) new
     → ControllerSettlesWith (at_switch s (known.update_hello_recorded boot) old.marks) old.plans new
     → s < length old.marks.switches → update_takes_hello boot (record_of old.marks s) ≡ true
     → boot ≡ journal_known_boot (now ++ settling setting now) s
@@ -105,10 +105,10 @@ hello_boot_is setting now s boot old new after settles there taken =
 
 hello_written : (setting : Setting) (before one : List Item)
     (body : Body) (old : MarksValue) (new : ControllerValue) → AreCaused setting one
-    → IsControllerOf setting one new → ((s boot : ℕ) → body ≡ Hello s boot
+    → IsRefinedController setting one new → ((s boot : ℕ) → body ≡ Hello s boot
     → (update_takes_hello boot (record_of old s) ≡ is_new_boot_in_journal before s boot)
     × (update_takes_hello boot (record_of old s) ≡ true → boot ≡ journal_known_boot one s))
-    → refined_acts_written one (controller_installs_after body old new) ≡ after_hello setting before body one
+    → refined_acts_written one (controller_installs_after body old new) ≡ machine_after_hello setting before body one
 unfolding machine_installs_to
 hello_written setting before one (Hello s boot) old new have is told =
     cc (by_new (update_takes_hello boot (record_of old s)) refl, (told s boot refl).0)
@@ -129,24 +129,24 @@ hello_written setting before one (Hello s boot) old new have is told =
 hello_written setting before one body old new have is told = refl
 
 installs_leave : (setting : Setting) (before one : List Item) (body : Body)
-    (new : ControllerValue) → AreCaused setting one → IsControllerOf setting one new
-    → IsControllerOf setting (one ++ after_hello setting before body one) new
+    (new : ControllerValue) → AreCaused setting one → IsRefinedController setting one new
+    → IsRefinedController setting (one ++ machine_after_hello setting before body one) new
 unfolding machine_installs_to
 installs_leave setting before one (Hello s boot) new have is = by_new (is_new_boot_in_journal before s boot)
   where
-    by_new : (b : Bool) → IsControllerOf setting
+    by_new : (b : Bool) → IsRefinedController setting
         (one ++ elim b [ true ↦ machine_installs_to setting s one | false ↦ [] ]) new
     by_new true = controller_on setting one (machine_installs_to setting s one) new have
         (leaves_keep one (machine_installs_to setting s one)
         (sends_leave one _ (installs_reopen setting one s (journal_versions_from_current one)))) is
-    by_new false = subst (λ js. IsControllerOf setting js new) (sym (append-nil one)) is
+    by_new false = subst (λ js. IsRefinedController setting js new) (sym (append-nil one)) is
 installs_leave setting before one body new have is = rw (append-nil one) is
 
 -- what is said, and what is known as it is
 module _ (setting : Setting) (before : List Item) (row n : ℕ) (body : Body)
     (old new : ControllerValue) (have : AreCaused setting before)
-    (is : IsControllerOf setting before old)
-    (sent : message_of before n ≡ Some (to_controller body)) (there : ControllerReplyNamesExist body old.marks)
+    (is : IsRefinedController setting before old)
+    (sent : journal_message_of before n ≡ Some (to_controller body)) (there : ControllerReplyNamesExist body old.marks)
     (settles : ControllerSettlesWith (controller_marks_after body old.marks) old.plans new) where
   abbrev here : List Item
   here = before ++ Item.Row row (Deliver n) ∷ []
@@ -163,7 +163,7 @@ module _ (setting : Setting) (before : List Item) (row n : ℕ) (body : Body)
   now_have : AreCaused setting now
   now_have = have_append (HasControlItemCause setting) [] here (Item.Delivered n ∷ []) here_have (tt, tt)
 
-  here_is : IsControllerOf setting here old
+  here_is : IsRefinedController setting here old
   here_is = row_on setting before row (Deliver n) old have is
 
   said : journal_body_to_controller here n ≡ Some body
@@ -173,7 +173,7 @@ module _ (setting : Setting) (before : List Item) (row n : ℕ) (body : Body)
   ]) (message_more before (Item.Row row (Deliver n)) n ∙ sent)
 
   heard_settles : (refined_acts_written now (acts.controller_settling_acts (current_plan_touched new) (controller_marks_after body old.marks) new.marks)
-      ≡ settling setting now) × IsControllerOf setting one new
+      ≡ settling setting now) × IsRefinedController setting one new
   heard_settles = settles_with setting now (controller_marks_after body old.marks) old.plans new now_have
       (marks_told setting here n body old.marks here_have said there here_is.marks)
       (plans_on setting here (Item.Delivered n ∷ []) old.plans here_have
@@ -191,19 +191,19 @@ module _ (setting : Setting) (before : List Item) (row n : ℕ) (body : Body)
 
   heard_so : (refined_acts_written now (controller_hear_acts body old.marks new)
       ≡ controller_items setting before body now)
-      × IsControllerOf setting (now ++ controller_items setting before body now) new
+      × IsRefinedController setting (now ++ controller_items setting before body now) new
   unfolding controller_items
   heard_so = (
-    written_in_two now (settling setting) (after_hello setting before body)
+    written_in_two now (settling setting) (machine_after_hello setting before body)
         (acts.controller_settling_acts (current_plan_touched new) (controller_marks_after body old.marks) new.marks)
         (controller_installs_after body old.marks new) heard_settles.0 (hello_written setting before one body
         old.marks new (settling_caused setting now now_have) heard_settles.1 hello_told),
-    rw (in_two (settling setting) (after_hello setting before body) now) (installs_leave setting
+    rw (in_two (settling setting) (machine_after_hello setting before body) now) (installs_leave setting
         before one body new (settling_caused setting now now_have) heard_settles.1),
   )
 
 deliver_piece : (setting : Setting) (before : List Item) (row n : ℕ) (body : Body)
-    → IsTrue (is_deliverable before n) → message_of before n ≡ Some (to_controller body)
+    → IsTrue (is_deliverable before n) → journal_message_of before n ≡ Some (to_controller body)
     → let now = (before ++ Item.Row row (Deliver n) ∷ []) ++ Item.Delivered n ∷ [] in
     Item.Row row (Deliver n) ∷ Item.Delivered n ∷ controller_items setting before body now
     ≡ piece setting before row (Deliver n)
@@ -211,7 +211,7 @@ unfolding piece deliver_items machine_delivery_items
 deliver_piece setting before row n body may sent =
     let here : List Item = before ++ Item.Row row (Deliver n) ∷ [] in
     let now : List Item = here ++ Item.Delivered n ∷ [] in
-    let told : elim (message_of before n) [
+    let told : elim (journal_message_of before n) [
       | None ↦ []
       | Some message ↦ machine_received_items setting before n message now
     ] ≡ controller_items setting before body now = ap (λ o. elim o [
@@ -225,8 +225,8 @@ deliver_piece setting before row n body may sent =
     ]) (sym may)
 
 pub hears : (setting : Setting) (before : List Item) (row n : ℕ) (body : Body)
-    (old new : ControllerValue) → AreCaused setting before → IsControllerOf setting before old
-    → IsTrue (is_deliverable before n) → message_of before n ≡ Some (to_controller body)
+    (old new : ControllerValue) → AreCaused setting before → IsRefinedController setting before old
+    → IsTrue (is_deliverable before n) → journal_message_of before n ≡ Some (to_controller body)
     → ControllerReplyNamesExist body old.marks → ControllerSettlesWith (controller_marks_after body old.marks) old.plans new
     → AreRefinedActsWritten setting before (Item.Row row (Deliver n) ∷ Item.Delivered n ∷ [])
     (controller_hear_acts body old.marks new) new (piece setting before row (Deliver n))
@@ -240,21 +240,21 @@ hears setting before row n body old new have is may sent there settles =
 -- ---- a switch that is over
 
 pub confirms : (setting : Setting) (before : List Item) (row s : ℕ) (old new : ControllerValue)
-    → AreCaused setting before → IsControllerOf setting before old → IsFalse (is_up before s)
-    → s < length old.marks.switches → ControllerSettlesWith (at_switch s after_over old.marks) old.plans new
+    → AreCaused setting before → IsRefinedController setting before old → IsFalse (is_up before s)
+    → s < length old.marks.switches → ControllerSettlesWith (at_switch s mark_record_after_over old.marks) old.plans new
     → AreRefinedActsWritten setting before (Item.Row row (Confirm s) ∷ Item.OverNow s ∷ [])
-    (acts.controller_settling_acts (current_plan_touched new) (at_switch s after_over old.marks) new.marks) new
+    (acts.controller_settling_acts (current_plan_touched new) (at_switch s mark_record_after_over old.marks) new.marks) new
     (piece setting before row (Confirm s))
 unfolding piece confirm_items
 confirms setting before row s old new have is down there settles =
     subst (λ b. AreRefinedActsWritten setting before (Item.Row row (Confirm s) ∷ Item.OverNow s ∷ [])
-    (acts.controller_settling_acts (current_plan_touched new) (at_switch s after_over old.marks) new.marks) new (Item.Row row (Confirm s)
+    (acts.controller_settling_acts (current_plan_touched new) (at_switch s mark_record_after_over old.marks) new.marks) new (Item.Row row (Confirm s)
     ∷ elim b [
       | true ↦ nothing
       | false ↦ journal_items_then (Item.OverNow s ∷ []) (settling setting) here
     ])) (sym still)
     (are_written setting before (Item.Row row (Confirm s)) (Item.OverNow s) (settling setting now)
-    (acts.controller_settling_acts (current_plan_touched new) (at_switch s after_over old.marks) new.marks) new so.0 so.1)
+    (acts.controller_settling_acts (current_plan_touched new) (at_switch s mark_record_after_over old.marks) new.marks) new so.0 so.1)
   where
     here : List Item
     here = before ++ Item.Row row (Confirm s) ∷ []
@@ -268,12 +268,12 @@ confirms setting before row s old new have is down there settles =
     here_have : AreCaused setting here
     here_have = behind_row setting before row (Confirm s) have
 
-    here_is : IsControllerOf setting here old
+    here_is : IsRefinedController setting here old
     here_is = row_on setting before row (Confirm s) old have is
 
-    so : (refined_acts_written now (acts.controller_settling_acts (current_plan_touched new) (at_switch s after_over old.marks) new.marks)
-        ≡ settling setting now) × IsControllerOf setting (now ++ settling setting now) new
-    so = settles_with setting now (at_switch s after_over old.marks) old.plans new
+    so : (refined_acts_written now (acts.controller_settling_acts (current_plan_touched new) (at_switch s mark_record_after_over old.marks) new.marks)
+        ≡ settling setting now) × IsRefinedController setting (now ++ settling setting now) new
+    so = settles_with setting now (at_switch s mark_record_after_over old.marks) old.plans new
         (have_append (HasControlItemCause setting) [] here (Item.OverNow s ∷ []) here_have (still, tt))
         (marks_over setting here s old.marks there here_is.marks)
         (plans_on setting here (Item.OverNow s ∷ []) old.plans here_have

@@ -3,11 +3,11 @@ use Rattle.std.proofs.Common.{[], if◌then◌else◌, ◌&&◌, ◌++◌, ◌-�
 use Rattle.base.proofs.Exports.{and-true, bit_at-zero, fold-append, list_any, nat_tests, option_map_or, option_or, or-false}
 use Rattle.packet_laws.proofs.Exports.{other_number}
 use Rattle.failover.proofs.FailoverKnownLinks.{turned_number}
-use Rattle.update_machine.specs.Exports.{Body, JournalItemsHaveCauses, Hello, Installed, Item, Setting, Stamped, acked_stamp, journal_body_to_controller, journal_hello_boot, journal_installed_in_body, journal_known_boot, open_version, opened_at, machine_stamped_version_in}
+use Rattle.update_machine.specs.Exports.{Body, JournalItemsHaveCauses, Hello, Installed, Item, Setting, Stamped, acked_stamp, journal_body_to_controller, machine_hello_boot, machine_installed_version, journal_known_boot, open_version, journal_opened_at, machine_stamped_version_in}
 use Rattle.update_machine.specs.Marks as machine
 use Rattle.control_laws.specs.Exports.{HasControlItemCause}
 use Rattle.control_laws.proofs.Exports.{StampsAreCurrent, acked_more, count_more, current_at_first, current_kept, current_more, fact_on, known_first, known_more, member_same, opened_in, opened_is, opened_more, opened_same, over_more, raised, retired_more, tells, told_by, told_by_more, told_more}
-use Rattle.version_update.specs.Exports.{MarksValue, mark_after_installed, after_over, update_after_stamped, at_switch, has_acked, update_hello_recorded, is_member, is_over, record_of, update_takes_hello, mark_takes_installed, takes_stamped}
+use Rattle.version_update.specs.Exports.{MarksValue, mark_record_after_installed, mark_record_after_over, update_after_stamped, at_switch, has_acked, update_hello_recorded, is_member, is_over, record_of, update_takes_hello, mark_takes_installed, takes_stamped}
 use Rattle.version_update.specs.declared.record.Phase.TheVariants.{Joining}
 use Rattle.version_update.specs.declared.record.SwitchRecord.{SwitchRecord}
 use Rattle.version_update.proofs.VersionAcknowledgements.{installed_acked}
@@ -23,12 +23,12 @@ delivered n = Item.Delivered n
 
 -- the boot that is known
 boot_told : (here : List Item) (n t : ℕ) (body : Body) → journal_body_to_controller here n ≡ Some body
-    → journal_known_boot (here ++ delivered n ∷ []) t ≡ raised (journal_known_boot here t) (journal_hello_boot t body)
+    → journal_known_boot (here ++ delivered n ∷ []) t ≡ raised (journal_known_boot here t) (machine_hello_boot t body)
 boot_told here n t body said = cc (known_more here (delivered n) t, said)
 
 over_told : (here : List Item) (n t : ℕ) (body : Body) → journal_body_to_controller here n ≡ Some body
     → machine.is_over (here ++ delivered n ∷ []) t
-    ≡ (if option_map_or (λ boot. nat_lt (journal_known_boot here t) boot) (journal_hello_boot t body) false
+    ≡ (if option_map_or (λ boot. nat_lt (journal_known_boot here t) boot) (machine_hello_boot t body) false
     then false else machine.is_over here t)
 over_told here n t body said = cc (over_more here (delivered n) t, said)
 
@@ -41,10 +41,10 @@ tells_said reads here n body said = ap (λ o. option_to_list (option_and_then re
 acked_told : (here : List Item) (n t v : ℕ) (body : Body) → journal_body_to_controller here n ≡ Some body
     → journal_known_boot (here ++ delivered n ∷ []) t ≡ journal_known_boot here t
     → machine.has_acked (here ++ delivered n ∷ []) t v ≡ (machine.has_acked here t v
-    || list_any (nat_eq v) (option_to_list (journal_installed_in_body t (journal_known_boot here t) body)))
+    || list_any (nat_eq v) (option_to_list (machine_installed_version t (journal_known_boot here t) body)))
 acked_told here n t v body said known = acked_more here (delivered n) t v known
     ∙ ap (λ xs. machine.has_acked here t v || list_any (nat_eq v) xs)
-    (tells_said (journal_installed_in_body t (journal_known_boot here t)) here n body said)
+    (tells_said (machine_installed_version t (journal_known_boot here t)) here n body said)
 
 -- and the acknowledged stamp
 stamp_told : (here : List Item) (n t : ℕ) (body : Body) → journal_body_to_controller here n ≡ Some body
@@ -64,11 +64,11 @@ stamp_told here n t body said known =
 record AckStays (here after : List Item) (s : ℕ) : Type 0 where
   boot : journal_known_boot after s ≡ journal_known_boot here s
   over : machine.is_over after s ≡ machine.is_over here s
-  opened : opened_at after s ≡ opened_at here s
+  opened : journal_opened_at after s ≡ journal_opened_at here s
   member : machine.is_member after s ≡ machine.is_member here s
 
 ack_stays : (here : List Item) (n s : ℕ) (body : Body) → journal_body_to_controller here n ≡ Some body
-    → journal_hello_boot s body ≡ None → AckStays here (here ++ delivered n ∷ []) s
+    → machine_hello_boot s body ≡ None → AckStays here (here ++ delivered n ∷ []) s
 ack_stays here n s body said no_hello =
     let boot = boot_told here n s body said ∙ ap (raised (journal_known_boot here s)) no_hello in
     let over = over_told here n s body said
@@ -84,7 +84,7 @@ ack_stays here n s body said no_hello =
 -- ---- a body that tells nothing of a switch
 
 untold : (here : List Item) (n t : ℕ) (body : Body) → journal_body_to_controller here n ≡ Some body
-    → journal_hello_boot t body ≡ None → journal_installed_in_body t (journal_known_boot here t) body ≡ None
+    → machine_hello_boot t body ≡ None → machine_installed_version t (journal_known_boot here t) body ≡ None
     → machine_stamped_version_in t (journal_known_boot here t) body ≡ None → StaysKnown here (here ++ delivered n ∷ []) t
 untold here n t body said hello installed stamped =
     let stays : AckStays here (here ++ delivered n ∷ []) t = ack_stays here n t body said hello in
@@ -119,7 +119,7 @@ late_hello here n s boot said late =
 -- a switch with a new boot isn't opened in it
 closed_now : (here : List Item) (n s boot : ℕ) → StampsAreCurrent here
     → journal_known_boot (here ++ delivered n ∷ []) s ≡ boot → journal_known_boot here s < boot
-    → opened_at (here ++ delivered n ∷ []) s ≡ None
+    → journal_opened_at (here ++ delivered n ∷ []) s ≡ None
 closed_now here n s boot are now later = opened_is (here ++ delivered n ∷ []) s
     ∙ ap (opened_in (here ++ delivered n ∷ []) s) now ∙ opened_more here (delivered n) s boot
     ∙ ap (λ o. option_or o None) (by_opened (opened_in here s boot) refl)
@@ -131,14 +131,14 @@ closed_now here n s boot are now later = opened_is (here ++ delivered n ∷ []) 
 
 -- and acknowledged nothing in it
 none_acked : (here : List Item) (n s boot v : ℕ) (body : Body) → journal_body_to_controller here n
-    ≡ Some body → journal_installed_in_body s boot body ≡ None → journal_known_boot (here ++ delivered n ∷ []) s ≡ boot
-    → journal_known_boot here s < boot → told_by (journal_installed_in_body s boot) here ≡ []
+    ≡ Some body → machine_installed_version s boot body ≡ None → journal_known_boot (here ++ delivered n ∷ []) s ≡ boot
+    → journal_known_boot here s < boot → told_by (machine_installed_version s boot) here ≡ []
     → machine.has_acked (here ++ delivered n ∷ []) s v ≡ false
 unfolding machine.has_acked
 none_acked here n s boot v body said silent now later none =
     let later_boot = ne_eqb boot 1 (λ e. omega (arith, e, later, known_first here s)) in
-    rw (now, told_by_more (journal_installed_in_body s boot) here (delivered n), none, later_boot)
-    (ap (list_any (nat_eq v)) (tells_said (journal_installed_in_body s boot) here n body said)
+    rw (now, told_by_more (machine_installed_version s boot) here (delivered n), none, later_boot)
+    (ap (list_any (nat_eq v)) (tells_said (machine_installed_version s boot) here n body said)
     ∙ ap (λ o. list_any (nat_eq v) (option_to_list o)) silent)
 
 new_hello : (setting : Setting) (here : List Item) (n s boot : ℕ)
@@ -156,7 +156,7 @@ new_hello setting here n s boot have said new =
     let over : machine.is_over after s ≡ false = over_told here n s body said
     ∙ ap (λ o. if option_map_or (λ b. nat_lt (journal_known_boot here s) b) o false then false
     else machine.is_over here s) own ∙ ap (λ b. if b then false else machine.is_over here s) new in
-    let closed : opened_at after s ≡ None = closed_now here n s boot (fact_on (HasControlItemCause setting)
+    let closed : journal_opened_at after s ≡ None = closed_now here n s boot (fact_on (HasControlItemCause setting)
     StampsAreCurrent (current_kept setting) [] here have current_at_first) now later in
     let member : machine.is_member after s ≡ false = rw (over, closed) refl in record {
       boot = sym now;
@@ -221,7 +221,7 @@ behind_delivery here n = here ++ delivered n ∷ []
 
 installed_known : (here : List Item) (n s boot v : ℕ) (known : SwitchRecord) → 1 ≤ v
     → journal_body_to_controller here n ≡ Some (Installed s boot v) → IsKnownRefined here s known
-    → IsKnownRefined (here ++ delivered n ∷ []) s (mark_after_installed boot v known)
+    → IsKnownRefined (here ++ delivered n ∷ []) s (mark_record_after_installed boot v known)
 installed_known here n s boot v known there said is = by_taken (mark_takes_installed boot known) refl
   where
     stays : AckStays here (behind_delivery here n) s
@@ -315,7 +315,7 @@ marks_told setting here n (Hello s boot) marks have said there are = told_on set
     (ap (λ b. if b then Some boot else None) (other_number s t other)) refl refl) there
     (hello_known setting here n s boot (record_of marks s) have said (are.each s there)) are
 marks_told setting here n (Installed s boot v) marks have said there are = told_on setting here n s
-    marks (mark_after_installed boot v) (λ t other. untold here n t (Installed s boot v) said refl
+    marks (mark_record_after_installed boot v) (λ t other. untold here n t (Installed s boot v) said refl
     (ap (λ b. if b && boot == journal_known_boot here t then Some v else None) (other_number s t other))
     refl) there.switch_is (installed_known here n s boot v (record_of marks s) there.first said
     (are.each s there.switch_is)) are
@@ -334,7 +334,7 @@ marks_told setting here n body marks have said there are =
 -- ---- a switch that is over
 
 over_known : (here : List Item) (s : ℕ) (known : SwitchRecord) → IsKnownRefined here s known
-    → IsKnownRefined (here ++ Item.OverNow s ∷ []) s (after_over known)
+    → IsKnownRefined (here ++ Item.OverNow s ∷ []) s (mark_record_after_over known)
 unfolding machine.is_member
 over_known here s known is =
     let next : Item = Item.OverNow s in
@@ -351,9 +351,9 @@ over_known here s known is =
 
 pub marks_over : (setting : Setting) (here : List Item) (s : ℕ) (marks : MarksValue)
     → s < length marks.switches → AreMarksRefined setting here marks
-    → AreMarksRefined setting (here ++ Item.OverNow s ∷ []) (at_switch s after_over marks)
+    → AreMarksRefined setting (here ++ Item.OverNow s ∷ []) (at_switch s mark_record_after_over marks)
 marks_over setting here s marks there are = let next : Item = Item.OverNow s in
-    switch_on setting here next marks s after_over (count_more here next)
+    switch_on setting here next marks s mark_record_after_over (count_more here next)
     (current_more here next) (retired_more here next)
     (λ t other. quiet_stays here next t (told_more here next) (known_more here next t)
     (over_more here next t

@@ -2,11 +2,11 @@
 use Rattle.std.proofs.Common.{[], ◌++◌, ◌+◌, ◌-◌, ◌<◌, ◌==◌, ◌∙◌, ◌∷◌, ◌≡◌, ◌≤◌, Bool, List, None, Option, Some, ap, append-nil, arith, eq-eqb, false, find, inl, inr, map, max, nat_le, ne_eqb, option_and_then, option_map, option_to_list, refl, subst, suc, sym, true, zero, ℕ}
 use Rattle.base.proofs.Exports.{cases_eq, filter_made, later_same, map-range_same, map-range_with_len_more, option_map_or, range_with_len}
 use Rattle.controller.specs.Exports.{ControllerValue, KeptPlan, ControllerSettlesWith, current_plan_touched, controller_newest_policy, kept_plans_from}
-use Rattle.update_machine.specs.Exports.{JournalControllerKeeps, SettingHasPlan, Installed, IsSetting, Item, Setting, VersionsAreNumbered, journal_body_to_controller, controller_heard, journal_current_mark, journal_installed_in_body, journal_known_boot, message_of, policy_in, settling, touched_by, journal_version_count, journal_versions_from_current}
+use Rattle.update_machine.specs.Exports.{JournalControllerKeeps, SettingHasPlan, Installed, IsSetting, Item, Setting, JournalVersionsAreNumbered, journal_body_to_controller, journal_controller_heard, journal_current_mark, machine_installed_version, journal_known_boot, journal_message_of, policy_in, settling, machine_touched_by, journal_version_count, journal_versions_from_current}
 use Rattle.update_machine.proofs.Exports.{begins_planned, plan_stays, policy_stays, start_laws, touched_stays}
-use Rattle.control_laws.specs.Exports.{HasControlItemCause, MarksAreBounded}
+use Rattle.control_laws.specs.Exports.{HasControlItemCause, ControlMarksAreBounded}
 use Rattle.control_laws.proofs.Exports.{AreKept, FromCauses, HeardAreKnown, IsKnown, bounded, by_number, caused_numbered, from_causes, heard_known, installed_is, known_at_first, known_kept, known_rises, tells, told_by, told_by_more, told_sent, versions_planned}
-use Rattle.refinement.specs.Exports.{AreMarksRefined, IsControllerOf, refined_plan_to_keep, refined_acts_written}
+use Rattle.refinement.specs.Exports.{AreMarksRefined, IsRefinedController, refined_plan_to_keep, refined_acts_written}
 use Rattle.refinement.proofs.RefinedSettling.{AreCaused, settles_so}
 use Rattle.version_update.specs.Exports.{MarksValue}
 use Rattle.controller.specs.Sends as acts
@@ -34,7 +34,7 @@ find_kept setting journal low (suc many) version above below = elim (cases_eq lo
 
 -- the newest version has a plan, so its policy is there
 pub newest_in : (setting : Setting) (journal : List Item) (controller : ControllerValue)
-    → IsSetting setting → AreCaused setting journal → IsControllerOf setting journal controller
+    → IsSetting setting → AreCaused setting journal → IsRefinedController setting journal controller
     → controller_newest_policy controller ≡ policy_in setting journal (journal_version_count journal)
 newest_in setting journal controller is have refines =
     ap (option_map (λ (kept : KeptPlan). kept.plan.policy))
@@ -43,7 +43,7 @@ newest_in setting journal controller is have refines =
     (journal_current_mark journal) (journal_version_count journal + 1 - journal_current_mark journal)
     (journal_version_count journal) marks.there (omega (arith, marks.there))) ∙ sym planned.policy
   where
-    marks : MarksAreBounded setting journal
+    marks : ControlMarksAreBounded setting journal
     marks = bounded setting journal have
 
     planned : SettingHasPlan setting journal (journal_version_count journal)
@@ -65,7 +65,7 @@ planned_on setting before items v have above below = rw (
   touched_stays setting before items v numbers last,
 ) refl
   where
-    numbers : VersionsAreNumbered before
+    numbers : JournalVersionsAreNumbered before
     numbers = caused_numbered setting before have
 
     last : v ≤ journal_version_count before
@@ -153,8 +153,8 @@ plans_stay setting journal plans current have now are =
 -- what leaves what it knows leaves it as it was
 pub controller_on : (setting : Setting) (before items : List Item) (controller : ControllerValue)
     → AreCaused setting before → JournalControllerKeeps before (before ++ items)
-    → IsControllerOf setting before controller
-    → IsControllerOf setting (before ++ items) controller
+    → IsRefinedController setting before controller
+    → IsRefinedController setting (before ++ items) controller
 controller_on setting before items controller have keeps is = record {
   marks = marks_on setting before (before ++ items) controller.marks keeps is.marks;
   plans = plans_on setting before items controller.plans have keeps.count keeps.current is.plans;
@@ -164,7 +164,7 @@ controller_on setting before items controller have keeps is = record {
 settled_touched : (setting : Setting) (now : List Item) (before : MarksValue)
     (plans : List KeptPlan) (new : ControllerValue) → AreMarksRefined setting now before
     → plans ≡ map (refined_plan_to_keep setting now) (journal_versions_from_current now)
-    → ControllerSettlesWith before plans new → current_plan_touched new ≡ touched_by setting now new.marks.current
+    → ControllerSettlesWith before plans new → current_plan_touched new ≡ machine_touched_by setting now new.marks.current
 settled_touched setting now before plans new marks are settles =
     let c = new.marks.current in
     let is = settles.marks.1 in
@@ -182,7 +182,7 @@ pub settles_with : (setting : Setting) (now : List Item)
     → plans ≡ map (refined_plan_to_keep setting now) (journal_versions_from_current now)
     → ControllerSettlesWith before plans new
     → (refined_acts_written now (acts.controller_settling_acts (current_plan_touched new) before new.marks)
-    ≡ settling setting now) × IsControllerOf setting (now ++ settling setting now) new
+    ≡ settling setting now) × IsRefinedController setting (now ++ settling setting now) new
 settles_with setting now before plans new have marks are settles =
     let is = settles.marks.1 in
     let so = settles_so setting now before new.marks settles.marks.0 (current_plan_touched new)
@@ -209,15 +209,15 @@ settles_with setting now before plans new have marks are settles =
 pub record AcksArePast (journal : List Item) : Type 0 where
   pub boots : IsKnown journal
   pub heard : HeardAreKnown journal
-  pub sent : (s boot v n : ℕ) → message_of journal n ≡ Some (to_controller (Installed s boot v))
+  pub sent : (s boot v n : ℕ) → journal_message_of journal n ≡ Some (to_controller (Installed s boot v))
       → boot ≤ journal_known_boot journal s
-  pub told : (s boot : ℕ) → journal_known_boot journal s < boot → told_by (journal_installed_in_body s boot) journal ≡ []
+  pub told : (s boot : ℕ) → journal_known_boot journal s < boot → told_by (machine_installed_version s boot) journal ≡ []
 
 -- ---- acknowledgements
 
 sent_on : (setting : Setting) (before : List Item) (next : Item) (s boot v n : ℕ)
     → HasControlItemCause setting before next → AcksArePast before
-    → message_of (before ++ next ∷ []) n ≡ Some (to_controller (Installed s boot v))
+    → journal_message_of (before ++ next ∷ []) n ≡ Some (to_controller (Installed s boot v))
     → boot ≤ journal_known_boot (before ++ next ∷ []) s
 sent_on setting before next s boot v n cause past is = let rises = known_rises before next s in
     elim (by_number before next n (to_controller (Installed s boot v)) is) [
@@ -228,27 +228,27 @@ sent_on setting before next s boot v n cause past is = let rises = known_rises b
 
 -- what the controller is told was sent
 told_one : (before : List Item) (next : Item) (s boot : ℕ) → AcksArePast before
-    → journal_known_boot before s < boot → tells (journal_installed_in_body s boot) before next ≡ []
+    → journal_known_boot before s < boot → tells (machine_installed_version s boot) before next ≡ []
 told_one before (Item.Delivered number) s boot past later =
-    by_told (option_and_then (journal_installed_in_body s boot) (journal_body_to_controller before number)) refl
+    by_told (option_and_then (machine_installed_version s boot) (journal_body_to_controller before number)) refl
   where
     by_told : (o : Option ℕ)
-        → option_and_then (journal_installed_in_body s boot) (journal_body_to_controller before number) ≡ o
+        → option_and_then (machine_installed_version s boot) (journal_body_to_controller before number) ≡ o
         → option_to_list o ≡ []
     by_told None e = refl
     by_told (Some v) e =
-        let is = past.sent s boot v number (told_sent (journal_installed_in_body s boot) (Installed s boot)
+        let is = past.sent s boot v number (told_sent (machine_installed_version s boot) (Installed s boot)
         (installed_is s boot) before number v e) in
         absurd (omega (arith, is, later))
 told_one before next s boot past later = refl
 
 told_on : (before : List Item) (next : Item) (s boot : ℕ) → AcksArePast before
     → journal_known_boot (before ++ next ∷ []) s < boot
-    → told_by (journal_installed_in_body s boot) (before ++ next ∷ []) ≡ []
+    → told_by (machine_installed_version s boot) (before ++ next ∷ []) ≡ []
 told_on before next s boot past later =
     let was : journal_known_boot before s < boot = omega (arith, later, known_rises before next s) in
-    told_by_more (journal_installed_in_body s boot) before next
-    ∙ ap (λ xs. xs ++ tells (journal_installed_in_body s boot) before next) (past.told s boot was)
+    told_by_more (machine_installed_version s boot) before next
+    ∙ ap (λ xs. xs ++ tells (machine_installed_version s boot) before next) (past.told s boot was)
     ∙ told_one before next s boot past was
 
 past_kept : (setting : Setting) → AreKept (HasControlItemCause setting) AcksArePast
@@ -260,7 +260,7 @@ past_kept setting before next cause past = record {
 }
 
 past_at_first : AcksArePast []
-unfolding controller_heard
+unfolding journal_controller_heard
 past_at_first = record {
   boots = known_at_first;
   heard = λ s v is. let no : false ≡ true = rw (start_laws.heard s) at is in absurd cc;

@@ -1,11 +1,11 @@
 -- What the controller sends again, and what it is told of is there.
 use Rattle.std.proofs.Common.{[], ◌&&◌, ◌++◌, ◌+◌, ◌-◌, ◌<◌, ◌==◌, ◌∙◌, ◌∷◌, ◌≡◌, ◌≢◌, ◌≤◌, Bool, IsFalse, IsTrue, List, Some, ap, arith, false, filter, find, if◌then◌else◌, length, map, nat_le, nat_lt, not, refl, suc, sym, true, ℕ}
 use Rattle.base.proofs.Exports.{filter_made, map-append, map_twice, nat_tests, option_map_or, picked_same, range_with_len}
-use Rattle.update_machine.specs.Exports.{Body, Collect, Hello, Installed, Item, Message, NoneConcern, OpenAt, Resend, Setting, Stamp, Stamped, Step, acked_stamp, machine_collect_for, concerns_controller, journal_current_mark, journal_install_for, message_of, journal_open_for, open_version, piece, resend_items, journal_resent_by_controller, journal_resent_by_switch, journal_resent_to_member, journal_retired_mark, machine_sends_or_nothing, journal_stamp_for, machine_message_to_switch, touched_by, journal_unacked_installs, journal_version_count, journal_versions_from_current}
+use Rattle.update_machine.specs.Exports.{Body, Collect, Hello, Installed, Item, Message, NoneConcern, OpenAt, Resend, Setting, Stamp, Stamped, Step, acked_stamp, machine_collect_for, concerns_controller, journal_current_mark, journal_install_for, journal_message_of, journal_open_for, open_version, piece, machine_resend_items, journal_resent_by_controller, journal_resent_by_switch, journal_resent_to_member, journal_retired_mark, machine_sends_or_nothing, journal_stamp_for, machine_message_to_switch, machine_touched_by, journal_unacked_installs, journal_version_count, journal_versions_from_current}
 use Rattle.ctrl_msg.specs.Exports.{to_controller}
 use Rattle.update_machine.specs.Marks as machine
 use Rattle.control_laws.proofs.Exports.{bounded, others_keep}
-use Rattle.control_laws.specs.Exports.{ControlBodiesNameThere, asks_controller}
+use Rattle.control_laws.specs.Exports.{ControlBodiesNameThere, control_asks_controller}
 use Rattle.version_update.specs.Exports.{MarksValue, has_acked, is_member, is_over, record_of}
 use Rattle.version_update.specs.declared.record.Phase.{Phase}
 use Rattle.version_update.specs.declared.record.Phase.TheVariants.{Joining, Member, Over}
@@ -14,7 +14,7 @@ use Rattle.controller.specs.Exports.{ControllerValue, KeptPlan, NamesWithinContr
 use Rattle.controller.specs.Sends as acts
 use Rattle.controller.specs.declared.sends.Act.{Act}
 use Rattle.controller.specs.declared.sends.Act.TheVariants.{Post}
-use Rattle.refinement.specs.Exports.{AreMarksRefined, AreRefinedActsWritten, IsControllerOf, IsKnownRefined, refined_resend_acts, refined_plan_to_keep, refined_acts_written}
+use Rattle.refinement.specs.Exports.{AreMarksRefined, AreRefinedActsWritten, IsRefinedController, IsKnownRefined, refined_resend_acts, refined_plan_to_keep, refined_acts_written}
 use Rattle.refinement.proofs.RefinedSettling.{AreCaused}
 use Rattle.refinement.proofs.RefinedControllerPlans.{controller_on, find_kept, is_of}
 use Rattle.switch_table.specs.Exports.{cache_all_touched}
@@ -36,7 +36,7 @@ names_both setting journal s v marks are there version = let last = are.count in
 
 pub names_there : (setting : Setting) (journal : List Item) (n : ℕ) (body : Body)
     (marks : MarksValue) → ControlBodiesNameThere setting journal → AreMarksRefined setting journal marks
-    → message_of journal n ≡ Some (to_controller body) → ControllerReplyNamesExist body marks
+    → journal_message_of journal n ≡ Some (to_controller body) → ControllerReplyNamesExist body marks
 names_there setting journal n (Hello s boot) marks names are sent =
     omega (arith, (names.sent n (to_controller (Hello s boot)) sent).addressed, are.many)
 names_there setting journal n (Installed s boot v) marks names are sent =
@@ -65,7 +65,7 @@ if_retired mark message =
     by_none false = refl
 
 module _ (setting : Setting) (journal : List Item) (s : ℕ) (controller : ControllerValue)
-    (have : AreCaused setting journal) (is : IsControllerOf setting journal controller)
+    (have : AreCaused setting journal) (is : IsRefinedController setting journal controller)
     (own : IsKnownRefined journal s (record_of controller.marks s)) where
   abbrev known : SwitchRecord
   known = record_of controller.marks s
@@ -120,7 +120,7 @@ module _ (setting : Setting) (journal : List Item) (s : ℕ) (controller : Contr
       ∙ ap (λ b. map again (if b && not (has_acked known low) then low ∷ rest else rest)) fails
 
   -- what it keeps for the current version is what that version's change touches
-  kept_says : current_plan_touched controller ≡ touched_by setting journal low
+  kept_says : current_plan_touched controller ≡ machine_touched_by setting journal low
   kept_says = ap (λ o. option_map_or (λ (kept : KeptPlan). kept.touched) o cache_all_touched)
       (ap (λ c. find (is_of c) controller.plans) is.marks.current ∙ ap (find (is_of low)) is.plans
       ∙ find_kept setting journal low (journal_version_count journal + 1 - low) low (omega arith)
@@ -138,7 +138,7 @@ module _ (setting : Setting) (journal : List Item) (s : ℕ) (controller : Contr
       let lacking = ap (λ c. controller_missing_installs controller s (c + 1)) is.marks.current
       ∙ of_versions (low + 1) ∙ after_current ∙ from_on none (low + 1) (journal_version_count journal - low)
       (omega arith) in
-      let words : List WordValue = touched_by setting journal low in
+      let words : List WordValue = machine_touched_by setting journal low in
       let stamped = ap (λ these. acts.controller_stamp_again these controller.marks s) kept_says
       ∙ ap (λ c. if nat_lt known.acked_stamp c
       then Post (machine_message_to_switch s (Stamp known.boot c words)) ∷ [] else []) is.marks.current
@@ -193,7 +193,7 @@ module _ (setting : Setting) (journal : List Item) (s : ℕ) (controller : Contr
       to_member (sym member) (sym (sym (ap is_over e) ∙ own.over)) ∙ sent_in Member e
 
 pub resends : (setting : Setting) (journal : List Item) (s : ℕ) (controller : ControllerValue)
-    → AreCaused setting journal → IsControllerOf setting journal controller
+    → AreCaused setting journal → IsRefinedController setting journal controller
     → s < length controller.marks.switches
     → resend_acts controller s ≡ map Post (journal_resent_by_controller setting journal s)
 resends setting journal s controller have is there = by_phase setting journal s controller have is
@@ -205,21 +205,21 @@ resends setting journal s controller have is there = by_phase setting journal s 
 
 pub items_leave : (setting : Setting) (before items : List Item) (controller : ControllerValue)
     → AreCaused setting before → NoneConcern concerns_controller before items
-    → IsControllerOf setting before controller → IsControllerOf setting (before ++ items) controller
+    → IsRefinedController setting before controller → IsRefinedController setting (before ++ items) controller
 items_leave setting before items controller have none is =
     controller_on setting before items controller have (controller_keeps before items none) is
 
 pub steps_leave : (setting : Setting) (before : List Item) (row : ℕ) (step : Step)
     (controller : ControllerValue) → AreCaused setting before
-    → IsFalse (asks_controller before step) → IsControllerOf setting before controller
-    → IsControllerOf setting (before ++ piece setting before row step) controller
+    → IsFalse (control_asks_controller before step) → IsRefinedController setting before controller
+    → IsRefinedController setting (before ++ piece setting before row step) controller
 steps_leave setting before row step controller have none is = controller_on setting before
     (piece setting before row step) controller have (others_keep setting before row step none) is
 
 -- ---- a resend
 
 module _ (setting : Setting) (before : List Item) (row s : ℕ) (controller : ControllerValue)
-    (have : AreCaused setting before) (is : IsControllerOf setting before controller)
+    (have : AreCaused setting before) (is : IsRefinedController setting before controller)
     (there : s < length controller.marks.switches) where
   abbrev here : List Item
   here = before ++ Item.Row row (Resend s) ∷ []
@@ -233,13 +233,13 @@ module _ (setting : Setting) (before : List Item) (row s : ℕ) (controller : Co
       (row_on setting before row (Resend s) controller have is) there) ∙ sym (map-append Post
       (journal_resent_by_switch setting here s) (journal_resent_by_controller setting here s))
 
-  after : IsControllerOf setting (before ++ piece setting before row (Resend s)) controller
+  after : IsRefinedController setting (before ++ piece setting before row (Resend s)) controller
   after = steps_leave setting before row (Resend s) controller have refl is
 
   pub resends_nothing : refined_resend_acts setting here s controller ≡ []
       → AreRefinedActsWritten setting before (Item.Row row (Resend s) ∷ Item.Nothing ∷ []) [] controller
       (piece setting before row (Resend s))
-  unfolding piece resend_items
+  unfolding piece machine_resend_items
   resends_nothing none = record {
     same = cc (by_messages messages (sym acts_are ∙ none));
     after = after;
@@ -252,7 +252,7 @@ module _ (setting : Setting) (before : List Item) (row s : ℕ) (controller : Co
   pub resends_some : refined_resend_acts setting here s controller ≢ []
       → AreRefinedActsWritten setting before (Item.Row row (Resend s) ∷ [])
       (refined_resend_acts setting here s controller) controller (piece setting before row (Resend s))
-  unfolding piece resend_items
+  unfolding piece machine_resend_items
   resends_some some = record {
     same = ap (λ items. Item.Row row (Resend s) ∷ items)
         (by_messages messages (λ e. some (acts_are ∙ e)) ∙ ap (refined_acts_written here) (sym acts_are));

@@ -1,7 +1,7 @@
 -- The definitions, computed on two switches: what acts write, and what a controller is or isn't.
 use Rattle.std.proofs.Common.{[], ◌++◌, ◌∙◌, ◌∷◌, ◌≡◌, Bool, List, None, Result, Some, ap, false, map, refl, sym, true, ℕ}
 use Rattle.base.proofs.Exports.{option_map_or, result_ok}
-use Rattle.update_machine.specs.Exports.{Drop, Hello, Inapplicable, Install, Item, Out, Row, Stamp, after_hello, controller_heard, journal_current_mark, file_of, machine_installs_to_all, journal_known_boot, message_of, journal_next_message, journal_next_policy, policy_at, journal_retired_mark, machine_sent_items_from, touched_by, machine_update_code, journal_version_count, journal_versions_from_current}
+use Rattle.update_machine.specs.Exports.{Drop, Hello, Inapplicable, Install, Item, Out, Row, Stamp, machine_after_hello, journal_controller_heard, journal_current_mark, file_of, machine_installs_to_all, journal_known_boot, journal_message_of, journal_next_message, journal_next_policy, policy_at, journal_retired_mark, machine_sent_items_from, machine_touched_by, machine_update_code, journal_version_count, journal_versions_from_current}
 use Rattle.ctrl_msg.specs.Exports.{to_controller}
 use Rattle.partition.specs.Plan.{Hosted}
 use Rattle.switch_table.specs.Exports.{cache_all_touched, tables_of}
@@ -11,7 +11,7 @@ use Rattle.version_update.specs.Exports.{first_record}
 use Rattle.controller.specs.Exports.{KeptPlan, PlanValue, controller_at_start, controller_install_act}
 use Rattle.controller.specs.declared.sends.Act.TheVariants.{Current, Post, Retired}
 use Rattle.ternary.specs.Exports.{WordValue}
-use Rattle.refinement.specs.Exports.{IsControllerOf, IsKnownRefined, IsNextPlanRefined, refined_plan_to_keep, refined_acts_written}
+use Rattle.refinement.specs.Exports.{IsRefinedController, IsKnownRefined, IsNextPlanRefined, refined_plan_to_keep, refined_acts_written}
 use Rattle.refinement.proofs.RefinedControllerCalls.{begins}
 
 -- ---- acts
@@ -60,7 +60,7 @@ not_next_of_third : (touched : List WordValue) → IsNextPlanRefined open_net []
 unfolding journal_next_policy
 not_next_of_third touched of = cc of.policy
 
-begun : IsControllerOf open_net [] (controller_at_start 2 outs)
+begun : IsRefinedController open_net [] (controller_at_start 2 outs)
 begun = begins open_net outs (of_first [])
 
 first_lets_out : List KeptPlan → Bool
@@ -68,7 +68,7 @@ first_lets_out [] = false
 first_lets_out (kept ∷ plans) = lets_out kept.plan.policy
 
 -- a controller that begins with another policy's plan isn't the journal's
-not_begun : IsControllerOf open_net [] (controller_at_start 2 drops) → ⊥
+not_begun : IsRefinedController open_net [] (controller_at_start 2 drops) → ⊥
 unfolding journal_current_mark journal_version_count lets_out first_lets_out
 not_begun is =
     let no : false ≡ true = ap first_lets_out is.plans ∙ ap lets_out (first_policy []) in absurd cc
@@ -79,8 +79,8 @@ submitted = Item.Submitted 2 2 ∷ []
 
 -- each file is a policy of its own, which touches everything
 second_touches : (items : List Item)
-    → touched_by open_net (Item.Submitted 2 2 ∷ items) 2 ≡ cache_all_touched
-unfolding touched_by file_of
+    → machine_touched_by open_net (Item.Submitted 2 2 ∷ items) 2 ≡ cache_all_touched
+unfolding machine_touched_by file_of
 second_touches items = refl
 
 abbrev second_kept : PlanValue → List WordValue → KeptPlan
@@ -117,7 +117,7 @@ abbrev over : List Item
 over = Item.OverNow 0 ∷ []
 
 is_over : machine.is_over over 0 ≡ true
-unfolding machine.is_over journal_known_boot controller_heard message_of
+unfolding machine.is_over journal_known_boot journal_controller_heard journal_message_of
 is_over = refl
 
 not_as_first : IsKnownRefined over 0 first_record → ⊥
@@ -129,13 +129,13 @@ not_as_first is = let no : false ≡ true = is.over ∙ is_over in absurd cc
 abbrev late : List Item
 late = Item.Sent 1 (to_controller (Hello 0 1)) ∷ []
 
-nothing_late : after_hello open_net late (Hello 0 1) late ≡ []
-unfolding journal_known_boot controller_heard message_of
+nothing_late : machine_after_hello open_net late (Hello 0 1) late ≡ []
+unfolding journal_known_boot journal_controller_heard journal_message_of
 nothing_late = refl
 
 not_installed : refined_acts_written late (map (controller_install_act 0 1) (controller_at_start 2 outs).plans)
-    ≡ after_hello open_net late (Hello 0 1) late → ⊥
-unfolding journal_next_message journal_known_boot controller_heard message_of
+    ≡ machine_after_hello open_net late (Hello 0 1) late → ⊥
+unfolding journal_next_message journal_known_boot journal_controller_heard journal_message_of
 not_installed same = cc same
 
 -- a new version isn't sent to a switch that is over
@@ -146,7 +146,7 @@ abbrev second : ℕ → Item
 second s = Item.Sent 1 (to s (Install 1 (tables_of plan_q 2 s)))
 
 to_other_alone : machine_installs_to_all open_net later ≡ second 1 ∷ []
-unfolding machine_installs_to_all machine.is_over journal_known_boot controller_heard message_of journal_next_message
+unfolding machine_installs_to_all machine.is_over journal_known_boot journal_controller_heard journal_message_of journal_next_message
     machine_sent_items_from journal_version_count
 to_other_alone = cc (second_plan over [] (refl, tt))
 

@@ -2,7 +2,7 @@
 -- the parts are behind it.
 use Rattle.std.proofs.Common.{[], ◌&&◌, ◌++◌, ◌+◌, ◌-◌, ◌<◌, ◌==◌, ◌^◌, ◌||◌, ◌∙◌, ◌∷◌, ◌≡◌, All, List, None, Option, Some, ap, append_assoc, arith, false, get_or, if◌then◌else◌, length, length-set, map, option_map, refl, rules, set, slice_get, subst, sym, true, ℕ}
 use Rattle.base.proofs.Exports.{get_or_default, none_removed, not, sum_by-cons}
-use Rattle.update_machine.specs.Exports.{CacheEntry, Crash, Expire, Item, LinkRow, Message, Setting, item_concerns_calls, item_concerns_known, concerns_links, concerns_messages, item_concerns_policies, concerns_switch, count_of, journal_crash_items, journal_usable_links_changed, is_link_up_in_journal, is_packet, is_up, journal_items_then, journal_link_changes, near, nothing, journal_packets_at, piece, machine_sent_items_from, targets_of}
+use Rattle.update_machine.specs.Exports.{CacheEntry, Crash, Expire, Item, LinkRow, Message, Setting, item_concerns_calls, item_concerns_known, concerns_links, concerns_messages, item_concerns_policies, concerns_switch, count_of, journal_crash_items, journal_usable_links_changed, is_link_up_in_journal, is_packet, is_up, journal_items_then, journal_link_changes, near, nothing, journal_packets_at, piece, machine_sent_items_from, journal_leg_targets}
 use Rattle.switch_core.specs.Exports.{SwitchValue, crashed_switch, switch_entry_expired, near_changed}
 use Rattle.switch_table.specs.Exports.{CacheValue, after_expire}
 use Rattle.refinement.specs.Exports.{IsRefinedBagOf, RefinementLeavesSwitch, RefinedNetworkState, RefineJournal, refined_expired_by, refined_flight_in, is_refined_up_link, refined_message_at, refined_switch_of, refined_up_links}
@@ -345,7 +345,7 @@ module _ {setting : Setting} {journal : List Item} {state : RefinedNetworkState}
           losts_apart item_concerns_policies (λ before k. refl) (begun ++ Item.Down s ∷ []) packets,
         ),
       ) (acts_apart item_concerns_policies spares_policies now number acts))
-      ∙ flight_lost (targets_of setting journal) i journal
+      ∙ flight_lost (journal_leg_targets setting journal) i journal
       (Item.Row row (Crash s) ∷ Item.Down s ∷ []) packets (log_act_items number acts) _
       (refl, (refl, tt)) (acts_unnamed i number acts))
 

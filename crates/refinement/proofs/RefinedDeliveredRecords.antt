@@ -1,10 +1,10 @@
 -- A message is delivered: the record of its switch, whether it opens, and what it sends.
 use Rattle.std.proofs.Common.{[], if◌then◌else◌, ◌&&◌, ◌++◌, ◌+◌, ◌-◌, ◌<◌, ◌==◌, ◌||◌, ◌∙◌, ◌∷◌, ◌≡◌, ◌≤◌, ◌⊎◌, Bool, IsTrue, List, None, Option, Some, ap, append-nil, append_assoc, arith, cond, eqb-true, false, filter, inl, inr, length, map, max, refl, subst, suc, sym, true, unwrap_or, zero, ℕ}
 use Rattle.base.proofs.Exports.{AllByRecursion, and_parts, filter_more, or-false, range_with_len, recursion_from_All}
-use Rattle.update_machine.specs.Exports.{Advert, Advertise, Body, Deliver, Install, Item, LinkRow, MachineLinksKeep, Message, OpenAt, Setting, Stamp, advert_to, journal_boot_of, machine_delivery_items, item_gives_boot, item_gives_switch_up, journal_usable_links_changed, heard, journal_body_for_boot, is_journal_message_to, is_journal_news_to, is_up, journal_items_then, journal_link_changes, message_of, near, own_advert, journal_own_seq, machine_advert_passed_on, machine_received_items, send_items, machine_sent_items_from, serves, journal_stamp_of, journal_switch_items, switches_of, machine_message_to_switch, touched_by}
+use Rattle.update_machine.specs.Exports.{Advert, Advertise, Body, Deliver, Install, Item, LinkRow, MachineLinksKeep, Message, OpenAt, Setting, Stamp, machine_advert_to, journal_boot_of, machine_delivery_items, machine_item_gives_boot, machine_item_gives_switch_up, journal_usable_links_changed, heard, is_journal_body_for_boot, is_journal_message_to, is_journal_news_to, is_up, journal_items_then, journal_link_changes, journal_message_of, near, own_advert, journal_own_seq, machine_advert_passed_on, machine_received_items, send_items, machine_sent_items_from, serves, journal_stamp_of, journal_switch_items, setting_switches_of, machine_message_to_switch, machine_touched_by}
 use Rattle.base.specs.Exports.{has, switches}
-use Rattle.net_file.specs.Exports.{IsNetLink, IsNet, are_linked}
-use Rattle.switch_core.specs.Exports.{SwitchValue, switch_flood, is_news_here as is_news_at, switch_next_advert, opened_by, switch_opening_stamp, replies, replies_to, switch_with_message}
+use Rattle.net_file.specs.Exports.{IsNetLink, IsNet, are_linked_in_net}
+use Rattle.switch_core.specs.Exports.{SwitchValue, switch_flood, is_news_to_switch as is_news_at, switch_next_advert, opened_by, switch_opening_stamp, replies, replies_to, switch_with_message}
 use Rattle.switch_core.proofs.SwitchLaws.{heard_keeps}
 use Rattle.update_machine.proofs.Exports.{last_given_append, links_keep, policies_keep}
 use Rattle.control_laws.proofs.Exports.{each_weaker, heard_more, message_more, near_linked}
@@ -24,8 +24,8 @@ versioned setting journal s _ names = tt
 
 -- a stamp that was sent says what is touched, also within the step that delivers it
 says_touched : (setting : Setting) (before here : List Item) (n s : ℕ) (body : Body)
-    → ((v : ℕ) → touched_by setting here v ≡ touched_by setting before v)
-    → IsRefinedSentTo setting before n s body → SaysTouched (touched_by setting here) body
+    → ((v : ℕ) → machine_touched_by setting here v ≡ machine_touched_by setting before v)
+    → IsRefinedSentTo setting before n s body → SaysTouched (machine_touched_by setting here) body
 says_touched setting before here n s (Stamp boot version touched) same is =
     (is.touched.sent n s boot version touched is.sent).says ∙ sym (same version)
 says_touched setting before here n s _ same is = tt
@@ -97,12 +97,12 @@ same_boot : (before : List Item) (row n s stamp : ℕ)
     → journal_boot_of (before ++ opening row n s stamp) s ≡ journal_boot_of before s
 unfolding journal_boot_of
 same_boot before row n s stamp =
-    ap (λ o. unwrap_or o 1) (last_given_append (item_gives_boot s) before (opening row n s stamp))
+    ap (λ o. unwrap_or o 1) (last_given_append (machine_item_gives_boot s) before (opening row n s stamp))
 
 same_up : (before : List Item) (row n s stamp : ℕ)
     → is_up (before ++ opening row n s stamp) s ≡ is_up before s
 unfolding is_up
-same_up before row n s stamp = cc (last_given_append (item_gives_switch_up s) before (opening row n s stamp))
+same_up before row n s stamp = cc (last_given_append (machine_item_gives_switch_up s) before (opening row n s stamp))
 
 -- the links were kept until it opened
 kept_until : (setting : Setting) (before : List Item) (row n : ℕ)
@@ -211,14 +211,14 @@ opening_advert setting before row n s stamp body changes =
 
 -- a link of the network leads to a switch of it
 linked_small : (count s k : ℕ) (links : List LinkRow) → AllByRecursion (IsNetLink count) links
-    → are_linked links s k ≡ true → k < count
+    → are_linked_in_net links s k ≡ true → k < count
 linked_small count s k [] all is = absurd cc
 linked_small count s k (link ∷ links) all is = by_first (link.one == s && link.two == k) refl
     (link.one == k && link.two == s) refl (linked_small count s k links all.1) is
   where
     by_first : (b : Bool) → (link.one == s && link.two == k) ≡ b → (c : Bool)
-        → (link.one == k && link.two == s) ≡ c → (are_linked links s k ≡ true → k < count)
-        → ((b || c) || are_linked links s k) ≡ true → k < count
+        → (link.one == k && link.two == s) ≡ c → (are_linked_in_net links s k ≡ true → k < count)
+        → ((b || c) || are_linked_in_net links s k) ≡ true → k < count
     by_first true e c f rest is =
         subst (λ j. j < count) (eqb-true link.two k (and_parts _ _ e).1) all.0.two
     by_first false e true f rest is =
@@ -254,7 +254,7 @@ filter_first p n (suc more) none = ap (λ k. filter p (range_with_len 0 k)) (one
 
 neighbours_are : (setting : Setting) (journal : List Item) (s : ℕ) → IsNet setting.net
     → filter (has (near setting journal s)) switches
-    ≡ filter (has (near setting journal s)) (switches_of setting)
+    ≡ filter (has (near setting journal s)) (setting_switches_of setting)
 unfolding switches
 neighbours_are setting journal s net =
     let count : ℕ = length setting.net.switches in
@@ -276,7 +276,7 @@ sends_nothing journal = refl
 
 obeyed_items : (setting : Setting) (before now : List Item) (s : ℕ) (body : Body)
     → IsNet setting.net → near setting now s ≡ near setting before s
-    → journal_body_for_boot (journal_boot_of before s) body ≡ true → opened_by (refined_switch_of setting before s) body
+    → is_journal_body_for_boot (journal_boot_of before s) body ≡ true → opened_by (refined_switch_of setting before s) body
     ≡ None → journal_switch_items setting before s body now
     ≡ send_items now (replies_to (refined_switch_of setting before s) (near setting before s) body)
 unfolding journal_switch_items refined_switch_of is_news_at
@@ -327,7 +327,7 @@ obeyed_opens setting before now s stamp _ is opens = absurd cc
 -- ---- the items of a delivery
 
 items_are : (setting : Setting) (before now : List Item) (n s : ℕ) (body : Body)
-    → message_of before n ≡ Some (machine_message_to_switch s body) → machine_delivery_items setting before n now
+    → journal_message_of before n ≡ Some (machine_message_to_switch s body) → machine_delivery_items setting before n now
     ≡ (if is_meant before s body then journal_switch_items setting before s body now else [])
 unfolding machine_delivery_items
 items_are setting before now n s body sent = ap (λ (o : Option Message). elim o [
@@ -352,7 +352,7 @@ opened_as : (setting : Setting) (before : List Item) (s : ℕ) (body : Body)
     ≡ (if is_meant before s body then opened_by (refined_switch_of setting before s) body else None)
 unfolding switch_opening_stamp refined_switch_of
 opened_as setting before s body = let switch : SwitchValue = refined_switch_of setting before s in
-    by_obeying switch body (is_up before s) (journal_body_for_boot (journal_boot_of before s) body)
+    by_obeying switch body (is_up before s) (is_journal_body_for_boot (journal_boot_of before s) body)
     (opened_by switch body) None refl refl (controller_shut switch body)
 
 replies_as : (setting : Setting) (before : List Item) (s mask : ℕ) (body : Body)
@@ -360,7 +360,7 @@ replies_as : (setting : Setting) (before : List Item) (s mask : ℕ) (body : Bod
     ≡ (if is_meant before s body then replies_to (refined_switch_of setting before s) mask body else [])
 unfolding replies refined_switch_of
 replies_as setting before s mask body = let switch : SwitchValue = refined_switch_of setting before s in
-    by_obeying switch body (is_up before s) (journal_body_for_boot (journal_boot_of before s) body)
+    by_obeying switch body (is_up before s) (is_journal_body_for_boot (journal_boot_of before s) body)
     (replies_to switch mask body) [] refl refl (controller_silent switch mask body)
 
 shut_items : (setting : Setting) (before : List Item) (row n s : ℕ) (body : Body)
@@ -369,7 +369,7 @@ shut_items : (setting : Setting) (before : List Item) (row n s : ℕ) (body : Bo
     (refined_journal_within_delivery before row n []) ≡ send_items (refined_journal_within_delivery before row n [])
     (replies (refined_switch_of setting before s) (near setting before s) body)
 shut_items setting before row n s body net is shut = items_are setting before now n s body is.sent
-    ∙ by_meant (is_up before s) (journal_body_for_boot (journal_boot_of before s) body) refl
+    ∙ by_meant (is_up before s) (is_journal_body_for_boot (journal_boot_of before s) body) refl
     (sym (opened_as setting before s body) ∙ shut) ∙ ap (send_items now)
     (sym (replies_as setting before s (near setting before s) body))
   where
@@ -379,7 +379,7 @@ shut_items setting before row n s body net is shut = items_are setting before no
     switch : SwitchValue
     switch = refined_switch_of setting before s
 
-    by_meant : (up own : Bool) → journal_body_for_boot (journal_boot_of before s) body ≡ own
+    by_meant : (up own : Bool) → is_journal_body_for_boot (journal_boot_of before s) body ≡ own
         → (if up && own then opened_by switch body else None) ≡ None
         → (if up && own then journal_switch_items setting before s body now else [])
         ≡ send_items now (if up && own then replies_to switch (near setting before s) body else [])

@@ -1,7 +1,7 @@
 -- A message that is delivered is heard: what is written then, and what the parts are behind it.
 use Rattle.std.proofs.Common.{[], ◌++◌, ◌+◌, ◌<◌, ◌==◌, ◌||◌, ◌∙◌, ◌∷◌, ◌≡◌, Bool, List, None, Some, ap, append_assoc, false, get_or, is_some, length, length-set, map, refl, rules, set, subst, sym, true, ℕ}
 use Rattle.base.proofs.Exports.{option_map_or}
-use Rattle.message_bag.specs.Exports.{IsMessageOf, Post, delivered_status, is_post_deliverable, new_post, posts_with_delivered, post_with_status}
+use Rattle.message_bag.specs.Exports.{IsBagMessageOf, Post, bag_delivered_status, is_post_deliverable, new_post, posts_with_delivered, post_with_status}
 use Rattle.message_bag.proofs.BagNumberedPosts.{length_changed}
 use Rattle.refinement.specs.Exports.{AreRefinedActsWritten, RefinementHearsShut, IsRefinedBagOf, RefinedNetworkState, RefineJournal, refined_switch_of}
 use Rattle.refinement.proofs.RefinedControllerCalls.{hears}
@@ -9,7 +9,7 @@ use Rattle.refinement.proofs.RefinedControllerResends.{names_there, steps_leave}
 use Rattle.controller.specs.Exports.{ControllerValue, ControllerReplyNamesExist, ControllerSettlesWith, controller_hear_acts, controller_marks_after}
 use Rattle.controller.specs.declared.sends.Act.{Act}
 use Rattle.controller.specs.declared.sends.Act.TheVariants.{Post as PostAct}
-use Rattle.update_machine.specs.Exports.{Deliver, Item, Message, Place, Setting, deliver_items, machine_delivery_items, is_deliverable, is_journal_message_to, is_journal_controller_message, is_to_controller, is_journal_receiver_switch, message_of, near, journal_next_message, nothing, piece, machine_sent_items_from, machine_message_to_switch}
+use Rattle.update_machine.specs.Exports.{Deliver, Item, Message, Place, Setting, deliver_items, machine_delivery_items, is_deliverable, is_journal_message_to, is_journal_controller_message, is_to_controller, is_journal_receiver_switch, journal_message_of, near, journal_next_message, nothing, piece, machine_sent_items_from, machine_message_to_switch}
 use Rattle.ctrl_msg.specs.Exports.{to_controller}
 use Rattle.switch_core.specs.Exports.{SwitchValue, switch_opening_stamp, replies, switch_with_message}
 use Rattle.refinement.proofs.RefinedDeliveredRecords.{hearing_refines}
@@ -59,14 +59,14 @@ module _ {setting : Setting} {journal : List Item} {state : RefinedNetworkState}
 -- the message of a number in the bag
 pub record IsThere (setting : Setting) (journal : List Item) (posts : List Post) (row n : ℕ)
     (message : Message) : Type 0 where
-  pub sent : message_of journal n ≡ Some message
+  pub sent : journal_message_of journal n ≡ Some message
   pub deliverable : is_deliverable journal n ≡ true
   pub bag : IsRefinedBagOf (grown journal row (Deliver n) (Item.Delivered n)) (posts_with_delivered posts n)
   pub as_many : length (posts_with_delivered posts n) ≡ length posts
 
 module _ {setting : Setting} {journal : List Item} {state : RefinedNetworkState}
     (refines : RefineJournal setting journal state) where
-  pub is_there : (row n : ℕ) (message : Message) → IsMessageOf state.posts n message
+  pub is_there : (row n : ℕ) (message : Message) → IsBagMessageOf state.posts n message
       → IsThere setting journal state.posts row n message
   is_there row n message there = record {
     sent = sent_as journal state.posts n message refines.bag there;
@@ -75,11 +75,11 @@ module _ {setting : Setting} {journal : List Item} {state : RefinedNetworkState}
         (bag_delivered (journal ++ Item.Row row (Deliver n) ∷ []) state.posts n
         (within_posts state.posts n _ there.frames_are)
         (bag_on journal (Item.Row row (Deliver n) ∷ []) state.posts (refl, tt) refines.bag));
-    as_many = length_changed (post_with_status delivered_status) state.posts n;
+    as_many = length_changed (post_with_status bag_delivered_status) state.posts n;
   }
 
   -- it is delivered, and then more is written
-  pub first_piece : (row n : ℕ) (message : Message) → IsMessageOf state.posts n message
+  pub first_piece : (row n : ℕ) (message : Message) → IsBagMessageOf state.posts n message
       → piece setting journal row (Deliver n) ≡ Item.Row row (Deliver n) ∷ Item.Delivered n
       ∷ machine_delivery_items setting journal n (grown journal row (Deliver n) (Item.Delivered n))
   first_piece row n message there =
@@ -87,13 +87,13 @@ module _ {setting : Setting} {journal : List Item} {state : RefinedNetworkState}
 
 -- a row leaves a message
 pub row_keeps : (journal : List Item) (row n : ℕ)
-    → message_of (journal ++ Item.Row row (Deliver n) ∷ []) n ≡ message_of journal n
+    → journal_message_of (journal ++ Item.Row row (Deliver n) ∷ []) n ≡ journal_message_of journal n
 row_keeps journal row n =
     (message_keeps n journal (Item.Row row (Deliver n) ∷ []) (refl, tt)).message
 
 -- a switch to which the message isn't stays
 not_to : (setting : Setting) (journal : List Item) (row n q : ℕ) (message : Message)
-    → message_of journal n ≡ Some message → is_journal_receiver_switch q message.to ≡ false → refined_switch_of setting
+    → journal_message_of journal n ≡ Some message → is_journal_receiver_switch q message.to ≡ false → refined_switch_of setting
     (grown journal row (Deliver n) (Item.Delivered n)) q ≡ refined_switch_of setting journal q
 not_to setting journal row n q message sent other =
     let to_other = ap (λ o. option_map_or (λ (m : Message). is_journal_receiver_switch q m.to) o false)
@@ -109,7 +109,7 @@ as_told message to = ap (λ p. record { to = p; body = message.body }) to
 module _ {setting : Setting} {journal : List Item} {state : RefinedNetworkState}
     (refines : RefineJournal setting journal state) where
   -- what it names is there
-  pub names_known : (n : ℕ) (message : Message) → IsMessageOf state.posts n message
+  pub names_known : (n : ℕ) (message : Message) → IsBagMessageOf state.posts n message
       → message.to ≡ Place.Controller → ControllerReplyNamesExist message.body state.controller.marks
   names_known n message there to = names_there setting journal n message.body state.controller.marks
       (reached_known setting journal refines.sound refines.reached).tables.names
@@ -119,7 +119,7 @@ module _ {setting : Setting} {journal : List Item} {state : RefinedNetworkState}
 module _ {setting : Setting} {journal : List Item} {state : RefinedNetworkState}
     (refines : RefineJournal setting journal state) (row n : ℕ) (message : Message)
     (new : ControllerValue) (may : IsStep setting.net (length setting.files) (Deliver n))
-    (there : IsMessageOf state.posts n message) (to : message.to ≡ Place.Controller)
+    (there : IsBagMessageOf state.posts n message) (to : message.to ≡ Place.Controller)
     (settles : ControllerSettlesWith (controller_marks_after message.body state.controller.marks) state.controller.plans
     new) where
   its : IsThere setting journal state.posts row n message
@@ -173,7 +173,7 @@ module _ {setting : Setting} {journal : List Item} {state : RefinedNetworkState}
     (refines : RefineJournal setting journal state) (row n s : ℕ) (message : Message)
     (own changed : SwitchValue) (mask : ℕ)
     (may : IsStep setting.net (length setting.files) (Deliver n))
-    (there : IsMessageOf state.posts n message) (to : message.to ≡ Place.Switch s)
+    (there : IsBagMessageOf state.posts n message) (to : message.to ≡ Place.Switch s)
     (within : s < length state.switches) (own_at : own ≡ get_or state.switches s own)
     (near_is : mask ≡ near setting journal s)
     (changed_is : changed ≡ switch_with_message own n message.body)

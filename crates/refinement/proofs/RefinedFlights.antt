@@ -2,7 +2,7 @@
 use Rattle.std.proofs.Common.{if◌then◌else◌, ◌<◌, ◌≡◌, Bool, IsTrue, List, None, Some, false, get_or, length, option_map, refl, slice_get, sym, true, unwrap_or, ℕ}
 use Rattle.base.proofs.Exports.{slice_get-get_or, slice_get_within, some_same}
 use Rattle.five_tuple.specs.Exports.{IsHeader}
-use Rattle.update_machine.specs.Exports.{Header, Item, Leg, Setting, serves, targets_of}
+use Rattle.update_machine.specs.Exports.{Header, Item, Leg, Setting, serves, journal_leg_targets}
 use Rattle.tunnel.specs.Exports.{TunnelValue}
 use Rattle.packet_laws.specs.Exports.{IsPacketOnLeg, IsPacketOnWay, IsPacketServed, PacketFacts, packet_facts_of}
 use Rattle.travelling.specs.Travelling.{Flight}
@@ -75,7 +75,7 @@ pub record IsStanding (setting : Setting) (journal : List Item) (i : ℕ) (t : F
     pub ingress : ℕ
     pub leg : Leg
     pub stands : Stands setting journal i switch header ingress leg
-    pub is : t ≡ on_leg (targets_of setting journal) i (packet_facts_of journal i) header ingress leg
+    pub is : t ≡ on_leg (journal_leg_targets setting journal) i (packet_facts_of journal i) header ingress leg
 
 serves_here : (setting : Setting) (journal : List Item) (i s : ℕ) → IsPacketServed journal i
     → (packet_facts_of journal i).stands ≡ Some s → IsTrue (serves journal s)
@@ -86,11 +86,11 @@ serves_here setting journal i s served stands =
 
 pub standing_by : (setting : Setting) (journal : List Item) (i : ℕ) (t : Flight)
     → Known setting journal
-    → flight_by (targets_of setting journal) i (packet_facts_of journal i) ≡ Some t
+    → flight_by (journal_leg_targets setting journal) i (packet_facts_of journal i) ≡ Some t
     → IsStanding setting journal i t
 standing_by setting journal i t knows by =
     let facts : PacketFacts = packet_facts_of journal i in
-    let targets : Targets = targets_of setting journal in
+    let targets : Targets = journal_leg_targets setting journal in
     let on : facts.travels ≡ true = travels_by targets i facts t by in
     let travelling : Travels setting journal i = travels_known setting journal i knows on in
     let way : IsPacketOnWay setting journal facts = travelling.way in record {

@@ -9,7 +9,7 @@ use Rattle.switch_core.specs.Exports.{SwitchValue}
 use Rattle.steps.specs.Exports.{IsStep}
 use Rattle.update_machine.specs.Settling as machine
 use Rattle.update_machine.proofs.Exports.{switch_keeps}
-use Rattle.version_update.specs.Exports.{after_over, at_switch}
+use Rattle.version_update.specs.Exports.{mark_record_after_over, at_switch}
 use Rattle.world_log.specs.Exports.{LogMayNote, log_act_items, log_act_posts}
 use Rattle.refinement.proofs.RefinedActs.{may_note, refines_told, written_is}
 use Rattle.refinement.proofs.RefinedBagDeliveries.{nothing_happens}
@@ -44,10 +44,10 @@ module _ {setting : Setting} {journal : List Item} {state : RefinedNetworkState}
       ]) here)
 
   module _ (new : ControllerValue) (down : own.is_up ≡ false) (settles : ControllerSettlesWith (at_switch s
-      after_over state.controller.marks) state.controller.plans new) where
+      mark_record_after_over state.controller.marks) state.controller.plans new) where
     abbrev acts : List Act
     acts = controller_settling_acts (current_plan_touched new)
-        (at_switch s after_over state.controller.marks) new.marks
+        (at_switch s mark_record_after_over state.controller.marks) new.marks
 
     abbrev first : List Item
     first = Item.Row row (Confirm s) ∷ Item.OverNow s ∷ []

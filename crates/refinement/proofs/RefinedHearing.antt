@@ -1,7 +1,7 @@
 -- What a delivered message makes of the record of its switch.
 use Rattle.std.proofs.Common.{[], ◌&&◌, ◌++◌, ◌==◌, ◌||◌, ◌∙◌, ◌∷◌, ◌≡◌, Bool, List, None, Option, Some, ap, arith, eq-eqb, false, if◌then◌else◌, max, nat_le, nat_lt, not, refl, sym, true, unwrap_or, ℕ}
 use Rattle.base.proofs.Exports.{nat_tests, option_map_or, or_parts}
-use Rattle.update_machine.specs.Exports.{Advertise, Body, Hello, Install, Installed, Item, NoneConcern, OpenAt, Setting, Stamp, Stamped, Tables, journal_body_to_switch, journal_boot_of, machine_cache_after, journal_cache_of, changes_journal_cache, changes_heard, item_concerns_known, concerns_links, concerns_switch, item_gives_boot, item_gives_serving, item_gives_switch_up, journal_handled_count, heard, journal_body_for_boot, is_up, message_of, near, journal_own_seq, serves, journal_stamp_of, machine_message_to_switch, touched_by}
+use Rattle.update_machine.specs.Exports.{Advertise, Body, Hello, Install, Installed, Item, NoneConcern, OpenAt, Setting, Stamp, Stamped, Tables, journal_body_to_switch, journal_boot_of, machine_cache_after, journal_cache_of, changes_journal_cache, changes_journal_heard, item_concerns_known, concerns_links, concerns_switch, machine_item_gives_boot, machine_item_gives_serving, machine_item_gives_switch_up, journal_handled_count, heard, is_journal_body_for_boot, is_up, journal_message_of, near, journal_own_seq, serves, journal_stamp_of, machine_message_to_switch, machine_touched_by}
 use Rattle.switch_table.specs.Exports.{cache_after_carry, after_expire, cache_after_raise}
 use Rattle.update_machine.proofs.Exports.{calls_stay, fewer, folded_append, links_keep, switch_keeps}
 use Rattle.control_laws.proofs.Exports.{boot_more, heard_more, serving_more, up_more}
@@ -9,7 +9,7 @@ use Rattle.refinement.proofs.RefinedSwitchHearing.{SaysTouched, heard_facts, hea
 use Rattle.refinement.proofs.RefinedSwitchFacts.{AreVersioned, IsVersioned, SwitchFacts, by_facts, facts_of, stamp_by, switch_by, switch_is}
 use Rattle.ctrl_msg.specs.Exports.{body_boot, is_for_controller}
 use Rattle.failover.specs.Exports.{adverts_after_hearing}
-use Rattle.switch_core.specs.Exports.{SwitchValue, switch_after_body, switch_collected_to, holds_version, is_news_here, obeys, opened_by, switch_opening_stamp, switch_stamp_raised_to, replies_to, switch_stamped_with, switch_with_heard, with_installed, switch_with_message}
+use Rattle.switch_core.specs.Exports.{SwitchValue, switch_after_body, switch_collected_to, holds_version, is_news_to_switch, obeys, opened_by, switch_opening_stamp, switch_stamp_raised_to, replies_to, switch_stamped_with, switch_after_advert, switch_with_installed, switch_with_message}
 use Rattle.refinement.specs.Exports.{refined_switch_of}
 
 -- ---- what one item makes of the facts of a switch
@@ -47,10 +47,10 @@ pub facts_more : (setting : Setting) (before : List Item) (next : Item) (s : ℕ
     → let now = before ++ next ∷ [] in
     facts_of setting now s
     ≡ record {
-      boot = unwrap_or (item_gives_boot s next) (journal_boot_of before s);
-      up = unwrap_or (item_gives_switch_up s next) (is_up before s);
-      serving = unwrap_or (item_gives_serving s next) (serves before s);
-      bodies = changes_heard s before (heard before s) next;
+      boot = unwrap_or (machine_item_gives_boot s next) (journal_boot_of before s);
+      up = unwrap_or (machine_item_gives_switch_up s next) (is_up before s);
+      serving = unwrap_or (machine_item_gives_serving s next) (serves before s);
+      bodies = changes_journal_heard s before (heard before s) next;
       cache = changes_journal_cache setting s before (journal_cache_of setting before s) next;
       seq = journal_own_seq setting now s;
       links = near setting now s;
@@ -71,7 +71,7 @@ pub facts_delivered : (setting : Setting) (before : List Item) (s n : ℕ) (said
     → journal_body_to_switch before s n ≡ said → let w = facts_of setting before s in
     facts_of setting (before ++ Item.Delivered n ∷ []) s
     ≡ option_map_or
-    (λ body. heard_facts (touched_by setting before) n body (w.up && w.boot == 1) w) said w
+    (λ body. heard_facts (machine_touched_by setting before) n body (w.up && w.boot == 1) w) said w
 facts_delivered setting before s n said is =
     let next : Item = Item.Delivered n in
     let now : List Item = before ++ next ∷ [] in
@@ -87,9 +87,9 @@ facts_delivered setting before s n said is =
     heard_more before next s
     ∙ ap (λ o. option_map_or (λ body. heard before s ++ body ∷ []) o (heard before s)) is in
     let cache : journal_cache_of setting now s
-    ≡ option_map_or (machine_cache_after (touched_by setting before) (journal_stamp_of before s) (journal_stamp_of now s) n
+    ≡ option_map_or (machine_cache_after (machine_touched_by setting before) (journal_stamp_of before s) (journal_stamp_of now s) n
     (journal_cache_of setting before s)) said (journal_cache_of setting before s) = cache_more setting before next s
-    ∙ ap (λ o. option_map_or (machine_cache_after (touched_by setting before) (journal_stamp_of before s)
+    ∙ ap (λ o. option_map_or (machine_cache_after (machine_touched_by setting before) (journal_stamp_of before s)
     (journal_stamp_of now s) n (journal_cache_of setting before s)) o (journal_cache_of setting before s)) is in
     let stamp : journal_stamp_of now s ≡ stamp_by (is_up before s && journal_boot_of before s == 1)
     (option_map_or (λ body. heard before s ++ body ∷ []) said (heard before s)) =
@@ -105,11 +105,11 @@ facts_delivered setting before s n said is =
 
     by_said : (said : Option Body) → record w {
       bodies = option_map_or (λ body. w.bodies ++ body ∷ []) said w.bodies;
-      cache = option_map_or (machine_cache_after (touched_by setting before)
+      cache = option_map_or (machine_cache_after (machine_touched_by setting before)
           (stamp_by first w.bodies) (stamp_by first (option_map_or (λ body. w.bodies ++ body ∷ []) said w.bodies)) n w.cache) said
           w.cache;
     }
-        ≡ option_map_or (λ body. heard_facts (touched_by setting before) n body first w) said w
+        ≡ option_map_or (λ body. heard_facts (machine_touched_by setting before) n body first w) said w
     by_said None = refl
     by_said (Some body) = refl
 
@@ -145,7 +145,7 @@ facts_expired setting before s place message =
 
 -- the switch is up, and the body is of its boot if it carries one
 abbrev pub is_meant : List Item → ℕ → Body → Bool
-is_meant before s body = is_up before s && journal_body_for_boot (journal_boot_of before s) body
+is_meant before s body = is_up before s && is_journal_body_for_boot (journal_boot_of before s) body
 
 -- upon a body for the controller nothing is done that isn't done anyway
 pub by_obeying : {X : Type 0} (switch : SwitchValue) (body : Body) (up own : Bool)
@@ -193,7 +193,7 @@ obeyed_by switch n body up own is mine = by_obeying switch body up own (switch_a
 
 -- a message that was sent to the switch says its body where it is meant
 pub said_is : (before : List Item) (s n : ℕ) (body : Body)
-    → message_of before n ≡ Some (machine_message_to_switch s body)
+    → journal_message_of before n ≡ Some (machine_message_to_switch s body)
     → journal_body_to_switch before s n ≡ (if is_meant before s body then Some body else None)
 said_is before s n body sent = rw (sent, eq-eqb s s refl, journal_body_to_switch) refl
 
@@ -204,8 +204,8 @@ abbrev hears_shut : ℕ → Body → SwitchValue → SwitchValue
 hears_shut n body switch = record (switch_with_message switch n body) { is_open = switch.is_open }
 
 pub heard_is : (setting : Setting) (before : List Item) (n s : ℕ) (body : Body)
-    → message_of before n ≡ Some (machine_message_to_switch s body) → AreVersioned (heard before s)
-    → IsVersioned body → SaysTouched (touched_by setting before) body
+    → journal_message_of before n ≡ Some (machine_message_to_switch s body) → AreVersioned (heard before s)
+    → IsVersioned body → SaysTouched (machine_touched_by setting before) body
     → refined_switch_of setting (before ++ Item.Delivered n ∷ []) s
     ≡ record (switch_with_message (refined_switch_of setting before s) n body) {
       is_open = (refined_switch_of setting before s).is_open;
@@ -227,13 +227,13 @@ heard_is setting before n s body sent olds new says =
         ≡ hears_shut n body switch
     obeyed meant is = ap (λ (after : SwitchValue). record after { is_open = w.serving })
         (ap (λ b. if b then switch_after_body switch n body else switch) (sym is) ∙ sym (obeyed_by switch n
-        body (is_up before s) (journal_body_for_boot (journal_boot_of before s) body) refl refl))
+        body (is_up before s) (is_journal_body_for_boot (journal_boot_of before s) body) refl refl))
 
     by_meant : (meant : Bool) → is_meant before s body ≡ meant
         → refined_switch_of setting now s ≡ hears_shut n body switch
     by_meant true is = by_facts setting now s _ (facts_delivered setting before s n (Some body)
         (said_is before s n body sent ∙ ap (λ b. if b then Some body else None) is))
-        ∙ hears_facts setting (touched_by setting before) s n w (w.up && w.boot == 1) body olds new
+        ∙ hears_facts setting (machine_touched_by setting before) s n w (w.up && w.boot == 1) body olds new
         says ∙ obeyed true is
     by_meant false is = by_facts setting now s _ (facts_delivered setting before s n None
         (said_is before s n body sent ∙ ap (λ b. if b then Some body else None) is))
@@ -249,7 +249,7 @@ or_kept false switch tables = refl
 
 kept_by : (switch : SwitchValue) (n : ℕ) (body : Body) → opened_by switch body ≡ None
     → (switch_after_body switch n body).is_open ≡ switch.is_open
-unfolding with_installed switch_stamp_raised_to switch_stamped_with switch_collected_to switch_with_heard
+unfolding switch_with_installed switch_stamp_raised_to switch_stamped_with switch_collected_to switch_after_advert
 kept_by switch n (Install boot tables) shut =
     or_kept (holds_version switch tables.version || nat_le tables.version switch.collected) switch
     tables
@@ -264,7 +264,7 @@ kept_by switch n (Stamp boot version touched) shut = by_test (nat_lt switch.stam
   } else switch).is_open ≡ switch.is_open
   by_test true = refl
   by_test false = refl
-kept_by switch n (Advertise advert) shut = by_test (is_news_here switch advert) where
+kept_by switch n (Advertise advert) shut = by_test (is_news_to_switch switch advert) where
   by_test : (b : Bool) → (if b then record switch {
     database = adverts_after_hearing switch.database advert;
   } else switch).is_open ≡ switch.is_open

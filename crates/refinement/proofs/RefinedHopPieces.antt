@@ -1,15 +1,15 @@
 -- What a hop of a packet on its way writes, the calls that it counts, and where packets are then.
 use Rattle.std.proofs.Common.{[], ◌&&◌, ◌++◌, ◌<◌, ◌==◌, ◌∙◌, ◌∷◌, ◌≡◌, Bool, IsTrue, List, None, Option, Some, ap, arith, cond, false, get_or, if◌then◌else◌, length, refl, slice_get, slice_index, subst, sym, true, unwrap_or, ℕ}
-use Rattle.update_machine.specs.Exports.{Exit, Header, Hop, Item, Leg, NoneConcern, Ports, Seek, Setting, item_concerns_known, count_of, machine_hop_items as hop_items_of, is_at, is_packet, move_items, near, journal_next_message, nothing, piece, journal_plan_at, standing, journal_stays_on_way, targets_of, travels, journal_travels_at}
-use Rattle.net_file.specs.Exports.{ArePortOwners}
-use Rattle.switch_core.specs.Exports.{CanSwitchLookUp, IsAtAuthoritySwitch, PacketStandsAtSwitch, SwitchValue, around, switch_call_counted, switch_hop_answer, switch_found_link_down, received, serves}
+use Rattle.update_machine.specs.Exports.{Exit, Header, Hop, Item, Leg, NoneConcern, Ports, Seek, Setting, item_concerns_known, count_of, machine_hop_items as hop_items_of, is_at, is_packet, machine_move_items, near, journal_next_message, nothing, piece, journal_plan_at, standing, journal_hop_stays_on_way, journal_leg_targets, travels, journal_travels_at}
+use Rattle.net_file.specs.Exports.{AreNetPortOwners}
+use Rattle.switch_core.specs.Exports.{CanSwitchLookUp, IsSwitchAuthorityForLeg, SwitchStandsAtRoutePlace, SwitchValue, around, switch_call_counted, switch_hop_answer, switch_found_link_down, received, serves}
 use Rattle.switch_core.specs.declared.tunnel_calls.HopEnd.TheVariants as hop
 use Rattle.refinement.specs.Exports.{AreRefinedInStep, RefinedNetworkState, RefineJournal, refined_flight_in, refined_switch_of}
 use Rattle.refinement.proofs.RefinedSwitchKnowledge.{requirements_hold}
 use Rattle.tunnel.specs.Exports.{here, next}
 use Rattle.control_laws.specs.Exports.{LegEndsAt}
 use Rattle.packet_laws.specs.Exports.{PacketFacts, packet_facts_of}
-use Rattle.travelling.specs.Travelling.{Flight, flight, standing_at}
+use Rattle.travelling.specs.Travelling.{Flight, flight, traveller_standing_at}
 use Rattle.refinement.proofs.RefinedArrivals.{IsAtEnd}
 use Rattle.refinement.proofs.RefinedSteps.{Known, flight_stays, reached_known}
 use Rattle.refinement.proofs.RefinedMovedPacket.{Hops, arrives_at_end, hop_goes, hop_law, hop_stays, stays_by}
@@ -69,15 +69,15 @@ pub record CanAsk (setting : Setting) (journal : List Item) (i : ℕ) (t : Fligh
   pub at : s ≡ standing.switch
   pub hops : Hops setting journal i standing.switch standing.header standing.ingress standing.leg w
       near ports
-  pub stands : PacketStandsAtSwitch w t.tunnel.route t.tunnel.place
+  pub stands : SwitchStandsAtRoutePlace w t.tunnel.route t.tunnel.place
   pub serving : IsTrue (serves w)
   pub stamped : CanSwitchLookUp w
   pub authority : (switch_hop_answer w near t.tunnel).end ≡ hop.Arrive
-      → IsAtAuthoritySwitch w t.tunnel.header t.tunnel.leg
+      → IsSwitchAuthorityForLeg w t.tunnel.header t.tunnel.leg
 
 pub can_be_asked : (setting : Setting) (journal : List Item) (i : ℕ) (t : Flight) (s mask : ℕ)
     (w : SwitchValue) (ports : Ports) → Known setting journal
-    → ArePortOwners setting.net.switches ports → IsStanding setting journal i t
+    → AreNetPortOwners setting.net.switches ports → IsStanding setting journal i t
     → s ≡ here t.tunnel → w ≡ refined_switch_of setting journal s → mask ≡ near setting journal s
     → CanAsk setting journal i t s mask w ports
 can_be_asked setting journal i t s mask w ports knows owners standing at own usable =
@@ -93,7 +93,7 @@ can_be_asked setting journal i t s mask w ports knows owners standing at own usa
       standing = standing;
       at = here_it;
       hops = hops;
-      stands = subst (λ (u : Flight). PacketStandsAtSwitch w u.tunnel.route u.tunnel.place) (sym standing.is)
+      stands = subst (λ (u : Flight). SwitchStandsAtRoutePlace w u.tunnel.route u.tunnel.place) (sym standing.is)
           (standing.stands.here ∙ ap Some (sym (ap (λ (v : SwitchValue). v.number) is_switch
           ∙ number_shown setting journal standing.switch)));
       serving = hops.sees.serving ∙ standing.stands.serving;
@@ -149,7 +149,7 @@ module _ {setting : Setting} {journal : List Item} {state : RefinedNetworkState}
       )
 
   pub can_ask : (i : ℕ) (t : Flight) (s : ℕ) (w : SwitchValue) (ports : Ports)
-      → ArePortOwners setting.net.switches ports → flight state.travelling i ≡ Some t
+      → AreNetPortOwners setting.net.switches ports → flight state.travelling i ≡ Some t
       → s ≡ here t.tunnel → w ≡ get_or state.switches s w
       → CanAsk setting journal i t s (slice_index state.near s) w ports
   can_ask i t s w ports owners its at own =
@@ -181,9 +181,9 @@ hop_piece setting journal row i t s near w ports can =
     let refines : IsStanding setting journal i t = can.standing in
     ap (λ b. Item.Row row (Hop i) ∷ elim b [
       | false ↦ nothing
-      | true ↦ move_items setting i (unwrap_or (standing new i) 0) new
+      | true ↦ machine_move_items setting i (unwrap_or (standing new i) 0) new
     ]) (ap (λ (facts : PacketFacts). facts.travels) same ∙ refines.stands.on)
-    ∙ ap (λ o. Item.Row row (Hop i) ∷ move_items setting i (unwrap_or o 0) new)
+    ∙ ap (λ o. Item.Row row (Hop i) ∷ machine_move_items setting i (unwrap_or o 0) new)
     (ap (λ (facts : PacketFacts). facts.stands) same ∙ refines.stands.stands)
     ∙ ap (λ items. Item.Row row (Hop i) ∷ items)
     (hop_law setting journal row i refines.switch refines.header refines.ingress refines.leg w near
@@ -196,7 +196,7 @@ unfolding piece hop_items_of packet_facts_of
 left_piece setting journal row i off = let new : List Item = begun journal row i in
     ap (λ b. Item.Row row (Hop i) ∷ elim b [
       | false ↦ nothing
-      | true ↦ move_items setting i (unwrap_or (standing new i) 0) new
+      | true ↦ machine_move_items setting i (unwrap_or (standing new i) 0) new
     ]) (ap (λ (facts : PacketFacts). facts.travels) (same_facts journal row i i) ∙ off)
 
 -- ---- the calls that it counts
@@ -212,7 +212,7 @@ ended_later : (number : ℕ) (w : SwitchValue) (near : ℕ) (ports : Ports) (t :
     (end : HopEnd) → AreRefinedInStep (log_ended_items number w near ports t end)
 unfolding log_arrival_items
 ended_later number w near ports t HopEnd.Arrive =
-    arrived_later number (standing_at w.number t) t (received w (around near ports) t.tunnel)
+    arrived_later number (traveller_standing_at w.number t) t (received w (around near ports) t.tunnel)
 ended_later number w near ports t (HopEnd.Move other) = (tt, tt)
 ended_later number w near ports t (HopEnd.Stuck cause) = (tt, tt)
 
@@ -237,7 +237,7 @@ hopped_by w (HopEnd.Stuck cause) = refl
 
 -- the packet's switch is called, and no other
 calls_of_hop : (setting : Setting) (journal items : List Item) (row i s k : ℕ) (end : HopEnd)
-    (b : Bool) → AreRefinedInStep items → journal_stays_on_way items ≡ stays_by end
+    (b : Bool) → AreRefinedInStep items → journal_hop_stays_on_way items ≡ stays_by end
     → NoneConcern (item_concerns_known k) journal (Item.Row row (Hop i) ∷ items)
     → travels journal i ≡ true → standing journal i ≡ Some s → (s == k) ≡ b
     → refined_switch_of setting (journal ++ Item.Row row (Hop i) ∷ items) k
@@ -247,7 +247,7 @@ calls_of_hop setting journal items row i s k end b later stays none on stands is
     let w : SwitchValue = refined_switch_of setting journal k in
     let at = ap (λ x. x && is_at k (standing journal i)) on ∙ ap (is_at k) stands ∙ is in
     calls_refine.hopped setting journal row i k items later none
-    ∙ ap (λ x. if x then (if journal_stays_on_way items then switch_call_counted w else switch_call_counted (switch_call_counted w)) else w) at
+    ∙ ap (λ x. if x then (if journal_hop_stays_on_way items then switch_call_counted w else switch_call_counted (switch_call_counted w)) else w) at
     ∙ ap (λ x. if b then (if x then switch_call_counted w else switch_call_counted (switch_call_counted w)) else w) stays
     ∙ ap (λ (u : SwitchValue). if b then u else w) (hopped_by w end)
 
@@ -265,7 +265,7 @@ ended_other : (q number : ℕ) (w : SwitchValue) (near : ℕ) (ports : Ports) (t
     → NoneName q (log_ended_items number w near ports t end)
 unfolding log_arrival_items
 ended_other q number w near ports t HopEnd.Arrive other =
-    arrived_other q number (standing_at w.number t) t (received w (around near ports) t.tunnel) other
+    arrived_other q number (traveller_standing_at w.number t) t (received w (around near ports) t.tunnel) other
 ended_other q number w near ports t (HopEnd.Move two) other = (other, tt)
 ended_other q number w near ports t (HopEnd.Stuck cause) other = (other, tt)
 
@@ -303,19 +303,19 @@ module _ (setting : Setting) (journal : List Item) (row i : ℕ) (t : Flight) (s
       (journal ++ Item.Row row (Hop i) ∷ log_hop_written number w near ports u) i) (sym refines.is)
       (hop_goes setting journal row i refines.switch refines.header refines.ingress refines.leg w
       near ports can.hops ∙ sym (flight_along setting journal
-      (Item.Row row (Hop i) ∷ log_hop_written number w near ports (on_leg (targets_of setting journal) i
+      (Item.Row row (Hop i) ∷ log_hop_written number w near ports (on_leg (journal_leg_targets setting journal) i
       (packet_facts_of journal i) refines.header refines.ingress refines.leg)) i (
         refl,
         (are_apart number (begun journal row i)
-            (log_hop_written number w near ports (on_leg (targets_of setting journal) i
+            (log_hop_written number w near ports (on_leg (journal_leg_targets setting journal) i
             (packet_facts_of journal i) refines.header refines.ingress refines.leg))
-            (hop_sends number w near ports (on_leg (targets_of setting journal) i
+            (hop_sends number w near ports (on_leg (journal_leg_targets setting journal) i
             (packet_facts_of journal i) refines.header refines.ingress refines.leg)).0).policies,
       )))
 
-  stays : journal_stays_on_way items ≡ stays_by end
+  stays : journal_hop_stays_on_way items ≡ stays_by end
   stays = let refines : IsStanding setting journal i t = can.standing in
-      subst (λ (u : Flight). journal_stays_on_way (log_hop_written number w near ports u)
+      subst (λ (u : Flight). journal_hop_stays_on_way (log_hop_written number w near ports u)
       ≡ stays_by (switch_hop_answer w near u.tunnel).end) (sym refines.is)
       (hop_stays setting journal row i refines.switch refines.header refines.ingress refines.leg
       w near ports can.hops)

@@ -1,7 +1,7 @@
 -- A packet that enters: its whole step keeps the tie.
 use Rattle.std.proofs.Common.{[], ◌++◌, ◌+◌, ◌<◌, ◌==◌, ◌∙◌, ◌∷◌, ◌≡◌, ◌≤◌, Bool, List, None, Option, Some, ap, arith, cond, eq-eqb, eqb-true, false, get_or, if◌then◌else◌, length, length-set, refl, set, slice_index, subst, sym, true, ℕ}
 use Rattle.base.proofs.Exports.{nat_tests, sum_by-cons}
-use Rattle.update_machine.specs.Exports.{Header, Item, Leg, NoneConcern, Packet as PacketStep, Ports, Setting, Step, item_concerns_policies, count_of, is_packet, journal_next_message, journal_next_packet, packet_items, piece, targets_of}
+use Rattle.update_machine.specs.Exports.{Header, Item, Leg, NoneConcern, Packet as PacketStep, Ports, Setting, Step, item_concerns_policies, count_of, is_packet, journal_next_message, journal_next_packet, machine_packet_items, piece, journal_leg_targets}
 use Rattle.switch_core.specs.Exports.{Answer, SwitchValue, switch_call_counted}
 use Rattle.refinement.specs.Exports.{AreRefinedInStep, RefinedNetworkState, RefineJournal, refined_flight_in, refined_switch_of}
 use Rattle.refinement.proofs.RefinedSwitchSteps.{calls_refine}
@@ -12,7 +12,7 @@ use Rattle.refinement.proofs.RefinedOnwardPackets.{ComesTo, GoesIn, come_goes, c
 use Rattle.refinement.proofs.RefinedSteps.{Known, Steps, flight_stays, numbered, one_changes, packets_are, refines_more, switches_are}
 use Rattle.refinement.proofs.RefinedPacketFacts.{Targets, answer_later, by_targets, entered_other, entered_sends, facts_along, flight_along, later_packets, same_targets}
 use Rattle.refinement.proofs.RefinedPostedFrames.{SendFrom, are_apart, posts_in}
-use Rattle.net_file.specs.Exports.{ArePortOwners}
+use Rattle.net_file.specs.Exports.{AreNetPortOwners}
 use Rattle.message_bag.specs.Exports.{Post}
 use Rattle.steps.specs.Exports.{IsStep}
 use Rattle.refinement.proofs.RefinedHopPieces.{known_of, seen}
@@ -60,7 +60,7 @@ pub come_along : (setting : Setting) (journal : List Item)
     (kept : Option Flight) (q : ℕ) (b : Bool) → Known setting journal
     → (q == at.packet) ≡ b → IsUnknownPacket (packet_facts_of journal at.packet)
     → (packet_facts_of journal at.packet).found ≡ at.down → GoesIn targets at answer
-    → ((leg : Leg) → targets leg ≡ targets_of setting journal leg)
+    → ((leg : Leg) → targets leg ≡ journal_leg_targets setting journal leg)
     → NoneConcern item_concerns_policies journal (Item.Row row taken ∷ log_entered_items number at answer)
     → kept ≡ refined_flight_in setting journal q → (if b then log_entered_flight answer else kept)
     ≡ refined_flight_in setting (journal ++ Item.Row row taken ∷ log_entered_items number at answer) q
@@ -70,7 +70,7 @@ come_along setting journal row number taken targets at answer kept q true knows 
     let i : ℕ = at.packet in
     entered_goes targets (journal ++ first ∷ []) number at answer (packet_facts_of journal i) unknown
     unmarked comes
-    ∙ by_targets targets (targets_of setting journal) i
+    ∙ by_targets targets (journal_leg_targets setting journal) i
     (facts_along i journal (first ∷ log_entered_items number at answer) (packet_facts_of journal i)) (same _)
     ∙ sym (flight_along setting journal (first ∷ log_entered_items number at answer) i none)
     ∙ ap (refined_flight_in setting (journal ++ first ∷ log_entered_items number at answer))
@@ -96,7 +96,7 @@ module _ {setting : Setting} {journal : List Item} {state : RefinedNetworkState}
 module _ {setting : Setting} {journal : List Item} {state : RefinedNetworkState}
     (refines : RefineJournal setting journal state) (row s : ℕ) (header : Header) (ports : Ports)
     (own : SwitchValue) (may : IsStep setting.net (length setting.files) (PacketStep s header))
-    (owners : ArePortOwners setting.net.switches ports) (its : own ≡ get_or state.switches s own) where
+    (owners : AreNetPortOwners setting.net.switches ports) (its : own ≡ get_or state.switches s own) where
   abbrev i : ℕ
   i = state.packets + 1
 
@@ -167,7 +167,7 @@ module _ {setting : Setting} {journal : List Item} {state : RefinedNetworkState}
         (come_called setting journal row number q (log_coming_in i header s) answer false sends)
         (switches_are refines q d below);
     travels = λ q. with q ∙ come_along setting journal row number taken
-        (targets_of setting (looking journal row taken i s header)) (log_coming_in i header s) answer
+        (journal_leg_targets setting (looking journal row taken i s header)) (log_coming_in i header s) answer
         (flight state.travelling q) q (q == i) knows refl unknown unknown.found
         (come_goes setting journal row i s taken header own near ports comes) (λ leg. same_targets
         setting (journal ++ first ∷ []) (Item.Entered i s header ∷ []) (refl, tt) leg

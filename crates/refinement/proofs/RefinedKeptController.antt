@@ -1,7 +1,7 @@
 -- What leaves the controller as it was, and the start.
 use Rattle.std.proofs.Common.{[], ◌++◌, ◌+◌, ◌<◌, ◌∙◌, ◌∷◌, ◌≡◌, ◌≢◌, IsFalse, IsTrue, List, Some, ap, append-nil, append_assoc, arith, get_or-set_other, get_or-set_same, inl, inr, length, length-set, map, refl, replicate, subst, sym, unwrap_or, ℕ}
 use Rattle.base.proofs.Exports.{cases_eq, get_or-replicate, length-replicate}
-use Rattle.update_machine.specs.Exports.{JournalControllerKeeps, Item, Message, Setting, acked_stamp, controller_heard, journal_current_mark, has_acked, in_turn, is_member, is_over, journal_known_boot, journal_next_message, machine_open_sent, opened_at, journal_retired_mark, send_items, machine_sent_items_from, journal_version_count}
+use Rattle.update_machine.specs.Exports.{JournalControllerKeeps, Item, Message, Setting, acked_stamp, journal_controller_heard, journal_current_mark, has_acked, in_turn, is_member, is_over, journal_known_boot, journal_next_message, machine_open_sent, journal_opened_at, journal_retired_mark, send_items, machine_sent_items_from, journal_version_count}
 use Rattle.update_machine.proofs.Exports.{next_sent, start_laws}
 use Rattle.control_laws.proofs.Exports.{acked_same, count_more, current_more, known_more, member_same, opened_same, over_more, retired_more, stamp_same, told_more}
 use Rattle.version_update.specs.Exports.{MarksValue, at_switch, first_marks, first_record, record_of, unknown_switch_record}
@@ -17,7 +17,7 @@ use Rattle.controller.specs.declared.sends.Act.TheVariants.{Post}
 pub record StaysKnown (before after : List Item) (s : ℕ) : Type 0 where
   pub boot : journal_known_boot after s ≡ journal_known_boot before s
   pub over : is_over after s ≡ is_over before s
-  pub opened : opened_at after s ≡ opened_at before s
+  pub opened : journal_opened_at after s ≡ journal_opened_at before s
   pub acked : (v : ℕ) → has_acked after s v ≡ has_acked before s v
   pub stamp : acked_stamp after s ≡ acked_stamp before s
 
@@ -36,7 +36,7 @@ known_on before after s known stays is =
 
 -- an item that tells the controller nothing and opens no switch
 pub quiet_stays : (before : List Item) (next : Item) (s : ℕ)
-    → controller_heard (before ++ next ∷ []) ≡ controller_heard before
+    → journal_controller_heard (before ++ next ∷ []) ≡ journal_controller_heard before
     → journal_known_boot (before ++ next ∷ []) s ≡ journal_known_boot before s
     → is_over (before ++ next ∷ []) s ≡ is_over before s
     → machine_open_sent s (journal_known_boot before s) next ≡ [] → StaysKnown before (before ++ next ∷ []) s
@@ -141,8 +141,8 @@ switch_on setting journal next marks s change count current retired others there
 
 -- ---- the start
 
-opened_first : (s : ℕ) → opened_at [] s ≡ Some 1
-unfolding opened_at journal_known_boot controller_heard
+opened_first : (s : ℕ) → journal_opened_at [] s ≡ Some 1
+unfolding journal_opened_at journal_known_boot journal_controller_heard
 opened_first s = refl
 
 known_first : (s : ℕ) → IsKnownRefined [] s first_record

@@ -3,16 +3,16 @@ use Rattle.std.proofs.Common.{[], ◌++◌, ◌+◌, ◌-◌, ◌<◌, ◌==◌,
 use Rattle.base.proofs.Exports.{flat_map, has_mask}
 use Rattle.message_bag.specs.Exports.{Post, new_post}
 use Rattle.control_laws.proofs.Exports.{caused_known, fit_in_room, have_front, serving_known}
-use Rattle.control_laws.specs.Exports.{HasControlItemCause, ControlNumbersFit, asks_controller}
+use Rattle.control_laws.specs.Exports.{HasControlItemCause, ControlNumbersFit, control_asks_controller}
 use Rattle.controller.specs.declared.sends.Act.{Act}
 use Rattle.controller.specs.declared.sends.Act.TheVariants.{Post as PostAct}
-use Rattle.update_machine.specs.Exports.{HasRoom, JournalItemsHaveCauses, Item, Message, Setting, Step, count_of, journal_usable_links_changed, is_packet, journal_link_changes, machine_messages_of, near, own_advert, piece, machine_sent_items_from, switches_of}
+use Rattle.update_machine.specs.Exports.{HasRoom, JournalItemsHaveCauses, Item, Message, Setting, Step, count_of, journal_usable_links_changed, is_packet, journal_link_changes, machine_messages_of, near, own_advert, piece, machine_sent_items_from, setting_switches_of}
 use Rattle.refinement.specs.Exports.{RefineUpLinks, RefineUsableLinks, HasRefinedNextSeq, IsRefinedBagOf, RefinementLeavesSwitch, RefinedNetworkState, RefineJournal, refined_flight_in, refined_relinked_switch, refined_switch_of, refined_up_links}
 use Rattle.refinement.proofs.RefinedSteps.{controller_stays, flight_stays, reached_known, reached_more, refines_taken}
 use Rattle.refinement.proofs.RefinedPacketFacts.{NoneName, none_more}
 use Rattle.refinement.proofs.RefinedPostedFrames.{bag_sends}
 use Rattle.base.specs.Exports.{has}
-use Rattle.net_file.specs.Exports.{are_linked}
+use Rattle.net_file.specs.Exports.{are_linked_in_net}
 use Rattle.steps.specs.Exports.{IsStep}
 use Rattle.switch_core.specs.Exports.{SwitchValue, switch_next_advert}
 use Rattle.refinement.proofs.RefinedSwitchKnowledge.{requirements_hold}
@@ -126,7 +126,7 @@ pub record LinksChange (setting : Setting) (journal : List Item) (row : ℕ) (st
   pub may : IsStep setting.net (length setting.files) step
   pub piece_is : piece setting journal row step ≡ Item.Row row step
       ∷ first ++ journal_link_changes setting journal (journal ++ Item.Row row step ∷ first)
-  pub not_told : IsFalse (asks_controller journal step)
+  pub not_told : IsFalse (control_asks_controller journal step)
   pub none_come : count_of is_packet (Item.Row row step ∷ first) ≡ 0
   pub as_many : length others ≡ length state.switches
   pub number : length posts ≡ length state.posts
@@ -177,7 +177,7 @@ module _ {setting : Setting} {journal : List Item} {row : ℕ} {step : Step} {fi
         many = changes.as_many ∙ refines.many;
         few = refines.sound.net.few_switches;
         up = λ q k small below. ap (λ mask. has mask k) (changes.up q small)
-            ∙ has_mask (are_linked (refined_up_links setting now) q) k below;
+            ∙ has_mask (are_linked_in_net (refined_up_links setting now) q) k below;
         within = λ q k linked. up_ends setting now q k refines.sound.net linked;
         had_is = λ q below. refines.usable q
             (omega (arith, below, changes.as_many, refines.many, refines.sound.net.few_switches));
@@ -189,7 +189,7 @@ module _ {setting : Setting} {journal : List Item} {row : ℕ} {step : Step} {fi
   changes_are : journal_link_changes setting journal now ≡ machine_sent_items_from number messages
   unfolding journal_link_changes
   changes_are = ap (λ k. machine_sent_items_from k (flat_map (machine_messages_of setting journal now)
-      (filter (journal_usable_links_changed setting journal now) (switches_of setting))))
+      (filter (journal_usable_links_changed setting journal now) (setting_switches_of setting))))
       (changes.bag.many ∙ ap (λ k. k + 1) changes.number)
       ∙ ap (machine_sent_items_from number) (sym (told_now setting journal now links state.near others any can))
 

@@ -4,9 +4,9 @@ use Rattle.std.proofs.Common.{[], if◌then◌else◌, ◌&&◌, ◌++◌, ◌+�
 use Rattle.base.proofs.Exports.{and_parts, any_filter_by, beq, has_mask, mask_of_is, nat_tests, option_or}
 use Rattle.update_machine.specs.Exports.{Item, LinkRow, Message, Net, Setting, Step, item_concerns_calls, gives_journal_link, is_link_up_in_journal, journal_items_then, journal_last_given, journal_link_changes, machine_link_items, near, nothing, piece, machine_sent_items_from}
 use Rattle.base.specs.Exports.{has}
-use Rattle.net_file.specs.Exports.{are_linked, joins}
+use Rattle.net_file.specs.Exports.{are_linked_in_net, joins}
 use Rattle.net_file.proofs.NetFileRowPlaces.{links as link_laws}
-use Rattle.control_laws.specs.Exports.{asks_controller}
+use Rattle.control_laws.specs.Exports.{control_asks_controller}
 use Rattle.steps.specs.Exports.{HasLink, IsStep}
 use Rattle.switch_core.specs.Exports.{SwitchValue, switch_next_advert}
 use Rattle.refinement.specs.Exports.{RefinementLeavesSwitch, RefinedNetworkState, RefineJournal, is_refined_up_link, link_step, refined_relinked_switch, refined_up_links}
@@ -42,8 +42,8 @@ joined_up journal s k link joined = by_order (link.one == s && link.two == k) re
 
 -- two switches have a link that is up where they have one, and it is up
 up_linked : (setting : Setting) (journal : List Item) (s k : ℕ)
-    → are_linked (refined_up_links setting journal) s k
-    ≡ (are_linked setting.net.links s k && is_link_up_in_journal journal s k)
+    → are_linked_in_net (refined_up_links setting journal) s k
+    ≡ (are_linked_in_net setting.net.links s k && is_link_up_in_journal journal s k)
 up_linked setting journal s k = any_filter_by (joins s k) (is_refined_up_link journal)
     (is_link_up_in_journal journal s k) (joined_up journal s k) setting.net.links
 
@@ -86,7 +86,7 @@ uncalled journal q row one two true = refl
 uncalled journal q row one two false = refl
 
 untold : (journal : List Item) (one two : ℕ) (up : Bool)
-    → asks_controller journal (link_step up one two) ≡ false
+    → control_asks_controller journal (link_step up one two) ≡ false
 untold journal one two true = refl
 untold journal one two false = refl
 
@@ -151,7 +151,7 @@ module _ {setting : Setting} {journal : List Item} {state : RefinedNetworkState}
   -- the mask of one end has the other one where the link is up
   end_is : has (get_or state.links one 0) two ≡ is_link_up_in_journal journal one two
   end_is = ap (λ mask. has mask two) (refines.up one ends_below.0)
-      ∙ has_mask (are_linked (refined_up_links setting journal) one) two ends_below.1
+      ∙ has_mask (are_linked_in_net (refined_up_links setting journal) one) two ends_below.1
       ∙ up_linked setting journal one two ∙ ap (λ b. b && is_link_up_in_journal journal one two) linked
 
   -- nothing happens where it is so already
@@ -196,18 +196,18 @@ module _ {setting : Setting} {journal : List Item} {state : RefinedNetworkState}
     }
 
     -- the switches that the link joins have one
-    joined : (s k : ℕ) → joins s k link ≡ true → are_linked setting.net.links s k ≡ true
+    joined : (s k : ℕ) → joins s k link ≡ true → are_linked_in_net setting.net.links s k ≡ true
     joined s k is = by_order (one == s && two == k) refl is where
       by_order : (b : Bool) → (one == s && two == k) ≡ b
-          → (b || (one == k && two == s)) ≡ true → are_linked setting.net.links s k ≡ true
+          → (b || (one == k && two == s)) ≡ true → are_linked_in_net setting.net.links s k ≡ true
       by_order true e is = let parts = and_parts (one == s) (two == k) e in
-          ap (λ x. are_linked setting.net.links x k) (sym (eqb-true one s parts.0))
-          ∙ ap (λ x. are_linked setting.net.links one x) (sym (eqb-true two k parts.1))
+          ap (λ x. are_linked_in_net setting.net.links x k) (sym (eqb-true one s parts.0))
+          ∙ ap (λ x. are_linked_in_net setting.net.links one x) (sym (eqb-true two k parts.1))
           ∙ linked
       by_order false e is = let parts = and_parts (one == k) (two == s) is in
           link_laws.both_ways setting.net.links s k
-          ∙ ap (λ x. are_linked setting.net.links x s) (sym (eqb-true one k parts.0))
-          ∙ ap (λ x. are_linked setting.net.links one x) (sym (eqb-true two s parts.1))
+          ∙ ap (λ x. are_linked_in_net setting.net.links x s) (sym (eqb-true one k parts.0))
+          ∙ ap (λ x. are_linked_in_net setting.net.links one x) (sym (eqb-true two s parts.1))
           ∙ linked
 
     by_end : (j a was : Bool) → (j ≡ true → a ≡ true)
@@ -217,13 +217,13 @@ module _ {setting : Setting} {journal : List Item} {state : RefinedNetworkState}
     by_end false a was so = refl
 
     up_now : (s k : ℕ) → s < 64 → k < 64
-        → has (get_or links s 0) k ≡ are_linked (refined_up_links setting now) s k
+        → has (get_or links s 0) k ≡ are_linked_in_net (refined_up_links setting now) s k
     up_now s k small below = sets s k small below
         ∙ ap (λ b. if joins s k link then up else b) (ap (λ mask. has mask k) (refines.up s small)
-        ∙ has_mask (are_linked (refined_up_links setting journal) s) k below
+        ∙ has_mask (are_linked_in_net (refined_up_links setting journal) s) k below
         ∙ up_linked setting journal s k) ∙ by_end (joins s k link)
-        (are_linked setting.net.links s k) (is_link_up_in_journal journal s k) (joined s k)
-        ∙ ap (λ b. are_linked setting.net.links s k && b)
+        (are_linked_in_net setting.net.links s k) (is_link_up_in_journal journal s k) (joined s k)
+        ∙ ap (λ b. are_linked_in_net setting.net.links s k && b)
         (sym (up_behind journal row step one two s k up)) ∙ sym (up_linked setting now s k)
 
     changes : LinksChange setting journal row step told state state.switches links state.posts
@@ -235,7 +235,7 @@ module _ {setting : Setting} {journal : List Item} {state : RefinedNetworkState}
       as_many = refl;
       number = refl;
       bag = bag_on journal (Item.Row row step ∷ told) state.posts (refl, (refl, tt)) refines.bag;
-      up = λ q below. mask_of_is (get_or links q 0) (are_linked (refined_up_links setting now) q) (fit q)
+      up = λ q below. mask_of_is (get_or links q 0) (are_linked_in_net (refined_up_links setting now) q) (fit q)
           (λ k small. up_now q k below small);
       relinks = λ q d below. links_refine.relinked setting q journal row step told (leaves q)
           ∙ ap (refined_relinked_switch setting journal now q) (sym (refines.each q d below));

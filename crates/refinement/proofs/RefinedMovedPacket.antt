@@ -2,10 +2,10 @@
 use Rattle.std.proofs.Common.{[], ◌++◌, ◌+◌, ◌∙◌, ◌∷◌, ◌≡◌, Bool, IsTrue, List, None, Option, Some, ap, false, nat_eq, option_map, refl, rules, slice_get, subst, sym, true, unwrap_or, ℕ}
 use Rattle.base.proofs.Exports.{list_any}
 use Rattle.failover.specs.Exports.{route_of, with_link}
-use Rattle.update_machine.specs.Exports.{Cause, Exit, JournalItemsHaveCauses, Header, Hop, Item, Leg, Ports, Seek, Setting, machine_arrive_items, journal_stuck_cause_at, journal_found_down, go_on, journal_items_then, journal_leg_of, move_items, near, journal_next_message, next_switch, no_switch, owner, journal_reroute_by, reroute_items, journal_packet_route, journal_route_from, serves, journal_stays_on_way, stuck_on_leg_items, targets_of}
+use Rattle.update_machine.specs.Exports.{Cause, Exit, JournalItemsHaveCauses, Header, Hop, Item, Leg, Ports, Seek, Setting, machine_arrive_items, journal_stuck_cause_at, journal_found_down, go_on, journal_items_then, journal_leg_of, machine_move_items, near, journal_next_message, journal_next_switch, no_switch, owner, journal_reroute_by, machine_reroute_items, journal_packet_route, journal_route_from, serves, journal_hop_stays_on_way, machine_stuck_on_leg_item, journal_leg_targets}
 use Rattle.base.specs.Exports.{has}
-use Rattle.net_file.specs.Exports.{ArePortOwners}
-use Rattle.switch_core.specs.Exports.{SwitchArrival, Moved, SwitchValue, around, switch_arrival_on_leg, switch_call_counted, switch_stuck_cause, switch_hop_answer, switch_hopped_to, switch_found_link_down as found_by, switch_move_answer, switch_moved_along_route, received, rerouted_here}
+use Rattle.net_file.specs.Exports.{AreNetPortOwners}
+use Rattle.switch_core.specs.Exports.{SwitchArrival, Moved, SwitchValue, around, switch_arrival_on_leg, switch_call_counted, switch_stuck_cause, switch_hop_answer, switch_hopped_to, switch_found_link_down as found_by, switch_move_answer, switch_moved_along_route, received, switch_rerouted_here}
 use Rattle.switch_core.specs.declared.tunnel_calls.HopEnd.{HopEnd}
 use Rattle.switch_core.specs.declared.tunnel_calls.Packet.{Packet}
 use Rattle.switch_table.specs.Exports.{Hosted}
@@ -16,7 +16,7 @@ use Rattle.control_laws.proofs.Exports.{own}
 use Rattle.packet_laws.specs.Exports.{IsPacketOnLeg, PacketFacts, packet_stage_of, packet_facts_of}
 use Rattle.packet_laws.proofs.Exports.{IsWay, Knows, facts_grow, found_in, knows, last_here, next_in, one_target, route_way}
 use Rattle.world_log.specs.Exports.{log_arrival, log_arrival_items, log_arrived_items, log_ended_flight, log_ended_items, log_hop_flight, log_hop_written, log_turned_items}
-use Rattle.travelling.specs.Travelling.{Flight, standing_at, Standing}
+use Rattle.travelling.specs.Travelling.{Flight, traveller_standing_at, Standing}
 use Rattle.refinement.proofs.RefinedArrivals.{IsAtEnd, arrival_goes, arrive_comes, arrive_law, at_end_on, end_of_route, ours_of}
 use Rattle.refinement.proofs.RefinedOnwardPackets.{AreOfFacts}
 use Rattle.refinement.proofs.RefinedSteps.{before_of}
@@ -39,7 +39,7 @@ pub record Hops (setting : Setting) (journal : List Item) (i s : ℕ) (header : 
     (ingress : ℕ) (leg : Leg) (w : SwitchValue) (mask : ℕ) (ports : Ports) : Type 0 where
   pub stands : Stands setting journal i s header ingress leg
   pub sees : Sees setting journal s w mask
-  pub owners : ArePortOwners setting.net.switches ports
+  pub owners : AreNetPortOwners setting.net.switches ports
 
 -- within the step the switch is asked as before it
 pub record StaysAsked (setting : Setting) (journal : List Item) (s : ℕ) (header : Header)
@@ -48,7 +48,7 @@ pub record StaysAsked (setting : Setting) (journal : List Item) (s : ℕ) (heade
   pub serving : IsTrue (serves now s)
   pub sees : Sees setting now s w mask
   pub numbered : journal_next_message now ≡ journal_next_message journal
-  pub leads : (leg : Leg) → targets_of setting now leg ≡ targets_of setting journal leg
+  pub leads : (leg : Leg) → journal_leg_targets setting now leg ≡ journal_leg_targets setting journal leg
   pub at_end : IsAtEnd setting journal s header leg → IsAtEnd setting now s header leg
 
 -- and the packet has these facts there, on its leg
@@ -78,7 +78,7 @@ module _ (setting : Setting) (journal : List Item) (row i s : ℕ) (header : Hea
   facts = packet_facts_of journal i
 
   abbrev targets : Targets
-  targets = targets_of setting journal
+  targets = journal_leg_targets setting journal
 
   abbrev down : ℕ → List ℕ
   down two = with_link facts.found s two
@@ -198,7 +198,7 @@ module _ (setting : Setting) (journal : List Item) (row i s : ℕ) (header : Hea
       (subst (AreOfFacts t.version t.rule) (sym are.same) (of_now now ws found are))
       (ap (λ ws. ws.leg) are.same ∙ are.takes) end
       ∙ ap (λ n. log_arrived_items n (at_switch s (packet found)) u.version u.rule what) stays.numbered
-      ∙ ap (λ s. log_arrived_items number (standing_at s u) u.version u.rule what) (sym hops.sees.number)
+      ∙ ap (λ s. log_arrived_items number (traveller_standing_at s u) u.version u.rule what) (sym hops.sees.number)
 
   -- and so the packet goes on
   arrival_goes_on : (now : List Item) (ws : PacketFacts) (route : List ℕ) (k : ℕ)
@@ -211,22 +211,22 @@ module _ (setting : Setting) (journal : List Item) (row i s : ℕ) (header : Hea
       let u : Flight = at_place route k found in
       let what : SwitchArrival = switch_arrival_on_leg (switch_call_counted w) (around mask ports) (packet found) leg in
       let at : Standing = at_switch s (packet found) in
-      arrival_goes (targets_of setting now) now number at u what ws
+      arrival_goes (journal_leg_targets setting now) now number at u what ws
       (record { on = are.on; header = are.entered; came = are.came; found = are.marked })
       (of_now now ws found are)
       (arrive_comes setting now s (switch_call_counted w) mask ports (packet found)
       (asked_now now ws found stays are) leg)
-      ∙ by_targets (targets_of setting now) targets i
+      ∙ by_targets (journal_leg_targets setting now) targets i
       (facts_along i now (log_arrived_items number at u.version u.rule what) ws) (stays.leads _)
       ∙ ap (λ s. flight_by targets i
-      (facts_along i now (log_arrived_items number (standing_at s u) u.version u.rule what) ws))
+      (facts_along i now (log_arrived_items number (traveller_standing_at s u) u.version u.rule what) ws))
       (sym hops.sees.number)
 
   arrival_stays : (route : List ℕ) (k : ℕ) (found : List ℕ)
-      → journal_stays_on_way (log_arrival_items number (switch_call_counted w) mask ports (at_place route k found)) ≡ false
+      → journal_hop_stays_on_way (log_arrival_items number (switch_call_counted w) mask ports (at_place route k found)) ≡ false
   unfolding log_arrival_items
   arrival_stays route k found = let u : Flight = at_place route k found in
-      arrived_still number (standing_at (switch_call_counted w).number u) u
+      arrived_still number (traveller_standing_at (switch_call_counted w).number u) u
       (received (switch_call_counted w) (around mask ports) u.tunnel)
 
   -- ---- what a hop comes to
@@ -240,25 +240,25 @@ module _ (setting : Setting) (journal : List Item) (row i s : ℕ) (header : Hea
 
   -- what it writes, where the packet is then, and how many calls it is
   abbrev Outcome : ℕ → Option ℕ → Moved → Type 0
-  Outcome at found m = (move_items setting i s begun ≡ written at found m)
+  Outcome at found m = (machine_move_items setting i s begun ≡ written at found m)
       × (log_ended_flight (switch_call_counted w) mask ports (moved_to m) m.end
       ≡ flight_by targets i (facts_along i begun (written at found m) facts))
-      × (journal_stays_on_way (written at found m) ≡ stays_by m.end)
+      × (journal_hop_stays_on_way (written at found m) ≡ stays_by m.end)
 
   abbrev move_by : Option ℕ → List Item
   move_by o = elim o [
     | None ↦ machine_arrive_items setting i s begun
     | Some next ↦ elim (has (near setting begun s) next) [
       | true ↦ Item.Hopped i next ∷ []
-      | false ↦ journal_items_then (Item.FoundDown i s next ∷ []) (reroute_items setting i s) begun
+      | false ↦ journal_items_then (Item.FoundDown i s next ∷ []) (machine_reroute_items setting i s) begun
     ]
   ]
 
-  next_is : next_switch begun i ≡ next t.tunnel
+  next_is : journal_next_switch begun i ≡ next t.tunnel
   next_is = cc (next_in begun i, facts_begun)
 
-  moves_are : (o : Option ℕ) → next t.tunnel ≡ o → move_items setting i s begun ≡ move_by o
-  unfolding move_items
+  moves_are : (o : Option ℕ) → next t.tunnel ≡ o → machine_move_items setting i s begun ≡ move_by o
+  unfolding machine_move_items
   moves_are o is = ap move_by (next_is ∙ is)
 
   links_are : (two : ℕ) (b : Bool) → has mask two ≡ b → has (near setting begun s) two ≡ b
@@ -283,7 +283,7 @@ module _ (setting : Setting) (journal : List Item) (row i s : ℕ) (header : Hea
   moves two goes usable = (
     moves_are (Some two) goes ∙ ap (λ b. elim b [
       | true ↦ Item.Hopped i two ∷ []
-      | false ↦ journal_items_then (Item.FoundDown i s two ∷ []) (reroute_items setting i s) begun
+      | false ↦ journal_items_then (Item.FoundDown i s two ∷ []) (machine_reroute_items setting i s) begun
     ]) (links_are two true usable),
     search (rules, own i),
     refl,
@@ -307,7 +307,7 @@ module _ (setting : Setting) (journal : List Item) (row i s : ℕ) (header : Hea
 
   blocked_is : (two : ℕ) → next t.tunnel ≡ Some two → has mask two ≡ false
       → switch_hop_answer w mask t.tunnel ≡ switch_moved_along_route w mask (tunnel_down two) (route_down two leg)
-  unfolding switch_hop_answer rerouted_here
+  unfolding switch_hop_answer switch_rerouted_here
   blocked_is two goes off =
       let along : ℕ → ℕ → Moved = λ n k. switch_moved_along_route w mask
       (tunnel_on targets i header ingress leg facts.route facts.hops (with_link facts.found n two))
@@ -321,28 +321,28 @@ module _ (setting : Setting) (journal : List Item) (row i s : ℕ) (header : Hea
 
   route_met : (two : ℕ) → journal_packet_route setting (met two) i s leg ≡ route_down two leg
   route_met two =
-      ap (journal_route_from setting (met two) s (targets_of setting (met two) leg)) (found_met two)
+      ap (journal_route_from setting (met two) s (journal_leg_targets setting (met two) leg)) (found_met two)
       ∙ ap (λ to. journal_route_from setting (met two) s to (down two)) ((stays_met two).leads leg)
       ∙ sym ((stays_met two).sees.route (targets leg) (down two))
 
   abbrev reroute_by_route : ℕ → Option (List ℕ) → List Item
   reroute_by_route two o = elim o [
-    | None ↦ stuck_on_leg_items setting (met two) i s leg ∷ []
+    | None ↦ machine_stuck_on_leg_item setting (met two) i s leg ∷ []
     | Some route ↦ journal_items_then (Item.Rerouted i route ∷ []) (go_on setting i s) (met two)
   ]
 
   reroutes : (two : ℕ) (o : Option (List ℕ)) → route_down two leg ≡ o
-      → reroute_items setting i s (met two) ≡ reroute_by_route two o
-  unfolding reroute_items
+      → machine_reroute_items setting i s (met two) ≡ reroute_by_route two o
+  unfolding machine_reroute_items
   reroutes two o is =
       cc (leg_in_facts (met two) i, met_is two, hops.stands.takes, route_met two, is)
 
   blocked_items : (two : ℕ) (o : Option (List ℕ)) → next t.tunnel ≡ Some two
-      → has mask two ≡ false → route_down two leg ≡ o → move_items setting i s begun
+      → has mask two ≡ false → route_down two leg ≡ o → machine_move_items setting i s begun
       ≡ Item.FoundDown i s two ∷ reroute_by_route two o
   blocked_items two o goes off is = moves_are (Some two) goes ∙ ap (λ b. elim b [
     | true ↦ Item.Hopped i two ∷ []
-    | false ↦ journal_items_then (Item.FoundDown i s two ∷ []) (reroute_items setting i s) begun
+    | false ↦ journal_items_then (Item.FoundDown i s two ∷ []) (machine_reroute_items setting i s) begun
   ]) (links_are two false off)
       ∙ ap (λ more. Item.FoundDown i s two ∷ more) (reroutes two o is)
 
@@ -364,7 +364,7 @@ module _ (setting : Setting) (journal : List Item) (row i s : ℕ) (header : Hea
     refl,
   )
 
-  next_turned : (two : ℕ) (route : List ℕ) → next_switch (turned two route) i ≡ slice_get route 1
+  next_turned : (two : ℕ) (route : List ℕ) → journal_next_switch (turned two route) i ≡ slice_get route 1
   next_turned two route = cc (next_in (turned two route) i, turned_is two route)
 
   abbrev go_by : ℕ → List ℕ → Option ℕ → List Item
@@ -481,7 +481,7 @@ module _ (setting : Setting) (journal : List Item) (row i s : ℕ) (header : Hea
     by_next (Some two) goes = by_link two (has mask two) goes refl
 
   -- where it arrives its switch is asked once more
-  pub arrives_at_end : (switch_hop_answer w mask (on_leg (targets_of setting journal) i
+  pub arrives_at_end : (switch_hop_answer w mask (on_leg (journal_leg_targets setting journal) i
       (packet_facts_of journal i)
       header ingress leg).tunnel).end ≡ HopEnd.Arrive → IsAtEnd setting journal s header leg
   arrives_at_end arrive = by_next (next t.tunnel) refl where
@@ -512,22 +512,22 @@ module _ (setting : Setting) (journal : List Item) (row i s : ℕ) (header : Hea
     by_next (Some two) goes = by_link two (has mask two) goes refl
 
   -- what it writes
-  pub hop_law : move_items setting i s (journal ++ Item.Row row (Hop i) ∷ [])
+  pub hop_law : machine_move_items setting i s (journal ++ Item.Row row (Hop i) ∷ [])
       ≡ log_hop_written (journal_next_message journal) w mask ports
-      (on_leg (targets_of setting journal) i (packet_facts_of journal i) header ingress leg)
+      (on_leg (journal_leg_targets setting journal) i (packet_facts_of journal i) header ingress leg)
   hop_law = outcome.0
 
   -- where the packet is then
   pub hop_goes : log_hop_flight w mask ports
-      (on_leg (targets_of setting journal) i (packet_facts_of journal i) header ingress leg)
-      ≡ flight_by (targets_of setting journal) i (facts_along i (journal ++ Item.Row row (Hop i)
-      ∷ []) (log_hop_written (journal_next_message journal) w mask ports (on_leg (targets_of setting journal) i
+      (on_leg (journal_leg_targets setting journal) i (packet_facts_of journal i) header ingress leg)
+      ≡ flight_by (journal_leg_targets setting journal) i (facts_along i (journal ++ Item.Row row (Hop i)
+      ∷ []) (log_hop_written (journal_next_message journal) w mask ports (on_leg (journal_leg_targets setting journal) i
       (packet_facts_of journal i) header ingress leg)) (packet_facts_of journal i))
   hop_goes = outcome.1
 
   -- and whether its switch is called once or twice
-  pub hop_stays : journal_stays_on_way (log_hop_written (journal_next_message journal) w mask ports
-      (on_leg (targets_of setting journal) i (packet_facts_of journal i) header ingress leg))
-      ≡ stays_by (switch_hop_answer w mask (on_leg (targets_of setting journal) i (packet_facts_of journal i)
+  pub hop_stays : journal_hop_stays_on_way (log_hop_written (journal_next_message journal) w mask ports
+      (on_leg (journal_leg_targets setting journal) i (packet_facts_of journal i) header ingress leg))
+      ≡ stays_by (switch_hop_answer w mask (on_leg (journal_leg_targets setting journal) i (packet_facts_of journal i)
       header ingress leg).tunnel).end
   hop_stays = outcome.2

@@ -2,9 +2,9 @@
 use Rattle.std.proofs.Common.{[], ◌++◌, ◌<◌, ◌==◌, ◌∙◌, ◌∷◌, ◌≡◌, Bool, List, None, Option, Some, ap, eq-eqb, false, if◌then◌else◌, length, ok_or, option_map, refl, subst, sym, true, unwrap_or, ℕ}
 use Rattle.base.proofs.Exports.{⊤}
 use Rattle.failover.specs.Exports.{no_links, route_of}
-use Rattle.net_file.specs.Exports.{ArePortOwners, net_port_owner, port_owner}
-use Rattle.update_machine.specs.Exports.{Action, Cause, Exit, Found, Header, Item, Partition, Ports, Rule, Seek, Setting, Step, lookup_at, lookup_items, journal_next_message, no_switch, owner, packet_items, journal_retired_mark, machine_sent_items_from, serves, journal_stamp_of, journal_tables_at, targets_of}
-use Rattle.switch_core.specs.Exports.{Answer, SwitchValue, admitted, switch_answer_by_found, around, by_entry, by_rule, switch_stuck_cause, switch_answer_by_rule, exit_by_switch, incoming_packet, leave_by_switch, looked_up, next_of, switch_part_numbered, switch_own_rule_in, switch_seek_by, serves as serves_now, set_out, stamp_tables}
+use Rattle.net_file.specs.Exports.{AreNetPortOwners, net_port_owner, owner_in_net_ports}
+use Rattle.update_machine.specs.Exports.{Action, Cause, Exit, Found, Header, Item, Partition, Ports, Rule, Seek, Setting, Step, lookup_at, machine_lookup_items, journal_next_message, no_switch, owner, machine_packet_items, journal_retired_mark, machine_sent_items_from, serves, journal_stamp_of, journal_tables_at, journal_leg_targets}
+use Rattle.switch_core.specs.Exports.{Answer, SwitchValue, admitted, switch_answer_by_found, around, by_entry, by_rule, switch_stuck_cause, switch_answer_by_rule, switch_exit_by_tunnel, switch_incoming_packet, switch_leave_by_port, looked_up, next_of, switch_core_partition_numbered, switch_core_rule_in, switch_seek_by, serves as serves_now, set_out, stamp_tables}
 use Rattle.switch_core.specs.Answers as answer
 use Rattle.switch_core.specs.declared.deciding.Decision.{Decision}
 use Rattle.switch_core.specs.declared.tunnel_calls.Next.TheVariants.{Out}
@@ -27,8 +27,8 @@ use Rattle.refinement.proofs.RefinedSteps.{Known}
 exit_goes : (setting : Setting) (journal : List Item) (s : SwitchValue) (near : ℕ) (packet : Packet)
     (at : ℕ) (port its : ℕ) (decision : Decision) (cause : Cause) (route : Option (List ℕ))
     → decision.action ≡ Action.Out port
-    → owner setting port ≡ its → GoesOnward (targets_of setting journal) (at_switch at packet)
-    packet.ingress decision (exit_by_switch (ok_or (option_map (λ way. tunnel_begun packet.number
+    → owner setting port ≡ its → GoesOnward (journal_leg_targets setting journal) (at_switch at packet)
+    packet.ingress decision (switch_exit_by_tunnel (ok_or (option_map (λ way. tunnel_begun packet.number
     packet.header packet.ingress (Exit port) (its ∷ []) way packet.down) route) cause))
 exit_goes setting journal s near packet at port its decision cause None acts owns = tt
 exit_goes setting journal s near packet at port its decision cause (Some route) acts owns = (
@@ -40,31 +40,31 @@ exit_goes setting journal s near packet at port its decision cause (Some route) 
 leave_goes : (setting : Setting) (journal : List Item) (s : SwitchValue) (near : ℕ) (packet : Packet) (at : ℕ) (port : ℕ)
     (decision : Decision) (its : Option ℕ)
     → decision.action ≡ Action.Out port → net_port_owner setting.net.switches port ≡ its
-    → GoesOnward (targets_of setting journal) (at_switch at packet) packet.ingress decision
-    (leave_by_switch s near packet port its)
-unfolding leave_by_switch set_out
+    → GoesOnward (journal_leg_targets setting journal) (at_switch at packet) packet.ingress decision
+    (switch_leave_by_port s near packet port its)
+unfolding switch_leave_by_port set_out
 leave_goes setting journal s near packet at port decision None acts owns = tt
 leave_goes setting journal s near packet at port decision (Some its) acts owns =
     by_place (its == s.number) (exit_goes setting journal s near packet at port its decision
     (switch_stuck_cause s near packet.down (Exit port) (its ∷ [])) (route_of s.database s.number
     (its ∷ []) near packet.down) acts (ap (λ o. unwrap_or o no_switch) owns))
   where
-    by_place : (here : Bool) → GoesOnward (targets_of setting journal) (at_switch at packet)
-        packet.ingress decision (exit_by_switch (set_out s near packet (Exit port) (its ∷ [])))
-        → GoesOnward (targets_of setting journal) (at_switch at packet) packet.ingress decision
-        (if here then Out port else exit_by_switch (set_out s near packet (Exit port) (its ∷ [])))
+    by_place : (here : Bool) → GoesOnward (journal_leg_targets setting journal) (at_switch at packet)
+        packet.ingress decision (switch_exit_by_tunnel (set_out s near packet (Exit port) (its ∷ [])))
+        → GoesOnward (journal_leg_targets setting journal) (at_switch at packet) packet.ingress decision
+        (if here then Out port else switch_exit_by_tunnel (set_out s near packet (Exit port) (its ∷ [])))
     by_place true goes = tt
     by_place false goes = goes
 
 pub next_goes : (setting : Setting) (journal : List Item) (s : SwitchValue) (near : ℕ) (ports : Ports) (packet : Packet)
-    (at : ℕ) (decision : Decision) (what : Action) → ArePortOwners setting.net.switches ports
+    (at : ℕ) (decision : Decision) (what : Action) → AreNetPortOwners setting.net.switches ports
     → decision.action ≡ what
-    → GoesOnward (targets_of setting journal) (at_switch at packet) packet.ingress decision
+    → GoesOnward (journal_leg_targets setting journal) (at_switch at packet) packet.ingress decision
     (next_of s (around near ports) packet what)
 unfolding next_of
 next_goes setting journal s near ports packet at decision Action.Drop owners acts = tt
 next_goes setting journal s near ports packet at decision (Action.Out port) owners acts =
-    leave_goes setting journal s near packet at port decision (port_owner ports port) acts
+    leave_goes setting journal s near packet at port decision (owner_in_net_ports ports port) acts
     (sym (owners port))
 
 -- ---- by a lookup
@@ -98,19 +98,19 @@ seek_goes targets packet s version partition to cause (Some route) is = record {
 
 -- by a rule of a partition of the switch's own
 pub ruled_goes : (setting : Setting) (journal : List Item) (s version place : ℕ) (w : SwitchValue)
-    (mask : ℕ) (ports : Ports) (packet : Packet) (part : Partition) → ArePortOwners setting.net.switches
-    ports → IsComing (targets_of setting journal) (at_switch s packet)
+    (mask : ℕ) (ports : Ports) (packet : Packet) (part : Partition) → AreNetPortOwners setting.net.switches
+    ports → IsComing (journal_leg_targets setting journal) (at_switch s packet)
     (switch_answer_by_rule w (around mask ports) packet version part place)
 unfolding switch_answer_by_rule
 ruled_goes setting journal s version place w mask ports packet part owners =
-    let rule : Rule = switch_own_rule_in part place in
+    let rule : Rule = switch_core_rule_in part place in
     next_goes setting journal w mask ports packet s (by_rule w.number version part.number rule)
     rule.action owners refl
 
 module _ (setting : Setting) (journal : List Item) (s : ℕ) (w : SwitchValue) (mask : ℕ)
     (ports : Ports) (packet : Packet) (asked : IsAsked setting journal s w mask ports packet) where
   abbrev leads : Targets
-  leads = targets_of setting journal
+  leads = journal_leg_targets setting journal
 
   found_goes : (what : Found) → lookup_at setting journal s packet.header ≡ what
       → IsComing leads (at_switch s packet) (switch_answer_by_found w (around mask ports) packet
@@ -120,7 +120,7 @@ module _ (setting : Setting) (journal : List Item) (s : ℕ) (w : SwitchValue) (
       next_goes setting journal w mask ports packet s (by_entry entry) entry.action asked.owners refl
   found_goes (Found.Authority partition place) answer =
       ruled_goes setting journal s (journal_stamp_of journal s) place w mask ports packet
-      (switch_part_numbered (journal_tables_at setting journal (journal_stamp_of journal s) s) partition) asked.owners
+      (switch_core_partition_numbered (journal_tables_at setting journal (journal_stamp_of journal s) s) partition) asked.owners
   found_goes (Found.Redirect partition to) answer =
       let version : ℕ = journal_stamp_of journal s in
       let own = redirect_found setting journal s packet.header partition to
@@ -131,7 +131,7 @@ module _ (setting : Setting) (journal : List Item) (s : ℕ) (w : SwitchValue) (
       (targets_are setting journal version partition to own.part.hosted own.part.finds.at
       own.part.number own.own)
 
-  pub looked_goes : IsComing (targets_of setting journal) (at_switch s packet)
+  pub looked_goes : IsComing (journal_leg_targets setting journal) (at_switch s packet)
       (looked_up w (around mask ports) packet)
   unfolding looked_up
   looked_goes = let what : Found = lookup_at setting journal s packet.header in
@@ -230,7 +230,7 @@ pub record ComesTo (setting : Setting) (journal : List Item) (i s : ℕ) (header
   pub knows : Known setting journal
   pub sees : Sees setting journal s w mask
   pub there : s < length setting.net.switches
-  pub owners : ArePortOwners setting.net.switches ports
+  pub owners : AreNetPortOwners setting.net.switches ports
   pub sound : IsHeader header
   pub unmarked : (packet_facts_of journal i).found ≡ no_links
 
@@ -246,7 +246,7 @@ module _ (setting : Setting) (journal : List Item) (row i s : ℕ) (taken : Step
   abbrev packet : Packet
   packet = coming i header s
 
-  same_packet : incoming_packet w i header ≡ packet
+  same_packet : switch_incoming_packet w i header ≡ packet
   same_packet = ap (coming i header) comes.sees.number
 
   serving_begun : serves begun s ≡ serves journal s
@@ -275,9 +275,9 @@ module _ (setting : Setting) (journal : List Item) (row i s : ℕ) (taken : Step
       ∙ (messages_keep journal (Item.Row row taken ∷ []) (refl, tt)).next
 
   -- what its switch answers is what the journal's definitions say
-  pub come_law : packet_items setting i s header (journal ++ Item.Row row taken ∷ [])
+  pub come_law : machine_packet_items setting i s header (journal ++ Item.Row row taken ∷ [])
       ≡ log_entered_items (journal_next_message journal) (log_coming_in i header s) (entry w mask ports i header)
-  unfolding packet_items admitted
+  unfolding machine_packet_items admitted
   come_law = by_serving (serves journal s) refl where
     answer : Bool → Option Answer
     answer b = if b then Some (looked_up w (around mask ports) packet) else None
@@ -285,12 +285,12 @@ module _ (setting : Setting) (journal : List Item) (row i s : ℕ) (taken : Step
     items : Bool → List Item
     items b = elim b [
       | false ↦ Item.Closed i s ∷ []
-      | true ↦ Item.Entered i s header ∷ lookup_items setting i s full
+      | true ↦ Item.Entered i s header ∷ machine_lookup_items setting i s full
     ]
 
     by_serving : (b : Bool) → serves journal s ≡ b → items (serves begun s)
         ≡ log_entered_items (journal_next_message journal) (log_coming_in i header s) (if serves_now w
-        then Some (looked_up w (around mask ports) (incoming_packet w i header)) else None)
+        then Some (looked_up w (around mask ports) (switch_incoming_packet w i header)) else None)
     by_serving false off = cc (serving_begun, off, comes.sees.serving)
     by_serving true on = ap items (serving_begun ∙ on) ∙ ap (λ more. Item.Entered i s header
         ∷ more) (looked_law setting full s w mask ports packet (asked on) ∙ ap (λ n. log_answer_items
@@ -298,17 +298,17 @@ module _ (setting : Setting) (journal : List Item) (row i s : ℕ) (taken : Step
         ∙ ap (λ (p : Packet). log_entered_items (journal_next_message journal) (log_coming_in i header s)
         (Some (looked_up w (around mask ports) p))) (sym same_packet)
         ∙ ap (λ b. log_entered_items (journal_next_message journal) (log_coming_in i header s)
-        (if b then Some (looked_up w (around mask ports) (incoming_packet w i header)) else None))
+        (if b then Some (looked_up w (around mask ports) (switch_incoming_packet w i header)) else None))
         (sym (comes.sees.serving ∙ on))
 
   -- and it goes on by it
-  pub come_goes : GoesIn (targets_of setting (looking journal row taken i s header))
+  pub come_goes : GoesIn (journal_leg_targets setting (looking journal row taken i s header))
       (log_coming_in i header s) (entry w mask ports i header)
   unfolding admitted
   come_goes = by_serving (serves journal s) refl where
     by_serving : (b : Bool) → serves journal s ≡ b
-        → GoesIn (targets_of setting full) (log_coming_in i header s) (if serves_now w
-        then Some (looked_up w (around mask ports) (incoming_packet w i header)) else None)
+        → GoesIn (journal_leg_targets setting full) (log_coming_in i header s) (if serves_now w
+        then Some (looked_up w (around mask ports) (switch_incoming_packet w i header)) else None)
     by_serving false off = rw (comes.sees.serving ∙ off) tt
     by_serving true on = rw (comes.sees.serving ∙ on) (rw same_packet
         (refl, looked_goes setting full s w mask ports packet (asked on)))

@@ -2,7 +2,7 @@
 -- the parts are behind it.
 use Rattle.std.proofs.Common.{[], ◌++◌, ◌+◌, ◌-◌, ◌<◌, ◌==◌, ◌^◌, ◌∙◌, ◌∷◌, ◌≡◌, All, List, Some, ap, append_assoc, false, get_or, length, length-set, refl, set, subst, sym, ℕ}
 use Rattle.base.proofs.Exports.{option_map_or}
-use Rattle.message_bag.specs.Exports.{IsMessageOf, Post, posts_with_delivered}
+use Rattle.message_bag.specs.Exports.{IsBagMessageOf, Post, posts_with_delivered}
 use Rattle.update_machine.specs.Exports.{Deliver, Item, LinkRow, Message, Place, Setting, is_link_up_in_journal, is_to_controller, is_journal_receiver_switch, journal_link_changes, near, piece, machine_sent_items_from}
 use Rattle.net_file.specs.Exports.{links_of}
 use Rattle.switch_core.specs.Exports.{SwitchValue, switch_next_advert, switch_opening_stamp, switch_with_message}
@@ -26,7 +26,7 @@ same_up journal row n s stamp link = search (last_given_append, append_assoc)
 module _ {setting : Setting} {journal : List Item} {state : RefinedNetworkState}
     (refines : RefineJournal setting journal state) (row n s stamp : ℕ) (message : Message)
     (own changed : SwitchValue) (may : IsStep setting.net (length setting.files) (Deliver n))
-    (there : IsMessageOf state.posts n message) (to : message.to ≡ Place.Switch s)
+    (there : IsBagMessageOf state.posts n message) (to : message.to ≡ Place.Switch s)
     (within : s < length state.switches) (own_at : own ≡ get_or state.switches s own)
     (changed_is : changed ≡ switch_with_message own n message.body)
     (opens : switch_opening_stamp own message.body ≡ Some stamp) where

@@ -2,20 +2,20 @@
 use Rattle.std.proofs.Common.{[], ◌++◌, ◌+◌, ◌==◌, ◌∙◌, ◌∷◌, ◌≡◌, List, None, Option, Some, ap, append-nil, append_assoc, arith, cond, eq-eqb, false, if◌then◌else◌, map, option_map, refl, subst, sym, true, unwrap_or, ℕ}
 use Rattle.base.proofs.Exports.{⊤, sum_by-cons}
 use Rattle.message_bag.specs.Exports.{Post, new_post}
-use Rattle.update_machine.specs.Exports.{Action, Exit, Item, Leg, Message, NoneConcern, Ports, Seek, Setting, item_concerns_policies, count_of, is_packet, journal_retired_mark, machine_sent_items_from, journal_stays_on_way, takes_route, setting_targets_in, targets_of}
+use Rattle.update_machine.specs.Exports.{Action, Exit, Item, Leg, Message, NoneConcern, Ports, Seek, Setting, item_concerns_policies, count_of, is_packet, journal_retired_mark, machine_sent_items_from, journal_hop_stays_on_way, machine_takes_route, setting_targets_in, journal_leg_targets}
 use Rattle.switch_core.specs.Exports.{Answer, SwitchArrival, SwitchValue, around, switch_call_counted, switch_hop_answer, switch_found_link_down, received}
 use Rattle.switch_core.specs.Answers as answer
 use Rattle.switch_core.specs.declared.deciding.Decision.{Decision}
 use Rattle.switch_core.specs.declared.tunnel_calls.HopEnd.{HopEnd}
 use Rattle.switch_core.specs.declared.tunnel_calls.Next.{Next}
-use Rattle.tunnel.specs.Exports.{TunnelValue, next as next_switch, tunnel_begun}
+use Rattle.tunnel.specs.Exports.{TunnelValue, next as journal_next_switch, tunnel_begun}
 use Rattle.refinement.specs.Exports.{AreRefinedInStep, IsRefinedInStep, refined_flight_in, refined_flight_of}
 use Rattle.world_log.specs.Exports.{log_answer_items, log_answer_posts, log_arrival_items, log_arrival_posts, log_arrived_items, log_arrived_posts, log_cache_message, log_decided_flight, log_decided_items, log_end_item, log_ended_items, log_ended_posts, log_entered_items, log_entered_posts, log_hop_posts, log_hop_written, log_hopped_flight, log_message_list, log_turned_items}
-use Rattle.travelling.specs.Travelling.{Flight, Standing, standing_at}
+use Rattle.travelling.specs.Travelling.{Flight, Standing, traveller_standing_at}
 use Rattle.refinement.proofs.RefinedPostedFrames.{SendFrom, posts_in}
 use Rattle.five_tuple.specs.Exports.{header_of}
 use Rattle.update_machine.proofs.Exports.{policies_keep}
-use Rattle.packet_laws.specs.Exports.{PacketFacts, packet_facts_after, is_item_of_packet, packet_facts_of}
+use Rattle.packet_laws.specs.Exports.{PacketFacts, packet_facts_after, is_item_of_packet_facts, packet_facts_of}
 use Rattle.packet_laws.proofs.Exports.{facts_grow}
 
 -- ---- the items that a switch's answer to a packet writes: they begin no step and bring no other
@@ -35,7 +35,7 @@ later_packets (first ∷ items) later =
     ap (λ b. cond b 1 0) (no_packet first later.0) in
     omega (arith, sum, none, later_packets items later.1)
 
-pub route_later : (i : ℕ) (leg : Leg) (route : List ℕ) → IsRefinedInStep (takes_route i leg route)
+pub route_later : (i : ℕ) (leg : Leg) (route : List ℕ) → IsRefinedInStep (machine_takes_route i leg route)
 route_later i (Seek version partition) route = tt
 route_later i (Exit port) route = tt
 
@@ -69,26 +69,26 @@ arrived_later number at t (answer.Answered what) = answer_later number at what
 -- ---- none moves the packet on
 
 route_still : (i : ℕ) (leg : Leg) (route : List ℕ)
-    → journal_stays_on_way (takes_route i leg route ∷ []) ≡ false
+    → journal_hop_stays_on_way (machine_takes_route i leg route ∷ []) ≡ false
 route_still i (Seek version partition) route = refl
 route_still i (Exit port) route = refl
 
 end_still : (at : Standing) (decision : Decision) (onward : Next)
-    → journal_stays_on_way (log_end_item at decision onward ∷ []) ≡ false
+    → journal_hop_stays_on_way (log_end_item at decision onward ∷ []) ≡ false
 end_still at decision Next.Dropped = refl
 end_still at decision (Next.Out port) = refl
 end_still at decision (Next.Exit tunnel) = route_still at.packet tunnel.leg tunnel.route
 end_still at decision (Next.Stuck cause) = refl
 
 decided_still : (number : ℕ) (at : Standing) (decision : Decision) (message : Option Message)
-    (onward : Next) → journal_stays_on_way
+    (onward : Next) → journal_hop_stays_on_way
     (log_decided_items at decision (machine_sent_items_from number (log_message_list message)) onward) ≡ false
 unfolding machine_sent_items_from
 decided_still number at decision None onward = end_still at decision onward
 decided_still number at decision (Some message) onward = end_still at decision onward
 
 pub arrived_still : (number : ℕ) (at : Standing) (t : Flight) (what : SwitchArrival)
-    → journal_stays_on_way (log_arrived_items number at t.version t.rule what) ≡ false
+    → journal_hop_stays_on_way (log_arrived_items number at t.version t.rule what) ≡ false
 arrived_still number at t (answer.Out port) = refl
 arrived_still number at t (answer.Answered (answer.Decided decision cache onward)) =
     decided_still number at decision (log_cache_message at.ingress cache) onward
@@ -103,7 +103,7 @@ abbrev pub SendNone : ℕ → List Item → Type 0
 SendNone number items = SendFrom number items × (posts_in items ≡ [])
 
 route_sends : (number i : ℕ) (leg : Leg) (route : List ℕ)
-    → SendNone number (takes_route i leg route ∷ [])
+    → SendNone number (machine_takes_route i leg route ∷ [])
 route_sends number i (Seek version partition) route = (tt, refl)
 route_sends number i (Exit port) route = (tt, refl)
 
@@ -159,7 +159,7 @@ ended_sends : (number : ℕ) (switch : SwitchValue) (near : ℕ) (ports : Ports)
     (log_ended_posts switch near ports t end)
 unfolding log_arrival_items log_arrival_posts
 ended_sends number switch near ports t HopEnd.Arrive = arrived_sends number
-    (standing_at switch.number t) t (received switch (around near ports) t.tunnel)
+    (traveller_standing_at switch.number t) t (received switch (around near ports) t.tunnel)
 ended_sends number switch near ports t (HopEnd.Move other) = (tt, refl)
 ended_sends number switch near ports t (HopEnd.Stuck cause) = (tt, refl)
 
@@ -167,7 +167,7 @@ pub hop_sends : (number : ℕ) (switch : SwitchValue) (near : ℕ) (ports : Port
     → SendFrom number (log_hop_written number switch near ports t)
     × (posts_in (log_hop_written number switch near ports t) ≡ log_hop_posts switch near ports t)
 hop_sends number switch near ports t = turned_sends number t.tunnel.packet switch.number
-    (switch_found_link_down near (next_switch t.tunnel)) (switch_hop_answer switch near t.tunnel).end
+    (switch_found_link_down near (journal_next_switch t.tunnel)) (switch_hop_answer switch near t.tunnel).end
     (switch_hop_answer switch near t.tunnel).tunnel.route _ _ (ended_sends number (switch_call_counted switch)
     near ports (log_hopped_flight switch near t) (switch_hop_answer switch near t.tunnel).end)
 
@@ -177,7 +177,7 @@ hop_sends number switch near ports t = turned_sends number t.tunnel.packet switc
 abbrev pub facts_along : ℕ → List Item → List Item → PacketFacts → PacketFacts
 facts_along i before [] facts = facts
 facts_along i before (item ∷ items) facts = facts_along i (before ++ item ∷ []) items
-    (if is_item_of_packet i item then packet_facts_after (journal_retired_mark before) item facts else facts)
+    (if is_item_of_packet_facts i item then packet_facts_after (journal_retired_mark before) item facts else facts)
 
 pub facts_all : (i : ℕ) (before items : List Item)
     → packet_facts_of (before ++ items) i ≡ facts_along i before items (packet_facts_of before i)
@@ -196,7 +196,7 @@ Targets = Leg → List ℕ
 -- no policy, no other targets
 pub same_targets : (setting : Setting) (before items : List Item)
     → NoneConcern item_concerns_policies before items → (leg : Leg)
-    → targets_of setting (before ++ items) leg ≡ targets_of setting before leg
+    → journal_leg_targets setting (before ++ items) leg ≡ journal_leg_targets setting before leg
 same_targets setting before items none (Seek version partition) =
     ap (λ plan. setting_targets_in plan partition) ((policies_keep before items none).plan setting version)
 same_targets setting before items none (Exit port) = refl
@@ -222,7 +222,7 @@ flight_by targets i facts = if facts.travels then Some (record {
 }) else None
 
 pub flight_now : (setting : Setting) (journal : List Item) (i : ℕ) → refined_flight_in setting journal i
-    ≡ flight_by (targets_of setting journal) i (packet_facts_of journal i)
+    ≡ flight_by (journal_leg_targets setting journal) i (packet_facts_of journal i)
 unfolding refined_flight_in refined_flight_of packet_facts_of
 flight_now setting journal i = refl
 
@@ -235,10 +235,10 @@ by_targets one other i facts same = rw same refl
 -- behind items by which no policy comes
 pub flight_along : (setting : Setting) (before items : List Item) (i : ℕ)
     → NoneConcern item_concerns_policies before items → refined_flight_in setting (before ++ items) i
-    ≡ flight_by (targets_of setting before) i (facts_along i before items (packet_facts_of before i))
+    ≡ flight_by (journal_leg_targets setting before) i (facts_along i before items (packet_facts_of before i))
 flight_along setting before items i none = flight_now setting (before ++ items) i
-    ∙ ap (flight_by (targets_of setting (before ++ items)) i) (facts_all i before items)
-    ∙ by_targets (targets_of setting (before ++ items)) (targets_of setting before) i
+    ∙ ap (flight_by (journal_leg_targets setting (before ++ items)) i) (facts_all i before items)
+    ∙ by_targets (journal_leg_targets setting (before ++ items)) (journal_leg_targets setting before) i
     (facts_along i before items (packet_facts_of before i)) (same_targets setting before items none _)
 
 -- ---- what a switch's answer to one packet says of all others: nothing
@@ -246,7 +246,7 @@ flight_along setting before items i none = flight_now setting (before ++ items) 
 -- none of the items names the packet
 abbrev pub NoneName : ℕ → List Item → Type 0
 NoneName i [] = ⊤
-NoneName i (first ∷ items) = (is_item_of_packet i first ≡ false) × NoneName i items
+NoneName i (first ∷ items) = (is_item_of_packet_facts i first ≡ false) × NoneName i items
 
 pub unnamed : (i : ℕ) (before items : List Item) (facts : PacketFacts) → NoneName i items
     → facts_along i before items facts ≡ facts
@@ -277,12 +277,12 @@ sends_unnamed i number None = tt
 sends_unnamed i number (Some message) = (refl, tt)
 
 route_other : (q i : ℕ) (leg : Leg) (route : List ℕ) → (i == q) ≡ false
-    → is_item_of_packet q (takes_route i leg route) ≡ false
+    → is_item_of_packet_facts q (machine_takes_route i leg route) ≡ false
 route_other q i (Seek version partition) route other = other
 route_other q i (Exit port) route other = other
 
 end_other : (q : ℕ) (at : Standing) (decision : Decision) (onward : Next)
-    → (at.packet == q) ≡ false → is_item_of_packet q (log_end_item at decision onward) ≡ false
+    → (at.packet == q) ≡ false → is_item_of_packet_facts q (log_end_item at decision onward) ≡ false
 end_other q at decision Next.Dropped other = other
 end_other q at decision (Next.Out port) other = other
 end_other q at decision (Next.Exit tunnel) other =

@@ -1,10 +1,10 @@
 -- The packets that stand at a switch: those of the table are those of the journal.
 use Rattle.std.proofs.Common.{[], ◌&&◌, ◌++◌, ◌+◌, ◌<◌, ◌==◌, ◌∙◌, ◌∷◌, ◌≡◌, ◌≤◌, ◌⊎◌, Bool, IsFalse, List, None, Option, Some, ap, arith, cond, eq-eqb, eqb-true, false, filter, get_or, if◌then◌else◌, inl, inr, length, map, refl, rules, suc, sym, true, ℕ}
 use Rattle.base.proofs.Exports.{any-filter_same, cases_lt, filter_agree, list_any, range_with_len, sum_by-cons}
-use Rattle.update_machine.specs.Exports.{Header, Item, NoneConcern, Packet, Ports, Setting, Step, count_of, is_at, is_packet, near, journal_next_message, journal_next_packet, journal_packets_at, piece, journal_retired_mark, standing, targets_of, travels, journal_travels_at}
+use Rattle.update_machine.specs.Exports.{Header, Item, NoneConcern, Packet, Ports, Setting, Step, count_of, is_at, is_packet, near, journal_next_message, journal_next_packet, journal_packets_at, piece, journal_retired_mark, standing, journal_leg_targets, travels, journal_travels_at}
 use Rattle.packet_laws.specs.Exports.{IsUnknownPacket, PacketFacts, packet_facts_after, packet_facts_of}
 use Rattle.packet_laws.proofs.Exports.{numbered, ways_of_all}
-use Rattle.refinement.specs.Exports.{BagsRefine, Comes, EntriesRefine, HopsRefine, IsNetRefined, RefinedNetworkState, NoRefinedRows, RefineJournal, refined_entry_at, refined_flight_in, refined_flight_of, refined_switch_of}
+use Rattle.refinement.specs.Exports.{BagsRefine, RefinedPacketComes, EntriesRefine, HopsRefine, IsRefinedJournalOfNet, RefinedNetworkState, NoRefinedRows, RefineJournal, refined_entry_at, refined_flight_in, refined_flight_of, refined_switch_of}
 use Rattle.travelling.specs.Travelling.{Flight, Flights, flight, numbers_at, stands_at}
 use Rattle.travelling.proofs.TravellingSlots.{beyond, none_between}
 use Rattle.refinement.proofs.RefinedSteps.{Known, reached_known}
@@ -175,7 +175,7 @@ flight_lost targets i before (one ∷ first) packets more facts none last =
 -- ---- the laws of this crate, of what is known within a step
 
 module _ (setting : Setting) (journal : List Item) (row s : ℕ) (header : Header) (ports : Ports)
-    (of : IsNetRefined setting journal ports) (there : s < length setting.net.switches)
+    (of : IsRefinedJournalOfNet setting journal ports) (there : s < length setting.net.switches)
     (sound : IsHeader header) where
   abbrev w : SwitchValue
   w = refined_switch_of setting journal s
@@ -222,7 +222,7 @@ module _ (setting : Setting) (journal : List Item) (row s : ℕ) (header : Heade
       → (if b then log_entered_flight answer else refined_flight_in setting journal q)
       ≡ refined_flight_in setting (journal ++ first ∷ items) q
   along q b is = come_along setting journal row (journal_next_message journal) taken
-      (targets_of setting (looking journal row taken i s header)) (log_coming_in i header s) answer
+      (journal_leg_targets setting (looking journal row taken i s header)) (log_coming_in i header s) answer
       (refined_flight_in setting journal q) q b knows is unknown unknown.found
       (come_goes setting journal row i s taken header w mask ports comes)
       (λ leg. same_targets setting (journal ++ first ∷ []) (Item.Entered i s header ∷ []) (refl, tt)
@@ -232,7 +232,7 @@ module _ (setting : Setting) (journal : List Item) (row s : ℕ) (header : Heade
             (entered_sends (journal_next_message journal) (log_coming_in i header s) answer).0).policies,
       ) refl
 
-  come : Comes setting journal row s header ports
+  come : RefinedPacketComes setting journal row s header ports
   come = record {
     may = looks_up_as setting journal s w knows there refl;
     written = piece_is;

@@ -3,7 +3,7 @@ use Rattle.std.proofs.Common.{[], if◌then◌else◌, ◌++◌, ◌+◌, ◌<�
 use Rattle.base.proofs.Exports.{option_or, slice_get_within, ⊤}
 use Rattle.message_bag.specs.Exports.{Post, frames_posted, is_post_deliverable, item_numbered, new_post, posted_frames, bag_frames_remembered, bag_with_changed, posts_with_delivered, posts_with_forgotten}
 use Rattle.message_bag.proofs.BagNumberedPosts.{length_changed, numbered_changed, numbered_pushed}
-use Rattle.update_machine.specs.Exports.{Item, Message, MachineMessageKeeps, NoneConcern, item_concerns_known, concerns_links, concerns_message, concerns_messages, item_concerns_policies, count_of, item_gives_message, is_delivery_item, is_forgetting, is_forgotten_in_journal, is_sending, journal_last_given, message_of, journal_next_message, was_delivered}
+use Rattle.update_machine.specs.Exports.{Item, Message, MachineMessageKeeps, NoneConcern, item_concerns_known, concerns_links, item_concerns_message, concerns_messages, item_concerns_policies, count_of, machine_item_gives_message, is_delivery_item, is_journal_forgetting, is_forgotten_in_journal, is_sending, journal_last_given, journal_message_of, journal_next_message, was_delivered}
 use Rattle.update_machine.proofs.Exports.{count_of_append, each_silent, fewer, last_given_append, message_keeps, messages_keep, next_sent, start_laws}
 use Rattle.control_laws.proofs.Exports.{some_more}
 use Rattle.refinement.specs.Exports.{IsRefinedBagOf, refined_post_at}
@@ -22,7 +22,7 @@ pub bag_on : (before items : List Item) (posts : List Post)
 bag_on before items posts apart is =
     let keeps : (n : ℕ) → MachineMessageKeeps n before (before ++ items) =
     λ n. message_keeps n before items
-    (fewer (concerns_message n) concerns_messages (each_silent n) before items apart) in record {
+    (fewer (item_concerns_message n) concerns_messages (each_silent n) before items apart) in record {
       many = (messages_keep before items apart).next ∙ is.many;
       each = λ n. is.each n ∙ sym (same_post n before (before ++ items) (keeps n));
       undelivered = λ n past. (keeps n).delivered ∙ is.undelivered n past;
@@ -35,7 +35,7 @@ bag_on before items posts apart is =
 abbrev BagGoesOn : List Item → List Post → Item → List Post → Type 0
 BagGoesOn before posts item after = IsRefinedBagOf before posts → IsRefinedBagOf (before ++ item ∷ []) after
 
-number_on : (n : ℕ) (before : List Item) (item : Item) → IsFalse (concerns_message n before item)
+number_on : (n : ℕ) (before : List Item) (item : Item) → IsFalse (item_concerns_message n before item)
     → MachineMessageKeeps n before (before ++ item ∷ [])
 number_on n before item apart = message_keeps n before (item ∷ []) (apart, tt)
 
@@ -47,10 +47,10 @@ other_number n k apart = ne_eqb k n (λ same. let yes : (n == k) ≡ true = eq-e
 -- ---- a message is sent
 
 sent_facts : (before : List Item) (n : ℕ) (message : Message)
-    → message_of (before ++ Item.Sent n message ∷ []) n ≡ Some message
-unfolding message_of
+    → journal_message_of (before ++ Item.Sent n message ∷ []) n ≡ Some message
+unfolding journal_message_of
 sent_facts before n message =
-    cc (last_given_append (item_gives_message n) before (Item.Sent n message ∷ []), eq-eqb n n refl)
+    cc (last_given_append (machine_item_gives_message n) before (Item.Sent n message ∷ []), eq-eqb n n refl)
 
 sent_post : (n : ℕ) (before : List Item) (posts : List Post) (message : Message) (b : Bool)
     → (n == length posts + 1) ≡ b → IsRefinedBagOf before posts
@@ -62,7 +62,7 @@ sent_post n before posts message true is bag = let k : ℕ = length posts + 1 in
       (eqb-true n k is),
       sent_facts before k message,
       some_more (is_delivery_item k) before (Item.Sent k message),
-      some_more (is_forgetting k) before (Item.Sent k message),
+      some_more (is_journal_forgetting k) before (Item.Sent k message),
       bag.undelivered k (omega arith),
       bag.remembered k (omega arith),
     ) refl
@@ -109,7 +109,7 @@ some_within posts n there = by_frames (frames_posted posts n) refl there where
 -- the post of one number changes as the item changes its facts
 abbrev ChangesOne : (Post → Post) → ℕ → List Item → Item → Type 0
 ChangesOne change k before item =
-    ((n : ℕ) → (k == n) ≡ false → IsFalse (concerns_message n before item))
+    ((n : ℕ) → (k == n) ≡ false → IsFalse (item_concerns_message n before item))
     × (refined_post_at (before ++ item ∷ []) k ≡ option_map change (refined_post_at before k))
 
 changed_post : (change : Post → Post) (k n : ℕ) (before : List Item) (posts : List Post)
@@ -141,36 +141,36 @@ bag_changed change k before posts item changes posted_it as_many bag =
 
 -- an item that sends no message raises flags of one
 bag_flagged : (change : Post → Post) (k : ℕ) (before : List Item) (posts : List Post) (item : Item)
-    → ((n : ℕ) → (k == n) ≡ false → IsFalse (concerns_message n before item))
-    → item_gives_message k item ≡ None → is_sending item ≡ false → ((m : Message) → (
+    → ((n : ℕ) → (k == n) ≡ false → IsFalse (item_concerns_message n before item))
+    → machine_item_gives_message k item ≡ None → is_sending item ≡ false → ((m : Message) → (
       posted_frames m,
       record {
         delivered = is_delivery_item k item || was_delivered before k;
-        forgotten = is_forgetting k item || is_forgotten_in_journal before k;
+        forgotten = is_journal_forgetting k item || is_forgotten_in_journal before k;
       },
     ) ≡ change (
       posted_frames m,
       record { delivered = was_delivered before k; forgotten = is_forgotten_in_journal before k },
     ))
     → k ≤ length posts → BagGoesOn before posts item (bag_with_changed change posts k)
-unfolding refined_post_at message_of was_delivered is_forgotten_in_journal journal_next_message
+unfolding refined_post_at journal_message_of was_delivered is_forgotten_in_journal journal_next_message
 bag_flagged change k before posts item apart untold unsent flags posted_it bag =
     let none : count_of is_sending (item ∷ []) ≡ 0 = rw unsent refl in
     bag_changed change k before posts item (
       apart,
       rw (
-        last_given_append (item_gives_message k) before (item ∷ []),
+        last_given_append (machine_item_gives_message k) before (item ∷ []),
         untold,
         some_more (is_delivery_item k) before item,
-        some_more (is_forgetting k) before item,
-      ) (by_told (message_of before k)),
+        some_more (is_journal_forgetting k) before item,
+      ) (by_told (journal_message_of before k)),
     ) posted_it (omega (arith, none, count_of_append is_sending before (item ∷ []))) bag
   where
     by_told : (o : Option Message) → option_map (λ (m : Message). (
       posted_frames m,
       record {
         delivered = is_delivery_item k item || was_delivered before k;
-        forgotten = is_forgetting k item || is_forgotten_in_journal before k;
+        forgotten = is_journal_forgetting k item || is_forgotten_in_journal before k;
       },
     )) o ≡ option_map change (option_map (λ (m : Message). (
       posted_frames m,

@@ -2,13 +2,13 @@
 -- and what the switches send about that.
 use Rattle.std.proofs.Common.{[], if◌then◌else◌, ◌&&◌, ◌++◌, ◌+◌, ◌<◌, ◌==◌, ◌||◌, ◌∙◌, ◌∷◌, ◌≡◌, ◌≤◌, Bool, List, None, Some, ap, append-nil, arith, cond, eqb-true, false, filter, get_or, length, not, refl, subst, suc, sym, true, zero, ℕ}
 use Rattle.base.proofs.Exports.{AllByRecursion, and_parts, any_filter, filter_more, flat_map, flat_map-append, get_or-map-range_with_len, has_mask, list_any, mask_of_is, mask_of_lt, option_map_or, range_more, range_with_len, recursion_from_All, slice_get-get_or}
-use Rattle.update_machine.specs.Exports.{Item, LinkRow, Message, Setting, journal_usable_links_changed, is_up, is_usable_in_journal, machine_messages_of, near, own_advert, serves as serves_in, switches_of, usable_links}
+use Rattle.update_machine.specs.Exports.{Item, LinkRow, Message, Setting, journal_usable_links_changed, is_up, is_usable_in_journal, machine_messages_of, near, own_advert, serves as serves_in, setting_switches_of, usable_links}
 use Rattle.base.specs.Exports.{has, small_number_mask}
-use Rattle.net_file.specs.Exports.{IsNetLink, IsNet, are_linked, joins}
+use Rattle.net_file.specs.Exports.{IsNetLink, IsNet, are_linked_in_net, joins}
 use Rattle.switch_core.specs.Exports.{SwitchValue, near_changed, switch_next_advert, serves}
 use Rattle.refinement.specs.Exports.{is_refined_up_link, refined_link_messages, refined_relinked_switch, refined_switch_of, refined_up_links}
 use Rattle.refinement.proofs.RefinedSwitchLinks.{links_refine}
-use Rattle.world_log.specs.Exports.{AreLogSwitchesRelinked, adverts_relinked_at, logged_adverts_on_change, adverts_over, all_adverts_sent, links_change, logged_near_all, logged_near_mask_by, logged_switch_serves_at}
+use Rattle.world_log.specs.Exports.{AreLogSwitchesRelinked, logged_adverts_relinked_at, logged_adverts_on_change, adverts_over, all_adverts_sent, links_change, logged_near_all, logged_near_mask_by, logged_switch_serves_at}
 use Rattle.world_log.proofs.LogRelinking.{told_nothing}
 
 -- ---- masks
@@ -46,8 +46,8 @@ spread p b x y = grind arith
 
 -- usable links join two switches that serve and that links join that are up
 usable_joins : (journal : List Item) (s k : ℕ) (links : List LinkRow)
-    → are_linked (filter (is_usable_in_journal journal) links) s k
-    ≡ (are_linked (filter (is_refined_up_link journal) links) s k
+    → are_linked_in_net (filter (is_usable_in_journal journal) links) s k
+    ≡ (are_linked_in_net (filter (is_refined_up_link journal) links) s k
     && serves_in journal s && serves_in journal k)
 usable_joins journal s k [] = refl
 usable_joins journal s k (link ∷ links) =
@@ -85,7 +85,7 @@ usable_joins journal s k (link ∷ links) =
 
 -- links of the network join two switches of it
 linked_ends : (count s k : ℕ) (links : List LinkRow) → AllByRecursion (IsNetLink count) links
-    → are_linked links s k ≡ true → (s < count) × (k < count)
+    → are_linked_in_net links s k ≡ true → (s < count) × (k < count)
 linked_ends count s k [] all is = absurd cc
 linked_ends count s k (link ∷ links) all is =
     by_joins (joins s k link) refl (linked_ends count s k links all.1) is
@@ -102,13 +102,13 @@ linked_ends count s k (link ∷ links) all is =
     )
 
     by_joins : (b : Bool) → joins s k link ≡ b
-        → (are_linked links s k ≡ true → (s < count) × (k < count))
-        → (b || are_linked links s k) ≡ true → (s < count) × (k < count)
+        → (are_linked_in_net links s k ≡ true → (s < count) × (k < count))
+        → (b || are_linked_in_net links s k) ≡ true → (s < count) × (k < count)
     by_joins true e rest is = by_order (link.one == s && link.two == k) refl e
     by_joins false e rest is = rest is
 
 pub up_ends : (setting : Setting) (journal : List Item) (s k : ℕ) → IsNet setting.net
-    → are_linked (refined_up_links setting journal) s k ≡ true
+    → are_linked_in_net (refined_up_links setting journal) s k ≡ true
     → (s < length setting.net.switches) × (k < length setting.net.switches)
 up_ends setting journal s k net is = linked_ends (length setting.net.switches) s k setting.net.links
     (recursion_from_All (IsNetLink (length setting.net.switches)) setting.net.links net.links)
@@ -123,8 +123,8 @@ pub record CanRelink (setting : Setting) (before now : List Item) (links had : L
   pub many : length switches ≡ length setting.net.switches
   pub few : length setting.net.switches ≤ 64
   pub up : (s k : ℕ) → s < 64 → k < 64
-      → has (get_or links s 0) k ≡ are_linked (refined_up_links setting now) s k
-  pub within : (s k : ℕ) → are_linked (refined_up_links setting now) s k ≡ true
+      → has (get_or links s 0) k ≡ are_linked_in_net (refined_up_links setting now) s k
+  pub within : (s k : ℕ) → are_linked_in_net (refined_up_links setting now) s k ≡ true
       → (s < length setting.net.switches) × (k < length setting.net.switches)
   pub had_is : (s : ℕ) → s < length switches → get_or had s 0 ≡ near setting before s
   pub serving : (s : ℕ) → serves_in now s ≡ true → is_up now s ≡ true
@@ -167,19 +167,19 @@ module _ (setting : Setting) (before now : List Item) (links had : List ℕ)
 
   linked_so : (s k : ℕ) → s < 64 → k < 64
       → (has (get_or links s 0) k && logged_switch_serves_at switches s && logged_switch_serves_at switches k)
-      ≡ are_linked (usable_links setting now) s k
+      ≡ are_linked_in_net (usable_links setting now) s k
   linked_so s k fits small =
       ap (λ b. b && logged_switch_serves_at switches s && logged_switch_serves_at switches k) (can.up s k fits small)
-      ∙ by_link (are_linked (refined_up_links setting now) s k) refl
+      ∙ by_link (are_linked_in_net (refined_up_links setting now) s k) refl
       ∙ sym (usable_joins now s k setting.net.links)
     where
-      by_link : (b : Bool) → are_linked (refined_up_links setting now) s k ≡ b
-          → (are_linked (refined_up_links setting now) s k && logged_switch_serves_at switches s && logged_switch_serves_at switches k)
-          ≡ (are_linked (refined_up_links setting now) s k && serves_in now s && serves_in now k)
+      by_link : (b : Bool) → are_linked_in_net (refined_up_links setting now) s k ≡ b
+          → (are_linked_in_net (refined_up_links setting now) s k && logged_switch_serves_at switches s && logged_switch_serves_at switches k)
+          ≡ (are_linked_in_net (refined_up_links setting now) s k && serves_in now s && serves_in now k)
       by_link false e = rw e refl
-      by_link true e = ap (λ c. are_linked (refined_up_links setting now) s k && c && logged_switch_serves_at switches k)
+      by_link true e = ap (λ c. are_linked_in_net (refined_up_links setting now) s k && c && logged_switch_serves_at switches k)
           (serves_here s (omega (arith, (can.within s k e).0, can.many)))
-          ∙ ap (λ c. are_linked (refined_up_links setting now) s k && serves_in now s && c) (serves_here k
+          ∙ ap (λ c. are_linked_in_net (refined_up_links setting now) s k && serves_in now s && c) (serves_here k
           (omega (arith, (can.within s k e).1, can.many)))
 
   -- which links each switch can use now
@@ -187,7 +187,7 @@ module _ (setting : Setting) (before now : List Item) (links had : List ℕ)
   unfolding near logged_near_all logged_near_mask_by
   near_now s fits = get_or-map-range_with_len (logged_near_mask_by links switches) 0 64 s s 0 fits (omega arith)
       ∙ same_mask (λ k. has (get_or links s 0) k && logged_switch_serves_at switches s && logged_switch_serves_at switches k)
-      (are_linked (usable_links setting now) s) (λ k small. linked_so s k fits small)
+      (are_linked_in_net (usable_links setting now) s) (λ k small. linked_so s k fits small)
 
   near_there : (s : ℕ) → s < length switches
       → get_or (logged_near_all links switches) s 0 ≡ near setting now s
@@ -214,7 +214,7 @@ module _ (setting : Setting) (before now : List Item) (links had : List ℕ)
       let links_now : ℕ = near setting now s in
       let send_adverts : ℕ → ℕ → List Message = λ had_s n. flat_map
       (λ other. adverts_over (near_changed w n) (switch_next_advert w n) (has had_s other) other)
-      (filter (has n) (switches_of setting)) in
+      (filter (has n) (setting_switches_of setting)) in
       ap (λ b. if b then flat_map (λ other. adverts_over
       (near_changed w (get_or (logged_near_all links switches) s 0))
       (switch_next_advert w (get_or (logged_near_all links switches) s 0)) (has (get_or had s 0) other) other)
@@ -234,7 +234,7 @@ module _ (setting : Setting) (before now : List Item) (links had : List ℕ)
       ∙ sym (links_refine.told setting before now s)
 
   told_here : (s : ℕ) → s < length switches
-      → adverts_relinked_at (length switches) had (logged_near_all links switches) switches s
+      → logged_adverts_relinked_at (length switches) had (logged_near_all links switches) switches s
       ≡ (if journal_usable_links_changed setting before now s then machine_messages_of setting before now s else [])
   told_here s there = ap (λ o. elim o [
     | None ↦ []
@@ -251,12 +251,12 @@ module _ (setting : Setting) (before now : List Item) (links had : List ℕ)
           (get_or (logged_near_all links switches) s 0) (changes_so s there ∙ is)).1
 
   below : (n : ℕ) → n ≤ length switches
-      → flat_map (adverts_relinked_at (length switches) had (logged_near_all links switches) switches)
+      → flat_map (logged_adverts_relinked_at (length switches) had (logged_near_all links switches) switches)
       (range_with_len 0 n) ≡ flat_map (machine_messages_of setting before now)
       (filter (journal_usable_links_changed setting before now) (range_with_len 0 n))
   below zero there = refl
   below (suc n) there =
-      let f = adverts_relinked_at (length switches) had (logged_near_all links switches) switches in
+      let f = logged_adverts_relinked_at (length switches) had (logged_near_all links switches) switches in
       let g : ℕ → List Message = machine_messages_of setting before now in
       let p : ℕ → Bool = journal_usable_links_changed setting before now in
       let next : ◌≡◌ {A = ℕ} (suc n) (n + 1) = omega arith in
@@ -278,6 +278,6 @@ module _ (setting : Setting) (before now : List Item) (links had : List ℕ)
   -- what all of them tell
   pub told_now : all_adverts_sent had (logged_near_all links switches) switches
       ≡ flat_map (machine_messages_of setting before now)
-      (filter (journal_usable_links_changed setting before now) (switches_of setting))
+      (filter (journal_usable_links_changed setting before now) (setting_switches_of setting))
   unfolding all_adverts_sent
   told_now = cc (below (length switches) (omega arith), can.many)

@@ -6,12 +6,12 @@ use Rattle.refinement.proofs.RefinedControllerResends.{resends_nothing, resends_
 use Rattle.controller.specs.Exports.{ControllerValue, resend_acts}
 use Rattle.controller.specs.declared.sends.Act.{Act}
 use Rattle.controller.specs.declared.sends.Act.TheVariants.{Post}
-use Rattle.update_machine.specs.Exports.{Advert, Hello, Item, Message, Resend, Setting, advert_to, journal_boot_of, journal_held_adverts, is_up, near, piece, journal_resent_by_switch, setting_switches_in}
+use Rattle.update_machine.specs.Exports.{Advert, Hello, Item, Message, Resend, Setting, machine_advert_to, journal_boot_of, journal_held_adverts, is_up, near, piece, journal_resent_by_switch, setting_switches_in}
 use Rattle.ctrl_msg.specs.Exports.{to_controller}
 use Rattle.switch_core.specs.Exports.{SwitchValue}
 use Rattle.refinement.proofs.RefinedSwitchLinks.{kept_is, links_refine}
 use Rattle.update_machine.proofs.Exports.{near_stays}
-use Rattle.world_log.specs.Exports.{LogMayNote, log_act_items, log_act_posts, log_adverts_again}
+use Rattle.world_log.specs.Exports.{LogMayNote, log_act_items, log_act_posts, world_log_adverts_again}
 use Rattle.steps.specs.Exports.{IsStep}
 use Rattle.travelling.specs.Travelling.{Flights}
 use Rattle.refinement.proofs.RefinedActs.{may_note, refines_told, written_is}
@@ -30,31 +30,31 @@ some_there acts some e = let none : (length acts == 0) ≡ true = ap (λ xs. len
 
 -- what the calls made is what is to be sent
 pub acts_same : (controller : ControllerValue) (s n count near had : ℕ) (own : SwitchValue)
-    (told : List Message) (acts : List Act) → told ≡ log_adverts_again s n had own → n ≡ count
+    (told : List Message) (acts : List Act) → told ≡ world_log_adverts_again s n had own → n ≡ count
     → had ≡ near → acts ≡ resend_acts controller s
-    → map Post told ++ acts ≡ map Post (log_adverts_again s count near own) ++ resend_acts controller s
+    → map Post told ++ acts ≡ map Post (world_log_adverts_again s count near own) ++ resend_acts controller s
 acts_same controller s n count near had own told acts told_is count_is near_is acts_is =
     cc (acts_is, told_is, count_is, near_is)
 
 -- what it sends these neighbours if it holds these adverts
 abbrev told_by : SwitchValue → ℕ → List ℕ → List Advert → List Message
 told_by switch s neighbours adverts = if switch.is_up then to_controller (Hello s switch.boot)
-    ∷ flat_map (λ other. map (advert_to other) adverts) neighbours else []
+    ∷ flat_map (λ other. map (machine_advert_to other) adverts) neighbours else []
 
 as_journal : (setting : Setting) (journal : List Item) (s : ℕ) (neighbours : List ℕ)
     (adverts : List Advert) → told_by (refined_switch_of setting journal s) s neighbours adverts
     ≡ elim (is_up journal s) [
       | false ↦ []
       | true ↦ to_controller (Hello s (journal_boot_of journal s))
-          ∷ flat_map (λ other. map (advert_to other) adverts) neighbours
+          ∷ flat_map (λ other. map (machine_advert_to other) adverts) neighbours
     ]
 unfolding refined_switch_of
 as_journal setting journal s neighbours adverts = by_test (is_up journal s) where
   by_test : (b : Bool) → (if b then to_controller (Hello s (journal_boot_of journal s))
-      ∷ flat_map (λ other. map (advert_to other) adverts) neighbours else []) ≡ elim b [
+      ∷ flat_map (λ other. map (machine_advert_to other) adverts) neighbours else []) ≡ elim b [
         | false ↦ []
         | true ↦ to_controller (Hello s (journal_boot_of journal s))
-            ∷ flat_map (λ other. map (advert_to other) adverts) neighbours
+            ∷ flat_map (λ other. map (machine_advert_to other) adverts) neighbours
       ]
   by_test true = refl
   by_test false = refl
@@ -75,7 +75,7 @@ module _ {setting : Setting} {journal : List Item} {state : RefinedNetworkState}
   rowed = journal ++ Item.Row row (Resend s) ∷ []
 
   abbrev messages : List Message
-  messages = log_adverts_again s (length state.switches) (get_or state.near s 0) own
+  messages = world_log_adverts_again s (length state.switches) (get_or state.near s 0) own
 
   abbrev acts : List Act
   acts = map Post messages ++ resend_acts state.controller s
@@ -89,7 +89,7 @@ module _ {setting : Setting} {journal : List Item} {state : RefinedNetworkState}
       ∙ sym (near_stays setting s journal (Item.Row row (Resend s) ∷ []) (refl, tt))
 
   -- what a switch tells again, as the journal says
-  by_switch : log_adverts_again s (length setting.net.switches) (near setting rowed s)
+  by_switch : world_log_adverts_again s (length setting.net.switches) (near setting rowed s)
       (refined_switch_of setting rowed s) ≡ journal_resent_by_switch setting rowed s
   by_switch =
       ap (told_by (refined_switch_of setting rowed s) s (setting_switches_in setting (near setting rowed s)))
@@ -98,9 +98,9 @@ module _ {setting : Setting} {journal : List Item} {state : RefinedNetworkState}
 
   acts_are : acts ≡ refined_resend_acts setting rowed s state.controller
   acts_are = ap (λ told. map Post told ++ resend_acts state.controller s)
-      (ap (λ n. log_adverts_again s n (get_or state.near s 0) own) refines.many
-      ∙ ap (λ n. log_adverts_again s (length setting.net.switches) n own) near_is
-      ∙ ap (log_adverts_again s (length setting.net.switches) (near setting rowed s)) own_is
+      (ap (λ n. world_log_adverts_again s n (get_or state.near s 0) own) refines.many
+      ∙ ap (λ n. world_log_adverts_again s (length setting.net.switches) n own) near_is
+      ∙ ap (world_log_adverts_again s (length setting.net.switches) (near setting rowed s)) own_is
       ∙ by_switch)
 
   -- ---- nothing is sent

@@ -1,10 +1,10 @@
 -- The marks settle as the journal's rule says, and what is sent then is what the definition says.
 use Rattle.std.proofs.Common.{[], if◌then◌else◌, ◌&&◌, ◌++◌, ◌+◌, ◌-◌, ◌<◌, ◌==◌, ◌||◌, ◌∙◌, ◌∷◌, ◌≡◌, ◌≤◌, Bool, IsFalse, IsTrue, List, None, Option, Some, ap, append-nil, append_assoc, arith, eq-eqb, eqb-true, false, filter, is_some, length, map, nat_lt, not, refl, rules, slice_get, subst, sym, true, unwrap_or, ℕ}
 use Rattle.base.proofs.Exports.{each_always, each_map, fill_by_all, filter_made, get_or-map, length-map, list_all, list_all-map, list_any, map_twice, nat_tests, option_map_or, option_or, picked_same, range_with_len, slice_get-get_or}
-use Rattle.update_machine.specs.Exports.{Body, Collect, JournalItemsHaveCauses, Item, Message, OpenAt, Setting, Stamp, acked_stamp, controller_heard, current_items, journal_current_mark, machine_first_open, journal_items_then, journal_known_boot, machine_least_number, journal_next_current, journal_next_message, journal_next_retired, journal_open_for, machine_open_version_in, machine_open_items, open_version, opened_at, opening_switches, retired_items, journal_retired_mark, send_items, machine_sent_items_from, settling, switches_of, machine_message_to_switch, touched_by, journal_version_count}
+use Rattle.update_machine.specs.Exports.{Body, Collect, JournalItemsHaveCauses, Item, Message, OpenAt, Setting, Stamp, acked_stamp, journal_controller_heard, current_items, journal_current_mark, machine_first_open, journal_items_then, journal_known_boot, machine_least_number, journal_next_current, journal_next_message, journal_next_retired, journal_open_for, machine_open_version_in, machine_open_items, open_version, journal_opened_at, opening_switches, machine_retired_items, journal_retired_mark, send_items, machine_sent_items_from, settling, setting_switches_of, machine_message_to_switch, machine_touched_by, journal_version_count}
 use Rattle.update_machine.specs.Marks as machine
 use Rattle.update_machine.proofs.Exports.{have_append}
-use Rattle.control_laws.specs.Exports.{HasControlItemCause, MarksAreBounded}
+use Rattle.control_laws.specs.Exports.{HasControlItemCause, ControlMarksAreBounded}
 use Rattle.control_laws.proofs.Exports.{ReopensAlone, acked_same, acked_stamp_opened, behind, bounded, count_more, current_more, have_front, in_three, known_more, leaves_keep, member_of, member_parts, opened_at_more, over_more, retired_more, sends_leave, settling_have, stamp_same, told_more}
 use Rattle.version_update.specs.Marks as marks
 use Rattle.version_update.specs.Exports.{MarksValue, CurrentRisesTo, Settles, has_acked, is_joining, is_member, is_over, update_joining_opens_at, record_of, unknown_switch_record}
@@ -66,7 +66,7 @@ pub told_posted : (f : ℕ → Act) (g : ℕ → Message) (passes : SwitchRecord
     → ((s : ℕ) → s < length value.switches → passes (record_of value s) ≡ q s)
     → ((s : ℕ) → s < length value.switches → f s ≡ Post (g s))
     → refined_acts_written journal (map f (controller_switches_by_record passes value.switches))
-    ≡ send_items journal (map g (filter q (switches_of setting)))
+    ≡ send_items journal (map g (filter q (setting_switches_of setting)))
 told_posted f g passes q setting journal value many tests makes =
     let p : ℕ → Bool = λ s. option_map_or passes (slice_get value.switches s) false in
     ap (refined_acts_written journal)
@@ -76,8 +76,8 @@ told_posted f g passes q setting journal value many tests makes =
     ap (λ o. option_map_or passes o false) (slice_get-get_or value.switches s unknown_switch_record there)
     ∙ tests s there)
     (λ s above below is. makes s (omega (arith, below, many)))
-    ∙ sym (map_twice g Post (filter q (switches_of setting))))
-    ∙ posted (map g (filter q (switches_of setting))) journal
+    ∙ sym (map_twice g Post (filter q (setting_switches_of setting))))
+    ∙ posted (map g (filter q (setting_switches_of setting))) journal
 
 -- messages that open no switch leave the marks
 pub leave_on : (setting : Setting) (journal : List Item) (value : MarksValue)
@@ -142,7 +142,7 @@ rises_by setting journal after value risen act body are boots leaves rises true 
     let next : Item = refined_act_item journal act in
     let raised : List Item = journal ++ next ∷ [] in
     let message : ℕ → Message = adverts_over body journal in (
-      ap (λ items. next ∷ items) (told_posted (λ s. acts.post_act s (body (controller_recorded_boot after s)))
+      ap (λ items. next ∷ items) (told_posted (λ s. acts.controller_post_act s (body (controller_recorded_boot after s)))
           message (λ known. is_member known.phase) (machine.is_member journal) setting raised value
           are.many (λ s there. (are.each s there).member)
           (λ s there. ap (λ boot. Post (machine_message_to_switch s (body boot))) (boots s there))),
@@ -169,19 +169,19 @@ rises_on setting journal after value risen act body low high mark version low_is
     (act version) (body version) are boots leaves rises (nat_lt mark version) stays)
 
 raises_on : (setting : Setting) (now : List Item) (before after : MarksValue)
-    (touched : List WordValue) → touched ≡ touched_by setting now after.current
+    (touched : List WordValue) → touched ≡ machine_touched_by setting now after.current
     → AreMarksRefined setting now before → before.current ≤ after.current
     → after.current ≡ journal_next_current setting now
     → SameBoots now after (length before.switches)
-    → (refined_acts_written now (acts.stamp_acts touched before after) ≡ current_items setting now)
+    → (refined_acts_written now (acts.controller_stamp_acts touched before after) ≡ current_items setting now)
     × AreMarksRefined setting (now ++ current_items setting now)
     (record before { current = after.current })
 unfolding current_items
 raises_on setting now before after touched says are up is boots = subst
-    (λ words. (refined_acts_written now (acts.stamp_acts words before after) ≡ current_items setting now)
+    (λ words. (refined_acts_written now (acts.controller_stamp_acts words before after) ≡ current_items setting now)
     × AreMarksRefined setting (now ++ current_items setting now)
     (record before { current = after.current })) (sym says) (rises_on setting now after before
-    (λ v. record before { current = v }) Current (λ v boot. Stamp boot v (touched_by setting now v))
+    (λ v. record before { current = v }) Current (λ v boot. Stamp boot v (machine_touched_by setting now v))
     before.current after.current (journal_current_mark now) (journal_next_current setting now) are.current is are
     boots (λ s. tt) (current_on setting now (journal_next_current setting now) before are)
     (λ e. let stays : journal_next_current setting now ≡ journal_current_mark now =
@@ -196,7 +196,7 @@ phase_joins Member = refl
 phase_joins Over = refl
 
 joining_parts : (journal : List Item) (s : ℕ) → IsTrue (machine.is_joining journal s)
-    → IsFalse (machine.is_over journal s) × (opened_at journal s ≡ None)
+    → IsFalse (machine.is_over journal s) × (journal_opened_at journal s ≡ None)
 unfolding machine.is_member
 joining_parts journal s joins = grind arith
 
@@ -213,7 +213,7 @@ opens_same journal s version value is low =
 
 -- what messages leave, whichever they are
 record SentStay (before after : List Item) : Type 0 where
-  heard : controller_heard after ≡ controller_heard before
+  heard : journal_controller_heard after ≡ journal_controller_heard before
   known : (s : ℕ) → journal_known_boot after s ≡ journal_known_boot before s
   over : (s : ℕ) → machine.is_over after s ≡ machine.is_over before s
   count : journal_version_count after ≡ journal_version_count before
@@ -262,19 +262,19 @@ or_none (Some x) = refl
 -- switches that are opened one after another
 opened_many : (base journal : List Item) (n version s : ℕ) (switches : List ℕ)
     → ((t : ℕ) → journal_known_boot journal t ≡ journal_known_boot base t)
-    → opened_at (journal ++ machine_sent_items_from n (map (journal_open_for base version) switches)) s
-    ≡ option_or (opened_at journal s) (some_if (list_any (λ t. t == s) switches) version)
+    → journal_opened_at (journal ++ machine_sent_items_from n (map (journal_open_for base version) switches)) s
+    ≡ option_or (journal_opened_at journal s) (some_if (list_any (λ t. t == s) switches) version)
 unfolding machine_sent_items_from
 opened_many base journal n version s [] same =
-    ap (λ js. opened_at js s) (append-nil journal) ∙ sym (or_none (opened_at journal s))
+    ap (λ js. journal_opened_at js s) (append-nil journal) ∙ sym (or_none (journal_opened_at journal s))
 opened_many base journal n version s (t ∷ switches) same =
-    ap (λ js. opened_at js s) (sym (append_assoc journal (next ∷ []) (machine_sent_items_from (n + 1) messages)))
+    ap (λ js. journal_opened_at js s) (sym (append_assoc journal (next ∷ []) (machine_sent_items_from (n + 1) messages)))
     ∙ opened_many base (journal ++ next ∷ []) (n + 1) version s switches
     (λ u. known_more journal next u ∙ same u)
     ∙ ap (λ o. option_or o (some_if (list_any (λ u. u == s) switches) version))
     (opened_at_more journal next s (known_more journal next s)
-    ∙ ap (option_or (opened_at journal s)) (opens (t == s) refl))
-    ∙ or_twice (opened_at journal s) (t == s) (list_any (λ u. u == s) switches) version
+    ∙ ap (option_or (journal_opened_at journal s)) (opens (t == s) refl))
+    ∙ or_twice (journal_opened_at journal s) (t == s) (list_any (λ u. u == s) switches) version
   where
     next : Item
     next = Item.Sent n (journal_open_for base version t)
@@ -290,7 +290,7 @@ opened_many base journal n version s (t ∷ switches) same =
 
 -- a switch behind its opening
 opened_known : (one two : List Item) (s version : ℕ) (value : SwitchRecord) → IsKnownRefined one s value
-    → 1 ≤ version → SentStay one two → opened_at two s ≡ option_or (opened_at one s)
+    → 1 ≤ version → SentStay one two → journal_opened_at two s ≡ option_or (journal_opened_at one s)
     (some_if (machine.is_joining one s && machine.has_acked one s version) version)
     → acked_stamp two s ≤ version → IsKnownRefined two s (known.opened_update_record version value)
 opened_known one two s version value is low stay now most = by_opens (update_joining_opens_at version value) refl
@@ -311,7 +311,7 @@ opened_known one two s version value is low stay now most = by_opens (update_joi
         let passes = sym tests ∙ e in
         let parts = joining_parts one s
         (joins (machine.is_joining one s) (machine.has_acked one s version) passes) in
-        let opened = now ∙ ap (λ b. option_or (opened_at one s) (some_if b version)) passes
+        let opened = now ∙ ap (λ b. option_or (journal_opened_at one s) (some_if b version)) passes
         ∙ ap (λ o. option_or o (Some version)) parts.1 in
         let over : machine.is_over two s ≡ false = stay.over s ∙ parts.0 in
         let member = member_of two s over (ap (λ o. is_some o) opened) in
@@ -325,8 +325,8 @@ opened_known one two s version value is low stay now most = by_opens (update_joi
           stamp = λ is. omega (arith, opening_switches, acked_stamp_opened two s, most);
         }
     by_opens false e =
-        let same = now ∙ ap (λ b. option_or (opened_at one s) (some_if b version)) (sym tests ∙ e)
-        ∙ or_none (opened_at one s) in
+        let same = now ∙ ap (λ b. option_or (journal_opened_at one s) (some_if b version)) (sym tests ∙ e)
+        ∙ or_none (journal_opened_at one s) in
         known_on one two s value
         (record {
           boot = stay.known s;
@@ -350,12 +350,12 @@ opens_on : (setting : Setting) (one : List Item) (before after : MarksValue)
     → after.count ≡ before.count → after.current ≡ before.current
     → after.switches ≡ map (known.opened_update_record before.current) before.switches
     → SameBoots one after (length before.switches)
-    → MarksAreBounded setting (one ++ machine_open_items setting one)
+    → ControlMarksAreBounded setting (one ++ machine_open_items setting one)
     → (refined_acts_written one (acts.controller_open_acts before after) ≡ machine_open_items setting one)
     × AreMarksRefined setting (one ++ machine_open_items setting one) (record after { retired = before.retired })
 unfolding machine_open_items
 opens_on setting one before after are low count current switches boots bounds = (
-  told_posted (λ s. acts.post_act s (OpenAt (controller_recorded_boot after s) after.current))
+  told_posted (λ s. acts.controller_post_act s (OpenAt (controller_recorded_boot after s) after.current))
       (journal_open_for one (journal_current_mark one)) (update_joining_opens_at after.current) test setting one before are.many
       (λ s there. ap (λ v. update_joining_opens_at v (record_of before s)) (current ∙ are.current) ∙ opens_same one
       s (journal_current_mark one) (record_of before s) (are.each s there) first)
@@ -388,11 +388,11 @@ opens_on setting one before after are low count current switches boots bounds = 
   long : length after.switches ≡ length before.switches
   long = ap length switches ∙ length-map before.switches (known.opened_update_record before.current)
 
-  now : (s : ℕ) → s < length before.switches → opened_at two s
-      ≡ option_or (opened_at one s) (some_if (test s) (journal_current_mark one))
+  now : (s : ℕ) → s < length before.switches → journal_opened_at two s
+      ≡ option_or (journal_opened_at one s) (some_if (test s) (journal_current_mark one))
   now s below = opened_many one one (journal_next_message one) (journal_current_mark one) s
       (opening_switches setting one) (λ t. refl)
-      ∙ ap (λ b. option_or (opened_at one s) (some_if b (journal_current_mark one))) (any_picked test s 0
+      ∙ ap (λ b. option_or (journal_opened_at one s) (some_if b (journal_current_mark one))) (any_picked test s 0
       (length setting.net.switches) (omega arith) (omega (arith, below, are.many)))
 
 -- ---- retired rises
@@ -410,9 +410,9 @@ retires_on : (setting : Setting) (two : List Item) (before after : MarksValue)
     → AreMarksRefined setting two (record after { retired = before.retired })
     → after.retired ≡ journal_next_retired setting two → journal_retired_mark two ≤ journal_next_retired setting two
     → SameBoots two after (length after.switches)
-    → (refined_acts_written two (acts.controller_collect_acts before after) ≡ retired_items setting two)
-    × AreMarksRefined setting (two ++ retired_items setting two) after
-unfolding retired_items
+    → (refined_acts_written two (acts.controller_collect_acts before after) ≡ machine_retired_items setting two)
+    × AreMarksRefined setting (two ++ machine_retired_items setting two) after
+unfolding machine_retired_items
 retires_on setting two before after are is least_is boots = rises_on setting two after
     (record after { retired = before.retired }) (λ v. record after { retired = v }) Retired
     (λ v boot. Collect boot v) before.retired after.retired (journal_retired_mark two)
@@ -446,16 +446,16 @@ settling_caused setting now have = have_append (HasControlItemCause setting) [] 
 
 pub settles_so : (setting : Setting) (now : List Item) (before after : MarksValue)
     (answer : Settled) (touched : List WordValue)
-    → touched ≡ touched_by setting now after.current → AreCaused setting now
+    → touched ≡ machine_touched_by setting now after.current → AreCaused setting now
     → AreMarksRefined setting now before → Settles before after answer
     → (refined_acts_written now (acts.controller_settling_acts touched before after) ≡ settling setting now)
     × AreMarksRefined setting (now ++ settling setting now) after
 unfolding settling
 settles_so setting now before after answer touched says have are is = (
-  written_in_three now (current_items setting) (machine_open_items setting) (retired_items setting)
-      (acts.stamp_acts touched before after) (acts.controller_open_acts before after)
+  written_in_three now (current_items setting) (machine_open_items setting) (machine_retired_items setting)
+      (acts.controller_stamp_acts touched before after) (acts.controller_open_acts before after)
       (acts.controller_collect_acts before after) raises.0 opens.0 retires.0,
-  rw (in_three (current_items setting) (machine_open_items setting) (retired_items setting) now) retires.1,
+  rw (in_three (current_items setting) (machine_open_items setting) (machine_retired_items setting) now) retires.1,
 ) where
   one : List Item
   one = now ++ current_items setting now
@@ -464,9 +464,9 @@ settles_so setting now before after answer touched says have are is = (
   two = one ++ machine_open_items setting one
 
   two_have : AreCaused setting two
-  two_have = have_front (HasControlItemCause setting) [] two (retired_items setting two)
+  two_have = have_front (HasControlItemCause setting) [] two (machine_retired_items setting two)
       (subst (AreCaused setting) (in_three (current_items setting) (machine_open_items setting)
-      (retired_items setting) now) (settling_caused setting now have))
+      (machine_retired_items setting) now) (settling_caused setting now have))
 
   low : 1 ≤ after.current
   low = omega (arith, are.current, (bounded setting now have).first, is.current.rises)
@@ -474,7 +474,7 @@ settles_so setting now before after answer touched says have are is = (
   boots : SameBoots now after (length before.switches)
   boots s there = settled_boot before after answer s is there ∙ (are.each s there).boot
 
-  raises : (refined_acts_written now (acts.stamp_acts touched before after) ≡ current_items setting now)
+  raises : (refined_acts_written now (acts.controller_stamp_acts touched before after) ≡ current_items setting now)
       × AreMarksRefined setting one (record before { current = after.current })
   raises = raises_on setting now before after touched says are is.current.rises
       (rises_same setting now before after.current are is.current) boots
@@ -488,8 +488,8 @@ settles_so setting now before after answer touched says have are is = (
       is.count refl is.switches (λ s there. boots s there ∙ sym (same s there))
       (bounded setting two two_have)
 
-  retires : (refined_acts_written two (acts.controller_collect_acts before after) ≡ retired_items setting two)
-      × AreMarksRefined setting (two ++ retired_items setting two) after
+  retires : (refined_acts_written two (acts.controller_collect_acts before after) ≡ machine_retired_items setting two)
+      × AreMarksRefined setting (two ++ machine_retired_items setting two) after
   retires = retires_on setting two before after opens.1
       (is.retired ∙ retires_same setting two (record after { retired = before.retired }) opens.1)
       (behind setting two two_have) (λ s there. (opens.1.each s there).boot)

@@ -1,12 +1,12 @@
 -- One more step keeps the tie of a world to its journal.
 use Rattle.std.proofs.Common.{[], ◌++◌, ◌+◌, ◌<◌, ◌==◌, ◌∙◌, ◌∷◌, ◌≡◌, ◌≢◌, Bool, IsFalse, List, Option, ap, append-nil, arith, cond, eq-eqb, eqb-true, false, filter, get_or, get_or-set_other, get_or-set_same, inl, length, refl, set, subst, sym, true, unwrap_or, ℕ}
 use Rattle.base.proofs.Exports.{All-push}
-use Rattle.update_machine.specs.Exports.{Exit, JournalItemsHaveCauses, IsJournalReached, IsSetting, Item, Leg, LinkRow, NoneConcern, Seek, Setting, Step, StepOfRow, journal_after_steps, item_concerns_calls, concerns_controller, item_concerns_known, concerns_links, count_of, is_packet, journal_next_message, journal_next_packet, piece, targets_of}
+use Rattle.update_machine.specs.Exports.{Exit, JournalItemsHaveCauses, IsJournalReached, IsSetting, Item, Leg, LinkRow, NoneConcern, Seek, Setting, Step, StepOfRow, journal_after_steps, item_concerns_calls, concerns_controller, item_concerns_known, concerns_links, count_of, is_packet, journal_next_message, journal_next_packet, piece, journal_leg_targets}
 use Rattle.steps.specs.Exports.{IsStep}
 use Rattle.update_machine.proofs.Exports.{count_of_append, links_keep, near_stays, plan_stays}
-use Rattle.control_laws.specs.Exports.{HasControlItemCause, ServingHoldVersions, ServingIsKnown, StampsSayTouched, asks_controller}
+use Rattle.control_laws.specs.Exports.{HasControlItemCause, ServingHoldVersions, ServingIsKnown, StampsSayTouched, control_asks_controller}
 use Rattle.control_laws.proofs.Exports.{bodies_named, bounded, caused_known, caused_numbered, serving_hold, serving_known, stamps_touched, tables_planned, versions_planned}
-use Rattle.refinement.specs.Exports.{RefineUpLinks, RefineUsableLinks, IsRefinedBagOf, IsControllerOf, RefinedNetworkState, RefineJournal, RefinementTablesAreKnown, refined_flight_in, is_refined_up_link, refined_switch_of}
+use Rattle.refinement.specs.Exports.{RefineUpLinks, RefineUsableLinks, IsRefinedBagOf, IsRefinedController, RefinedNetworkState, RefineJournal, RefinementTablesAreKnown, refined_flight_in, is_refined_up_link, refined_switch_of}
 use Rattle.packet_laws.specs.Exports.{AllPacketFactsKept, IsPacketOnLeg, IsPacketOnWay, IsPacketServed, PacketFacts, packet_facts_of}
 use Rattle.packet_laws.proofs.Exports.{Before, IsSettled, all_kept, reached_settled, switches_of_all, travels_in}
 use Rattle.refinement.proofs.RefinedPacketFacts.{NoneName, by_targets, facts_all, flight_by, flight_now, unnamed}
@@ -100,7 +100,7 @@ travels_known setting journal i knows on = record {
 leg_targets : (setting : Setting) (journal items : List Item) (facts : PacketFacts) (leg : Leg)
     → Known setting journal → (on : IsPacketOnWay setting journal facts)
     → IsPacketOnLeg setting journal facts on.under_way.header leg
-    → targets_of setting (journal ++ items) leg ≡ targets_of setting journal leg
+    → journal_leg_targets setting (journal ++ items) leg ≡ journal_leg_targets setting journal leg
 leg_targets setting journal items facts (Seek version partition) knows on leg =
     cc (plan_stays setting journal items version (caused_numbered setting journal knows.caused)
     (omega (arith, leg.current, (bounded setting journal knows.caused).there)))
@@ -110,18 +110,18 @@ leg_targets setting journal items facts (Exit port) knows on leg = refl
 pub flight_stays : (setting : Setting) (journal items : List Item) (i : ℕ) → Known setting journal
     → NoneName i items → refined_flight_in setting (journal ++ items) i ≡ refined_flight_in setting journal i
 flight_stays setting journal items i knows none = flight_now setting (journal ++ items) i
-    ∙ ap (flight_by (targets_of setting (journal ++ items)) i)
+    ∙ ap (flight_by (journal_leg_targets setting (journal ++ items)) i)
     (facts_all i journal items ∙ unnamed i journal items (packet_facts_of journal i) none)
     ∙ by_travels (packet_facts_of journal i).travels refl ∙ sym (flight_now setting journal i)
   where
     by_travels : (b : Bool) → (packet_facts_of journal i).travels ≡ b
-        → flight_by (targets_of setting (journal ++ items)) i (packet_facts_of journal i)
-        ≡ flight_by (targets_of setting journal) i (packet_facts_of journal i)
+        → flight_by (journal_leg_targets setting (journal ++ items)) i (packet_facts_of journal i)
+        ≡ flight_by (journal_leg_targets setting journal) i (packet_facts_of journal i)
     by_travels false off = rw off refl
     by_travels true on =
         let way : IsPacketOnWay setting journal (packet_facts_of journal i) =
         (travels_known setting journal i knows on).way in
-        by_targets (targets_of setting (journal ++ items)) (targets_of setting journal) i
+        by_targets (journal_leg_targets setting (journal ++ items)) (journal_leg_targets setting journal) i
         (packet_facts_of journal i)
         (rw way.takes
         (leg_targets setting journal items (packet_facts_of journal i) way.leg knows way way.on_leg))
@@ -153,8 +153,8 @@ module _ {setting : Setting} {journal : List Item} {state : RefinedNetworkState}
   -- the controller, where the step isn't for it
   pub controller_stays : (row : ℕ) (step : Step) (items : List Item)
       → piece setting journal row step ≡ Item.Row row step ∷ items
-      → IsFalse (asks_controller journal step)
-      → IsControllerOf setting (stepped journal row step items) state.controller
+      → IsFalse (control_asks_controller journal step)
+      → IsRefinedController setting (stepped journal row step items) state.controller
   controller_stays row step items is not_told = rw is at (steps_leave setting journal row step
       state.controller (reached_known setting journal refines.sound refines.reached).caused not_told
       refines.controller)
@@ -203,7 +203,7 @@ pub record IsTaken (setting : Setting) (journal : List Item) (row : ℕ) (step :
   pub travels : (i : ℕ) → flight later.travelling i
       ≡ refined_flight_in setting (stepped journal row step items) i
   pub counted : later.packets ≡ state.packets + count_of is_packet (Item.Row row step ∷ items)
-  pub controller : IsControllerOf setting (stepped journal row step items) later.controller
+  pub controller : IsRefinedController setting (stepped journal row step items) later.controller
   pub bag : IsRefinedBagOf (stepped journal row step items) later.posts
   pub up : RefineUpLinks setting (stepped journal row step items) later.links
   pub usable : RefineUsableLinks setting (stepped journal row step items) later.near
@@ -213,7 +213,7 @@ pub record Steps (setting : Setting) (journal : List Item) (row : ℕ) (step : S
     (items : List Item) (switches others : List SwitchValue) (after : Flights) : Type 0 where
   pub may : IsStep setting.net (length setting.files) step
   pub piece_is : piece setting journal row step ≡ Item.Row row step ∷ items
-  pub not_told : IsFalse (asks_controller journal step)
+  pub not_told : IsFalse (control_asks_controller journal step)
   -- the messages that it sends have the next numbers
   pub sends : SendFrom (journal_next_message journal) items
   pub as_many : length others ≡ length switches

@@ -1,17 +1,17 @@
 -- What the submission of a plan writes, and its refusals.
 use Rattle.std.proofs.Common.{[], if◌then◌else◌, ◌++◌, ◌+◌, ◌-◌, ◌==◌, ◌∙◌, ◌∷◌, ◌≡◌, ◌≢◌, IsOk, List, None, Option, Some, ap, arith, eq-eqb, map, ne_eqb, not, refl, subst, sym, ℕ}
 use Rattle.base.proofs.Exports.{filter}
-use Rattle.update_machine.specs.Exports.{Item, Setting, Step, Update, setting_file_at, setting_hosted_or_none, journal_install_for, machine_installs_to_all, journal_items_then, journal_known_boot, journal_next_touched, piece, journal_plan_at, policy_at, policy_in, settling, submitted_items, switches_of, touched_of, machine_update_code, update_items, journal_version_count, journal_versions_from_current}
+use Rattle.update_machine.specs.Exports.{Item, Setting, Step, Update, setting_file_at, setting_hosted_or_none, journal_install_for, machine_installs_to_all, journal_items_then, journal_known_boot, journal_next_touched, piece, journal_plan_at, policy_at, policy_in, settling, submitted_items, setting_switches_of, touched_of, machine_update_code, machine_update_items, journal_version_count, journal_versions_from_current}
 use Rattle.update_machine.specs.Marks as machine
 use Rattle.update_machine.proofs.Exports.{controller_keeps, have_append, next_is, next_touched_is, planned_code, policies_keep}
 use Rattle.control_laws.specs.Exports.{HasControlItemCause, ControlSubmissionHasCause}
 use Rattle.control_laws.proofs.Exports.{caused_numbered, current_more, have_front, in_two, submitted_have}
 use Rattle.version_update.specs.Exports.{is_over, with_version}
-use Rattle.controller.specs.Exports.{ControllerValue, KeptPlan, PlanValue, ControllerSubmitsPlan, controller_recorded_boot, current_plan_touched, controller_install_act, next_kept_plan, submit_acts, controller_switches_by_record}
+use Rattle.controller.specs.Exports.{ControllerValue, KeptPlan, PlanValue, ControllerSubmitsPlan, controller_recorded_boot, current_plan_touched, controller_install_act, next_kept_plan, controller_submit_acts, controller_switches_by_record}
 use Rattle.controller.specs.Sends as acts
 use Rattle.controller.specs.declared.sends.Act.{Act}
 use Rattle.controller.specs.declared.sends.Act.TheVariants.{Post}
-use Rattle.refinement.specs.Exports.{AreMarksRefined, AreRefinedActsWritten, IsControllerOf, IsNextPlanRefined, refined_plan_to_keep, refined_acts_written}
+use Rattle.refinement.specs.Exports.{AreMarksRefined, AreRefinedActsWritten, IsRefinedController, IsNextPlanRefined, refined_plan_to_keep, refined_acts_written}
 use Rattle.refinement.proofs.RefinedControllerCalls.{are_written, behind_row, row_on}
 use Rattle.refinement.proofs.RefinedKeptController.{count_on, written_in_two}
 use Rattle.refinement.proofs.RefinedControllerPlans.{controller_on, plans_on, plans_pushed, settles_with}
@@ -46,7 +46,7 @@ code_of live count = if live == 8 then Some 16 else if count == 64 then Some 17 
 
 code_is : (setting : Setting) (journal : List Item)
     (file : ℕ) (plan : PlanValue) (touched : List WordValue) (old : ControllerValue)
-    → IsNextPlanRefined setting journal file plan touched → IsControllerOf setting journal old
+    → IsNextPlanRefined setting journal file plan touched → IsRefinedController setting journal old
     → machine_update_code setting journal file
     ≡ code_of (old.marks.count - old.marks.retired) old.marks.count
 code_is setting journal file plan touched old of is =
@@ -55,11 +55,11 @@ code_is setting journal file plan touched old of is =
     ∙ ap (λ r. code_of (journal_version_count journal - r) (journal_version_count journal)) is.marks.retired)
 
 refused : (setting : Setting) (before : List Item) (row file code : ℕ) (old : ControllerValue)
-    → AreCaused setting before → IsControllerOf setting before old
+    → AreCaused setting before → IsRefinedController setting before old
     → machine_update_code setting (before ++ Item.Row row (Update file) ∷ []) file ≡ Some code
     → AreRefinedActsWritten setting before (Item.Row row (Update file) ∷ Item.Refused file code ∷ []) [] old
     (piece setting before row (Update file))
-unfolding piece update_items
+unfolding piece machine_update_items
 refused setting before row file code old have is coded =
     let items : List Item = Item.Row row (Update file) ∷ Item.Refused file code ∷ [] in
     let here : List Item = before ++ Item.Row row (Update file) ∷ [] in
@@ -76,7 +76,7 @@ refused setting before row file code old have is coded =
 
 pub too_many_live : (setting : Setting) (before : List Item)
     (row file : ℕ) (old : ControllerValue) (plan : PlanValue) (touched : List WordValue)
-    → AreCaused setting before → IsControllerOf setting before old
+    → AreCaused setting before → IsRefinedController setting before old
     → IsNextPlanRefined setting before file plan touched → old.marks.count - old.marks.retired ≡ 8
     → AreRefinedActsWritten setting before (Item.Row row (Update file) ∷ Item.Refused file 16 ∷ []) [] old
     (piece setting before row (Update file))
@@ -88,7 +88,7 @@ too_many_live setting before row file old plan touched have is of live = refused
 
 pub too_many_versions : (setting : Setting) (before : List Item) (row file : ℕ)
     (old : ControllerValue) (plan : PlanValue) (touched : List WordValue)
-    → AreCaused setting before → IsControllerOf setting before old
+    → AreCaused setting before → IsRefinedController setting before old
     → IsNextPlanRefined setting before file plan touched
     → old.marks.count - old.marks.retired ≢ 8 → old.marks.count ≡ 64
     → AreRefinedActsWritten setting before (Item.Row row (Update file) ∷ Item.Refused file 17 ∷ []) [] old
@@ -104,7 +104,7 @@ too_many_versions setting before row file old plan touched have is of live count
 
 module _ (setting : Setting) (before : List Item) (row file : ℕ) (old new : ControllerValue)
     (plan : PlanValue) (touched : List WordValue) (have : AreCaused setting before)
-    (is : IsControllerOf setting before old) (of : IsNextPlanRefined setting before file plan touched)
+    (is : IsRefinedController setting before old) (of : IsNextPlanRefined setting before file plan touched)
     (live : old.marks.count - old.marks.retired ≢ 8) (few : old.marks.count ≢ 64)
     (taken : ControllerSubmitsPlan old (next_kept_plan old plan touched) new) where
   abbrev here : List Item
@@ -122,7 +122,7 @@ module _ (setting : Setting) (before : List Item) (row file : ℕ) (old new : Co
   here_have : AreCaused setting here
   here_have = behind_row setting before row (Update file) have
 
-  here_is : IsControllerOf setting here old
+  here_is : IsRefinedController setting here old
   here_is = row_on setting before row (Update file) old have is
 
   here_of : IsNextPlanRefined setting here file plan touched
@@ -185,7 +185,7 @@ module _ (setting : Setting) (before : List Item) (row file : ℕ) (old new : Co
   unfolding machine_installs_to_all
   one_marks = leave_on setting now (with_version old.marks)
       (journal_install_for setting now (journal_version_count now))
-      (filter (λ s. not (machine.is_over now s)) (switches_of setting)) (λ s. tt) now_marks
+      (filter (λ s. not (machine.is_over now s)) (setting_switches_of setting)) (λ s. tt) now_marks
 
   one_have : AreCaused setting one
   one_have = have_front (HasControlItemCause setting) [] one (settling setting one)
@@ -194,7 +194,7 @@ module _ (setting : Setting) (before : List Item) (row file : ℕ) (old new : Co
       (submitted_have setting now)))
 
   settled : (refined_acts_written one (acts.controller_settling_acts (current_plan_touched new) (with_version old.marks) new.marks)
-      ≡ settling setting one) × IsControllerOf setting (one ++ settling setting one) new
+      ≡ settling setting one) × IsRefinedController setting (one ++ settling setting one) new
   settled = settles_with setting one (with_version old.marks) (old.plans ++ kept ∷ []) new one_have
       one_marks
       (plans_on setting now (machine_installs_to_all setting now) (old.plans ++ kept ∷ []) now_have
@@ -202,10 +202,10 @@ module _ (setting : Setting) (before : List Item) (row file : ℕ) (old new : Co
       now_plans) taken
 
   behind_row_written : AreRefinedActsWritten setting before (Item.Row row (Update file)
-      ∷ Item.Submitted file version ∷ []) (submit_acts old.marks kept new) new
+      ∷ Item.Submitted file version ∷ []) (controller_submit_acts old.marks kept new) new
       (Item.Row row (Update file) ∷ Item.Submitted file version ∷ submitted_items setting now)
   behind_row_written = are_written setting before (Item.Row row (Update file))
-      (Item.Submitted file version) (submitted_items setting now) (submit_acts old.marks kept new)
+      (Item.Submitted file version) (submitted_items setting now) (controller_submit_acts old.marks kept new)
       new (written_in_two now (machine_installs_to_all setting) (settling setting) _
       (acts.controller_settling_acts (current_plan_touched new) (with_version old.marks) new.marks) installed
       settled.0) (rw (in_two (machine_installs_to_all setting) (settling setting) now) settled.1)
@@ -218,11 +218,11 @@ module _ (setting : Setting) (before : List Item) (row file : ℕ) (old new : Co
 
   pub submits : AreRefinedActsWritten setting before
       (Item.Row row (Update file) ∷ Item.Submitted file (old.marks.count + 1) ∷ [])
-      (submit_acts old.marks kept new) new (piece setting before row (Update file))
-  unfolding piece update_items
+      (controller_submit_acts old.marks kept new) new (piece setting before row (Update file))
+  unfolding piece machine_update_items
   submits =
       let first : List Item = Item.Row row (Update file) ∷ Item.Submitted file version ∷ [] in
-      let acts : List Act = submit_acts old.marks kept new in
+      let acts : List Act = controller_submit_acts old.marks kept new in
       subst (λ o. AreRefinedActsWritten setting before first acts new (Item.Row row (Update file) ∷ elim o [
         | Some code ↦ Item.Refused file code ∷ []
         | None ↦ journal_items_then

@@ -1,10 +1,10 @@
 -- What a body that a switch hears makes of its record.
 use Rattle.std.proofs.Common.{[], if◌then◌else◌, ◌&&◌, ◌++◌, ◌==◌, ◌||◌, ◌∙◌, ◌∷◌, ◌≡◌, ◌≢◌, Bool, List, None, Option, Some, ap, append-nil, arith, eq-eqb, false, filter_map, find, fold, get_or-set_other, is_some, max, nat_le, nat_lt, not, refl, set, sym, true, ℕ}
 use Rattle.base.proofs.Exports.{each_append, filter_map-append, fold-append, list_any, nat_tests, option_map_or, set_comm, ⊤}
-use Rattle.update_machine.specs.Exports.{Advert, Advertise, Body, CacheRule, Collect, Hello, Install, Installed, OpenAt, Setting, Stamp, Stamped, Tables, machine_cache_after, machine_cache_carried_from, journal_other_advert, raised_from, journal_stamp_in_body}
+use Rattle.update_machine.specs.Exports.{Advert, Advertise, Body, CacheRule, Collect, Hello, Install, Installed, OpenAt, Setting, Stamp, Stamped, Tables, machine_cache_after, machine_cache_carried_from, machine_advert_of_other, raised_from, machine_stamp_message_version}
 use Rattle.failover.specs.Exports.{adverts_after_hearing, held_advert, is_newer, is_news}
 use Rattle.failover.proofs.FailoverHeldAdverts.{after_no_news}
-use Rattle.switch_core.specs.Exports.{SwitchValue, switch_after_body, switch_collected_to, is_news_here, switch_stamp_raised_to, switch_stamped_with, switch_with_heard, with_installed}
+use Rattle.switch_core.specs.Exports.{SwitchValue, switch_after_body, switch_collected_to, is_news_to_switch, switch_stamp_raised_to, switch_stamped_with, switch_after_advert, switch_with_installed}
 use Rattle.switch_table.specs.Exports.{cache_after_carry, cache_after_raise}
 use Rattle.refinement.specs.Exports.{refined_collect_in, refined_tables_in, refined_with_tables}
 use Rattle.refinement.proofs.RefinedSwitchFacts.{AreVersioned, IsVersioned, SwitchFacts, above, above_more, above_twice, all_by, collected_by, filled, first_tables, found_above, others_by, stamp_by, switch_in, tables_are}
@@ -28,12 +28,12 @@ fold_one {X = X} {Y = Y} gives f start bodies body =
     by_given (Some x) is = rw is refl
 
 stamp_one : (first : Bool) (bodies : List Body) (body : Body) → stamp_by first (bodies ++ body ∷ [])
-    ≡ option_map_or (max (stamp_by first bodies)) (journal_stamp_in_body body) (stamp_by first bodies)
+    ≡ option_map_or (max (stamp_by first bodies)) (machine_stamp_message_version body) (stamp_by first bodies)
 stamp_one first bodies body = let begun : List ℕ = if first then 1 ∷ [] else [] in
-    fold-append max 0 begun (filter_map journal_stamp_in_body (bodies ++ body ∷ []))
-    ∙ fold_one journal_stamp_in_body max (fold max 0 begun) bodies body
-    ∙ ap (λ stamp. option_map_or (max stamp) (journal_stamp_in_body body) stamp)
-    (sym (fold-append max 0 begun (filter_map journal_stamp_in_body bodies)))
+    fold-append max 0 begun (filter_map machine_stamp_message_version (bodies ++ body ∷ []))
+    ∙ fold_one machine_stamp_message_version max (fold max 0 begun) bodies body
+    ∙ ap (λ stamp. option_map_or (max stamp) (machine_stamp_message_version body) stamp)
+    (sym (fold-append max 0 begun (filter_map machine_stamp_message_version bodies)))
 
 -- ---- the record
 
@@ -41,11 +41,11 @@ stamp_one first bodies body = let begun : List ℕ = if first then 1 ∷ [] else
 abbrev heard_as : (ℕ → List WordValue) → ℕ → ℕ → SwitchFacts → Body → ℕ → ℕ → List Tables
     → List (Option Advert) → SwitchValue
 heard_as touched_of s number w body stamp collected all others =
-    let after = option_map_or (max stamp) (journal_stamp_in_body body) stamp in
+    let after = option_map_or (max stamp) (machine_stamp_message_version body) stamp in
     let mark = option_map_or (max collected) (refined_collect_in body) collected in
     filled s (record w { cache = machine_cache_after touched_of stamp after number w.cache body }) after mark
     (above mark (option_map_or (refined_with_tables all) (refined_tables_in body) all))
-    (option_map_or (adverts_after_hearing others) (journal_other_advert s body) others)
+    (option_map_or (adverts_after_hearing others) (machine_advert_of_other s body) others)
 
 -- the switch before
 abbrev was : ℕ → SwitchFacts → ℕ → ℕ → List Tables → List (Option Advert) → SwitchValue
@@ -54,8 +54,8 @@ was s w stamp collected all others = filled s w stamp collected (above collected
 hears_tables : (s : ℕ) (w : SwitchFacts) (stamp collected boot : ℕ) (all : List Tables)
     (others : List (Option Advert)) (tables : Tables)
     → filled s w stamp collected (above collected (refined_with_tables all tables)) others
-    ≡ with_installed (was s w stamp collected all others) tables
-unfolding with_installed
+    ≡ switch_with_installed (was s w stamp collected all others) tables
+unfolding switch_with_installed
 hears_tables s w stamp collected boot all others tables =
     by_mark (nat_le tables.version collected) refl
   where
@@ -163,9 +163,9 @@ hears_beside others own s advert other =
 
 hears_advert : (s : ℕ) (w : SwitchFacts) (stamp collected : ℕ) (tables : List Tables)
     (others : List (Option Advert)) (advert : Advert) → filled s w stamp collected tables
-    (option_map_or (adverts_after_hearing others) (journal_other_advert s (Advertise advert)) others)
-    ≡ switch_with_heard (filled s w stamp collected tables others) advert
-unfolding switch_with_heard is_news_here
+    (option_map_or (adverts_after_hearing others) (machine_advert_of_other s (Advertise advert)) others)
+    ≡ switch_after_advert (filled s w stamp collected tables others) advert
+unfolding switch_after_advert is_news_to_switch
 hears_advert s w stamp collected tables others advert = by_origin (advert.origin == s) refl where
   switch : SwitchValue
   switch = filled s w stamp collected tables others
@@ -246,7 +246,7 @@ hears_facts setting touched_of s number w first body olds new says =
     ∙ ap (λ all. now after mark_after all (others_by setting s first more))
     (fold_one refined_tables_in refined_with_tables (if first then tables ∷ [] else []) w.bodies body)
     ∙ ap (now after mark_after (option_map_or (refined_with_tables all) (refined_tables_in body) all))
-    (fold_one (journal_other_advert s) adverts_after_hearing (others_by setting s first []) w.bodies body)
+    (fold_one (machine_advert_of_other s) adverts_after_hearing (others_by setting s first []) w.bodies body)
     ∙ hears touched_of s number w body stamp collected all others says
     ∙ ap (λ these. record (switch_after_body (filled s w stamp collected these others) number body) {
       is_open = w.serving;
@@ -271,7 +271,7 @@ hears_facts setting touched_of s number w first body olds new says =
     others = others_by setting s first w.bodies
 
     after : ℕ
-    after = option_map_or (max stamp) (journal_stamp_in_body body) stamp
+    after = option_map_or (max stamp) (machine_stamp_message_version body) stamp
 
     mark_after : ℕ
     mark_after = option_map_or (max collected) (refined_collect_in body) collected

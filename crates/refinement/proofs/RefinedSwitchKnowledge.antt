@@ -1,16 +1,16 @@
 -- What a switch has and knows is what the journal says.
 use Rattle.std.proofs.Common.{[], ◌&&◌, ◌++◌, ◌-◌, ◌<◌, ◌==◌, ◌^◌, ◌||◌, ◌∙◌, ◌∷◌, ◌≡◌, ◌≤◌, All, Bool, IfSome, IsSomeAnd, IsTrue, List, None, Option, Some, ap, arith, eq-eqb, eqb-true, false, filter, filter_map, find, fold, get_or, if◌then◌else◌, is_some, length, map, not, refl, slice_get, subst, sym, true, unwrap_or, ℕ}
 use Rattle.base.proofs.Exports.{All-contains, All-from_recursion, AllByRecursion, and_parts, any_passes_from_place, each_kept, find-there, get_or-map, length-map, list_any, list_any-append, nat_tests, or-false, or_assoc, or_comm, recursion_from_All, slice_get-get_or}
-use Rattle.update_machine.specs.Exports.{Body, Exit, Header, Install, Item, Leg, Partition, Row, Seek, Setting, Tables, journal_boot_of, journal_collects_version, heard, holds_version as holds_in, installs_version, is_cut_off_in_journal, is_up, lookup_at, message_of, journal_plan_at, policy_at, journal_route_from, serves as serves_in, journal_stamp_of, journal_tables_at, machine_message_to_switch, journal_version_count}
+use Rattle.update_machine.specs.Exports.{Body, Exit, Header, Install, Item, Leg, Partition, Row, Seek, Setting, Tables, journal_boot_of, is_collect_message_of_version, heard, holds_version as holds_in, installs_version, is_cut_off_in_journal, is_up, lookup_at, journal_message_of, journal_plan_at, policy_at, journal_route_from, serves as serves_in, journal_stamp_of, journal_tables_at, machine_message_to_switch, journal_version_count}
 use Rattle.partition.specs.Plan.{IsPartitionPlan}
-use Rattle.switch_core.specs.Exports.{CanSwitchLookUp, IsAtAuthoritySwitch, IsBodySoundForSwitch, SwitchValue, held_tables, holds_version, no_switch_tables, own_part, serves}
+use Rattle.switch_core.specs.Exports.{CanSwitchLookUp, IsSwitchAuthorityForLeg, IsSoundSwitchBody, SwitchValue, held_tables, holds_version, no_switch_tables, own_part, serves}
 use Rattle.switch_table.specs.Exports.{AreSoundSwitchTables, Hosted, has_target, lookup_of, part_of, tables_of}
 use Rattle.switch_table.proofs.SwitchTableLemmas.{tables_are_sound}
 use Rattle.update_machine.proofs.Exports.{begins_planned, first_plan_stays, version_is_planned}
 use Rattle.control_laws.specs.Exports.{MessageBringsPlannedTables, LegEndsAt, ServingHoldVersions}
 use Rattle.refinement.specs.Exports.{KnowledgeRefines, RefinementRequirementsHold, RefinementTablesAreKnown, refined_switch_of, refined_tables_in, refined_with_tables}
 use Rattle.refinement.proofs.RefinedSwitchFacts.{all_by, came_by, first_tables, stamp_shown, switch_is, with_each}
-use Rattle.policy_rules.specs.Exports.{ArePartsNumbered, is_in_policy_partition}
+use Rattle.policy_rules.specs.Exports.{ArePolicyPartitionsNumbered, is_in_policy_partition}
 use Rattle.switch_core.proofs.SwitchLaws.{heard_keeps}
 
 -- ---- which versions it has
@@ -91,7 +91,7 @@ twice false b = refl
 
 holds_facts : (journal : List Item) (s v : ℕ) → holds_in journal s v
     ≡ (came_by (is_up journal s && journal_boot_of journal s == 1) (heard journal s) v
-    && not (list_any (journal_collects_version v) (heard journal s)))
+    && not (list_any (is_collect_message_of_version v) (heard journal s)))
 unfolding holds_in
 holds_facts journal s v = refl
 
@@ -101,11 +101,11 @@ held_shown setting journal s v =
     let first : Bool = is_up journal s && journal_boot_of journal s == 1 in
     let bodies : List Body = heard journal s in
     let kept : ℕ → Bool = λ u. came_by first bodies u
-    && not (list_any (journal_collects_version u) bodies) in
+    && not (list_any (is_collect_message_of_version u) bodies) in
     ap (λ (switch : SwitchValue). holds_version switch v) (switch_is setting journal s)
     ∙ found_in kept v (all_by (first_tables setting s) first bodies)
     ∙ ap (λ b. b && kept v) (all_came (first_tables setting s) first bodies v refl)
-    ∙ twice (came_by first bodies v) (not (list_any (journal_collects_version v) bodies))
+    ∙ twice (came_by first bodies v) (not (list_any (is_collect_message_of_version v) bodies))
     ∙ sym (holds_facts journal s v)
 
 -- ---- plans
@@ -169,7 +169,7 @@ all_planned setting journal s known =
     let P : Tables → Type 0 = IsPlanned setting journal s in
     subst (All P) (sym (ap (λ (switch : SwitchValue). switch.tables) (switch_is setting journal s)))
     (All-from_recursion P _ (each_kept P (λ tables. came_by first bodies tables.version
-    && not (list_any (journal_collects_version tables.version) bodies)) (all_by (first_tables setting s)
+    && not (list_any (is_collect_message_of_version tables.version) bodies)) (all_by (first_tables setting s)
     first bodies) (with_each P (if first then first_tables setting s ∷ [] else [])
     (filter_map refined_tables_in bodies) (begun first) (brought setting journal s bodies
     (recursion_from_All (MessageBringsPlannedTables setting journal s) bodies (known.tables.heard s))))))
@@ -234,8 +234,8 @@ knowledge_refines = record {
 -- ---- tables
 
 sound_body : (setting : Setting) (journal : List Item) (n s : ℕ) (body : Body)
-    → RefinementTablesAreKnown setting journal → message_of journal n ≡ Some (machine_message_to_switch s body)
-    → IsBodySoundForSwitch body
+    → RefinementTablesAreKnown setting journal → journal_message_of journal n ≡ Some (machine_message_to_switch s body)
+    → IsSoundSwitchBody body
 sound_body setting journal n s (Install boot tables) known sent =
     let are = known.tables.sent s boot n tables sent in
     subst AreSoundSwitchTables (sym are.planned)
@@ -289,7 +289,7 @@ own_found P s partition (hosted ∷ plan) all there = by_test (own_found P s par
 
 -- a partition of this number is the one at its place
 one_of_number : (P : Partition → Type 0) (plan : List Hosted) (partition : ℕ) (hosted : Hosted)
-    → ArePartsNumbered (map part_of plan) → slice_get plan partition ≡ Some hosted
+    → ArePolicyPartitionsNumbered (map part_of plan) → slice_get plan partition ≡ Some hosted
     → P (part_of hosted) → All (λ each. each.0.number ≡ partition → P (part_of each)) plan
 one_of_number P plan partition hosted numbers there holds k d within is =
     let each : Hosted = get_or plan k d in
@@ -303,7 +303,7 @@ one_of_number P plan partition hosted numbers there holds k d within is =
 
 -- so what is true of a partition of a plan is true of the one that a target has by its number
 pub own_has : (P : Partition → Type 0) (plan : List Hosted) (s version partition : ℕ)
-    (hosted : Hosted) → ArePartsNumbered (map part_of plan)
+    (hosted : Hosted) → ArePolicyPartitionsNumbered (map part_of plan)
     → slice_get plan partition ≡ Some hosted → hosted.0.number ≡ partition
     → IsTrue (has_target s hosted) → P (part_of hosted)
     → IsSomeAnd (own_part (tables_of plan version s) partition) P
@@ -315,7 +315,7 @@ own_has P plan s version partition hosted numbers there number target holds = ow
 
 at_leg : (setting : Setting) (journal : List Item) (s : ℕ) (header : Header) (leg : Leg)
     → RefinementTablesAreKnown setting journal → LegEndsAt setting journal s header leg
-    → IsAtAuthoritySwitch (refined_switch_of setting journal s) header leg
+    → IsSwitchAuthorityForLeg (refined_switch_of setting journal s) header leg
 at_leg setting journal s header (Exit port) known ends = tt
 at_leg setting journal s header (Seek version partition) known sought =
     by_held (held_tables (refined_switch_of setting journal s) version) refl

@@ -1,7 +1,7 @@
 -- One more step of a journal, and the calls that it counts.
 use Rattle.std.proofs.Common.{[], if◌then◌else◌, ◌++◌, ◌+◌, ◌==◌, ◌∙◌, ◌∷◌, ◌≡◌, Bool, List, ap, append-nil, append_assoc, arith, cond, false, min, refl, sum_by, sym, true, ℕ}
 use Rattle.base.proofs.Exports.{sum_by-cons}
-use Rattle.update_machine.specs.Exports.{Header, Hop, Item, NoneConcern, Packet, Setting, Step, StepItems, item_changes_steps, item_concerns_known, count_of, folded_journal_from, journal_handled_count, journal_hop_calls, is_machine_entry_at, most_journal_handled, journal_stays_on_way, journal_steps_in, journal_travels_at}
+use Rattle.update_machine.specs.Exports.{Header, Hop, Item, NoneConcern, Packet, Setting, Step, StepItems, item_changes_steps, item_concerns_known, count_of, folded_journal_from, journal_handled_count, journal_hop_calls, is_machine_entry_at, most_journal_handled, journal_hop_stays_on_way, journal_steps_in, journal_travels_at}
 use Rattle.switch_core.specs.Exports.{SwitchValue, switch_call_counted}
 use Rattle.update_machine.proofs.Exports.{count_of_append, folded_append}
 use Rattle.refinement.specs.Exports.{AreRefinedInStep, CallsRefine, IsRefinedInStep, BeginsNoRefinedStep, NoRefinedRows, refined_switch_of}
@@ -163,11 +163,11 @@ came_in setting before row s t header one items begins all is apart =
 went_on : (setting : Setting) (before : List Item) (row i t : ℕ) (items : List Item)
     → AreRefinedInStep items → NoneConcern (item_concerns_known t) before (Item.Row row (Hop i) ∷ items)
     → refined_switch_of setting (before ++ Item.Row row (Hop i) ∷ items) t ≡ (if journal_travels_at before t i
-    then (if journal_stays_on_way items then switch_call_counted (refined_switch_of setting before t)
+    then (if journal_hop_stays_on_way items then switch_call_counted (refined_switch_of setting before t)
     else switch_call_counted (switch_call_counted (refined_switch_of setting before t))) else refined_switch_of setting before t)
 went_on setting before row i t items all apart =
     called_by setting before row t (Hop i) items (no_rows items all) apart
-    ∙ by_test (journal_travels_at before t i) refl (journal_stays_on_way items) refl
+    ∙ by_test (journal_travels_at before t i) refl (journal_hop_stays_on_way items) refl
   where
     switch : SwitchValue
     switch = refined_switch_of setting before t
@@ -175,12 +175,12 @@ went_on setting before row i t items all apart =
     calls : ℕ
     calls = calls_in t before (Item.Row row (Hop i) ∷ items)
 
-    calls_are : calls ≡ (if journal_travels_at before t i then (if journal_stays_on_way items then 1 else 2) else 0)
+    calls_are : calls ≡ (if journal_travels_at before t i then (if journal_hop_stays_on_way items then 1 else 2) else 0)
     calls_are =
         let first = sum_by-cons (λ x. cond (is_machine_entry_at t x) 1 0) (Item.Row row (Hop i)) items in
         omega (arith, no_entries t items all, first)
 
-    by_test : (b : Bool) → journal_travels_at before t i ≡ b → (c : Bool) → journal_stays_on_way items ≡ c
+    by_test : (b : Bool) → journal_travels_at before t i ≡ b → (c : Bool) → journal_hop_stays_on_way items ≡ c
         → record switch { handled = min most_journal_handled (switch.handled + calls) }
         ≡ (if b then (if c then switch_call_counted switch else switch_call_counted (switch_call_counted switch)) else switch)
     by_test true at true stays = one_call switch calls (calls_are ∙ rw (at, stays) refl)

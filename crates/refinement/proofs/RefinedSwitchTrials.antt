@@ -1,7 +1,7 @@
 -- What journals say about a switch and its calls, computed on journals of few items.
 use Rattle.std.proofs.Common.{[], ◌++◌, ◌∙◌, ◌∷◌, ◌≡◌, List, None, Some, ap, false, map, nat_eq, refl, slice_get, subst, sym, true, ℕ}
 use Rattle.base.proofs.Exports.{list_any}
-use Rattle.update_machine.specs.Exports.{Body, Collect, Drop, Install, Item, Out, Seek, Step, journal_boot_of, journal_cache_of, journal_usable_links_changed, heard, holds_version, is_link_up_in_journal, is_up, message_of, near, journal_own_seq, serves, journal_stamp_of, journal_steps_in}
+use Rattle.update_machine.specs.Exports.{Body, Collect, Drop, Install, Item, Out, Seek, Step, journal_boot_of, journal_cache_of, journal_usable_links_changed, heard, holds_version, is_link_up_in_journal, is_up, journal_message_of, near, journal_own_seq, serves, journal_stamp_of, journal_steps_in}
 use Rattle.base.specs.Exports.{small_number_mask, number_set_where, switches}
 use Rattle.switch_table.specs.Exports.{Hosted}
 use Rattle.ternary.specs.Exports.{holds}
@@ -23,7 +23,7 @@ abbrev installed : List Item
 installed = told 1 (install 3) ++ told 2 (install 2) ++ told 3 (install 3)
 
 in_order : map (λ tables. tables.version) (refined_tables_kept open_net installed 0) ≡ 1 ∷ 3 ∷ 2 ∷ []
-unfolding holds_version heard is_up journal_boot_of message_of
+unfolding holds_version heard is_up journal_boot_of journal_message_of
 in_order = refl
 
 -- up to the collect mark they go, which a lower one leaves as it is
@@ -31,27 +31,27 @@ abbrev collected : List Item
 collected = installed ++ told 4 (Collect 1 2) ++ told 5 (Collect 1 1)
 
 mark_2 : (refined_switch_of open_net collected 0).collected ≡ 2
-unfolding refined_switch_of heard is_up journal_boot_of message_of
+unfolding refined_switch_of heard is_up journal_boot_of journal_message_of
 mark_2 = refl
 
 third_is_left : map (λ tables. tables.version) (refined_tables_kept open_net collected 0) ≡ 3 ∷ []
-unfolding holds_version heard is_up journal_boot_of message_of
+unfolding holds_version heard is_up journal_boot_of journal_message_of
 third_is_left = refl
 
 -- tables of another boot aren't kept, nor those that came to another switch
 not_of_boot_2 : map (λ tables. tables.version)
     (refined_tables_kept open_net (told 1 (Install 2 (tables_of plan_p 2 0))) 0) ≡ 1 ∷ []
-unfolding holds_version heard is_up journal_boot_of message_of
+unfolding holds_version heard is_up journal_boot_of journal_message_of
 not_of_boot_2 = refl
 
 none_in_boot_2 :
     (refined_switch_of open_net (installed ++ Item.Down 0 ∷ Item.Booted 0 2 ∷ []) 0).tables ≡ []
-unfolding refined_switch_of holds_version heard is_up journal_boot_of message_of
+unfolding refined_switch_of holds_version heard is_up journal_boot_of journal_message_of
 none_in_boot_2 = refl
 
 -- no cached rule is there whose time may be up
 no_entry : refined_message_at open_net installed 0 0 ≡ None
-unfolding refined_switch_of journal_cache_of heard is_up journal_boot_of message_of journal_stamp_of
+unfolding refined_switch_of journal_cache_of heard is_up journal_boot_of journal_message_of journal_stamp_of
 no_entry = refl
 
 -- ---- links

@@ -1,7 +1,7 @@
 -- How long the spelling of small tables is.
 use Rattle.std.proofs.Common.{[], ◌++◌, ◌<◌, ◌^◌, ◌∙◌, ◌≡◌, ◌≤◌, All, List, Some, ap, arith, filter, flat_map, get_or, length, length-append, map, not, refl, subst, sym, ℕ}
 use Rattle.base.proofs.Exports.{All-filter, All-map, each_short, get_or-map, length-filter_both, length-map}
-use Rattle.update_machine.specs.Exports.{Advertise, Body, Hello, Install, Installed, IsJournalReached, IsSetting, Item, Net, PartRow, Partition, Place, Row, Rule, Setting, Stamp, Stamped, Tables, message_of, journal_plan_at, machine_message_to_switch}
+use Rattle.update_machine.specs.Exports.{Advertise, Body, Hello, Install, Installed, IsJournalReached, IsSetting, Item, Net, PartRow, Partition, Place, Row, Rule, Setting, Stamp, Stamped, Tables, journal_message_of, journal_plan_at, machine_message_to_switch}
 use Rattle.wire.specs.Exports.{AreWireShort, AreSwitches, action, install_form, message, n1, n4, partition, region, rule, rule_name, wire_spelled_number, switch, tables, wire_target_count, targets, word}
 use Rattle.wire.proofs.WireFrameBytes.{length_n4}
 use Rattle.message_bag.proofs.BagSpellingLengths.{action_len, alone_short, length_message, rule_len, stamp_sent_short, word_len}
@@ -9,7 +9,7 @@ use Rattle.net_file.specs.Exports.{IsNet}
 use Rattle.partition.specs.Plan.{Hosted, IsPartitionPlan}
 use Rattle.switch_table.specs.Exports.{has_target, part_of, row_of, tables_of}
 use Rattle.message_bag.specs.Exports.{HasShortBagSpelling}
-use Rattle.control_laws.specs.Exports.{AdvertsAreOfSwitches, ControlBodiesNameThere, IsControlMessageAddressed, StampsSayTouched, TablesArePlanned, ControlVersionsArePlanned, stamp_message_to}
+use Rattle.control_laws.specs.Exports.{ControlAdvertsAreOfSwitches, ControlBodiesNameThere, IsControlMessageAddressed, StampsSayTouched, ControlTablesArePlanned, ControlVersionsArePlanned, control_stamp_message_to}
 use Rattle.control_laws.proofs.Exports.{always, behind_both, bodies_named, of_switches, stamps_touched, tables_planned, versions_planned}
 use Rattle.update_machine.proofs.Exports.{begins_planned, touched_few}
 use Rattle.packet_laws.proofs.Exports.{version_planned}
@@ -168,19 +168,19 @@ module _ (setting : Setting) (journal : List Item) (is : IsSetting setting)
   names : ControlBodiesNameThere setting journal
   names = bodies_named.reached setting journal reached is.net
 
-  adverts : AdvertsAreOfSwitches setting journal
-  adverts = subst (AdvertsAreOfSwitches setting) (sym reached.written)
+  adverts : ControlAdvertsAreOfSwitches setting journal
+  adverts = subst (ControlAdvertsAreOfSwitches setting) (sym reached.written)
       ((behind_both _ of_switches).ends.stepped setting reached.steps is.net)
 
   versions : ControlVersionsArePlanned setting journal
   versions = subst (ControlVersionsArePlanned setting) (sym reached.written)
       ((always _ versions_planned).behind.ends.stepped setting reached.steps)
 
-  planned : TablesArePlanned setting journal
+  planned : ControlTablesArePlanned setting journal
   planned = rw reached.written ((always _ tables_planned).behind.ends.stepped setting reached.steps)
 
   installed : (n s boot : ℕ) (t : Tables)
-      → message_of journal n ≡ Some (machine_message_to_switch s (Install boot t)) → AreWireShort t × AreSmall t
+      → journal_message_of journal n ≡ Some (machine_message_to_switch s (Install boot t)) → AreWireShort t × AreSmall t
   installed n s boot t sent =
       let own = planned.sent s boot n t sent in
       let plan = version_planned setting journal t.version is
@@ -195,7 +195,7 @@ module _ (setting : Setting) (journal : List Item) (is : IsSetting setting)
   touches = rw reached.written ((always _ stamps_touched).behind.ends.stepped setting reached.steps)
 
   few : (n s boot version : ℕ) (touched : List WordValue)
-      → message_of journal n ≡ Some (stamp_message_to s boot version touched) → length touched ≤ 16
+      → journal_message_of journal n ≡ Some (control_stamp_message_to s boot version touched) → length touched ≤ 16
   few n s boot version touched sent = rw ((touches.sent n s boot version touched sent).says)
       (touched_few setting journal version)
 
@@ -203,7 +203,7 @@ module _ (setting : Setting) (journal : List Item) (is : IsSetting setting)
   below s there = omega (arith, there, is.net.few_switches)
 
   spelled : (n : ℕ) (to : Place) (body : Body)
-      → message_of journal n ≡ Some (record { to = to; body = body }) → IsControlMessageAddressed setting to body
+      → journal_message_of journal n ≡ Some (record { to = to; body = body }) → IsControlMessageAddressed setting to body
       → HasShortBagSpelling (record { to = to; body = body })
   spelled n (Place.Switch s) (Install boot t) sent named =
       let its = installed n s boot t sent in record {

@@ -3,12 +3,12 @@ use Rattle.std.proofs.Common.{[], ◌&&◌, ◌++◌, ◌<◌, ◌==◌, ◌||�
 use Rattle.base.proofs.Exports.{get_or-map-range_with_len, list_all, range_with_len}
 use Rattle.controller.specs.Exports.{ControllerValue, PlanValue, controller_at_start, kept_plan_tables}
 use Rattle.switch_table.specs.Exports.{lookup_of, tables_of}
-use Rattle.update_machine.specs.Exports.{Action, Cause, Exit, Header, Item, JournalKnownKeeps, Leg, Net, NoAuthority, NoRoute, Ports, Seek, Setting, JournalSwitchKeeps, Tables, journal_stuck_cause_at, concerns_links, item_concerns_policies, concerns_switch, journal_decision_of, end_items, journal_found_down, journal_packet_header, holds_version as holds_in, is_cut_off_in_journal, is_up, journal_leaving_item as left, machine_leg_items, lookup_at, near, no_switch, owner, journal_plan_at, journal_route_from, serves as serves_in, journal_stamp_of, journal_tables_at, takes_route, targets_of}
+use Rattle.update_machine.specs.Exports.{Action, Cause, Exit, Header, Item, JournalKnownKeeps, Leg, Net, NoAuthority, NoRoute, Ports, Seek, Setting, JournalSwitchKeeps, Tables, journal_stuck_cause_at, concerns_links, item_concerns_policies, concerns_switch, journal_decision_of, machine_end_items, journal_found_down, journal_packet_header, holds_version as holds_in, is_cut_off_in_journal, is_up, journal_leaving_item as left, machine_leg_items, lookup_at, near, no_switch, owner, journal_plan_at, journal_route_from, serves as serves_in, journal_stamp_of, journal_tables_at, machine_takes_route, journal_leg_targets}
 use Rattle.failover.proofs.FailoverHeldAdverts.{by_origin-first, held-first}
 use Rattle.failover.specs.Exports.{first_advert, first_adverts, first_of, is_isolated, route_of}
-use Rattle.net_file.specs.Exports.{ArePortOwners, IsNet, links_of, net_port_owner, port_owner}
+use Rattle.net_file.specs.Exports.{AreNetPortOwners, IsNet, links_of, net_port_owner, owner_in_net_ports}
 use Rattle.world_log.specs.Exports.{AreLogNearMasks, log_end_item, log_left_item, log_set_item}
-use Rattle.switch_core.specs.Exports.{SwitchValue, are_isolated, around, switch_call_counted, switch_stuck_cause, exit_by_switch, held_tables, holds_version, leave_by_switch, next_of, no_switch_tables, serves, set_out, stamp_tables}
+use Rattle.switch_core.specs.Exports.{SwitchValue, are_isolated, around, switch_call_counted, switch_stuck_cause, switch_exit_by_tunnel, held_tables, holds_version, switch_leave_by_port, next_of, no_switch_tables, serves, set_out, stamp_tables}
 use Rattle.refinement.specs.Exports.{refined_switch_of}
 use Rattle.refinement.proofs.RefinedSwitchKnowledge.{knowledge_refines, open_shown}
 use Rattle.refinement.proofs.RefinedSwitchFacts.{number_shown, stamp_shown}
@@ -175,19 +175,19 @@ all_same one other same (x ∷ xs) = cc (same x, all_same one other same xs)
 pub cause_law : (setting : Setting) (journal : List Item) (s : ℕ) (w : SwitchValue) (mask : ℕ)
     → Sees setting journal s w mask → (down : List ℕ) (leg : Leg)
     → journal_stuck_cause_at setting journal s down leg
-    ≡ switch_stuck_cause w mask down leg (targets_of setting journal leg)
+    ≡ switch_stuck_cause w mask down leg (journal_leg_targets setting journal leg)
 unfolding switch_stuck_cause are_isolated
 cause_law setting journal s w mask sees down (Seek version partition) =
     ap (λ b. if b then NoAuthority else NoRoute) (all_same (is_cut_off_in_journal setting journal s down)
     (λ target. is_isolated w.database w.number target mask down) (λ target. sym
-    (sees.cut_off target down)) (targets_of setting journal (Seek version partition)))
+    (sees.cut_off target down)) (journal_leg_targets setting journal (Seek version partition)))
 cause_law setting journal s w mask sees down (Exit port) = refl
 
 -- by the route that the switch knows
 by_route : (s : ℕ) (packet : Packet) (leg : Leg) (targets : List ℕ)
     (cause : Cause) (route : Option (List ℕ)) → elim route [
       | None ↦ Item.Stuck packet.number s cause leg packet.down ∷ []
-      | Some way ↦ takes_route packet.number leg way ∷ []
+      | Some way ↦ machine_takes_route packet.number leg way ∷ []
     ]
     ≡ log_set_item (at_switch s packet) leg (ok_or (option_map (λ way.
     tunnel_begun packet.number packet.header packet.ingress leg targets way packet.down) route) cause)
@@ -198,14 +198,14 @@ by_route s packet leg targets cause (Some route) = refl
 pub leg_law : (setting : Setting) (journal : List Item) (s : ℕ) (w : SwitchValue) (mask : ℕ)
     → Sees setting journal s w mask → (packet : Packet) → journal_found_down journal packet.number
     ≡ packet.down → (leg : Leg) → machine_leg_items setting journal packet.number s leg
-    ≡ log_set_item (at_switch s packet) leg (set_out w mask packet leg (targets_of setting journal leg))
+    ≡ log_set_item (at_switch s packet) leg (set_out w mask packet leg (journal_leg_targets setting journal leg))
     ∷ []
 unfolding machine_leg_items set_out
 leg_law setting journal s w mask sees packet found leg =
-    let targets : List ℕ = targets_of setting journal leg in
+    let targets : List ℕ = journal_leg_targets setting journal leg in
     let by : Cause → List ℕ → Option (List ℕ) → List Item = λ cause down route. elim route [
       | None ↦ Item.Stuck packet.number s cause leg down ∷ []
-      | Some way ↦ takes_route packet.number leg way ∷ []
+      | Some way ↦ machine_takes_route packet.number leg way ∷ []
     ] in
     ap (λ down. by (journal_stuck_cause_at setting journal s down leg) down
     (journal_route_from setting journal s targets down)) found
@@ -231,7 +231,7 @@ pub record IsDecided (journal : List Item) (packet : Packet) (decision : Decided
 
 exit_item : (at : Standing) (decision : Decided) (port : ℕ) (way : Result TunnelValue Cause)
     → decision.action ≡ Action.Out port
-    → log_set_item at (Exit port) way ≡ log_end_item at decision (exit_by_switch way)
+    → log_set_item at (Exit port) way ≡ log_end_item at decision (switch_exit_by_tunnel way)
 exit_item at decision port (Ok tunnel) is = refl
 exit_item at decision port (Err cause) is = rw is refl
 
@@ -240,9 +240,9 @@ out_law : (setting : Setting) (journal : List Item) (s : ℕ) (w : SwitchValue) 
     → Sees setting journal s w mask → (packet : Packet) (decision : Decided)
     → IsDecided journal packet decision → (port its : ℕ) → decision.action ≡ Action.Out port
     → owner setting port ≡ its → (b : Bool) → (its == s) ≡ b
-    → end_items setting packet.number s (Action.Out port) journal
-    ≡ log_end_item (at_switch s packet) decision (leave_by_switch w mask packet port (Some its)) ∷ []
-unfolding end_items leave_by_switch
+    → machine_end_items setting packet.number s (Action.Out port) journal
+    ≡ log_end_item (at_switch s packet) decision (switch_leave_by_port w mask packet port (Some its)) ∷ []
+unfolding machine_end_items switch_leave_by_port
 out_law setting journal s w mask sees packet decision said port its acts owns true here =
     let i : ℕ = packet.number in
     let way : Result TunnelValue Cause = set_out w mask packet (Exit port) (its ∷ []) in
@@ -252,7 +252,7 @@ out_law setting journal s w mask sees packet decision said port its acts owns tr
     ]) (ap (λ o. o == s) owns ∙ here)
     ∙ ap (λ one. one ∷ []) (rw (said.entered, said.decided) refl)
     ∙ sym (ap (λ b. log_end_item (at_switch s packet) decision
-    (if b then next.Out port else exit_by_switch way) ∷ []) (ap (λ n. its == n) sees.number ∙ here))
+    (if b then next.Out port else switch_exit_by_tunnel way) ∷ []) (ap (λ n. its == n) sees.number ∙ here))
 out_law setting journal s w mask sees packet decision said port its acts owns false here =
     let at : Standing = at_switch s packet in
     let i : ℕ = packet.number in
@@ -264,16 +264,16 @@ out_law setting journal s w mask sees packet decision said port its acts owns fa
     ∙ leg_law setting journal s w mask sees packet said.found (Exit port)
     ∙ ap (λ o. log_set_item at (Exit port) (set_out w mask packet (Exit port) (o ∷ [])) ∷ []) owns
     ∙ ap (λ one. one ∷ []) (exit_item at decision port way acts)
-    ∙ sym (ap (λ b. log_end_item at decision (if b then next.Out port else exit_by_switch way) ∷ [])
+    ∙ sym (ap (λ b. log_end_item at decision (if b then next.Out port else switch_exit_by_tunnel way) ∷ [])
     (ap (λ n. its == n) sees.number ∙ here))
 
 -- a port that no switch has
 portless_law : (setting : Setting) (journal : List Item) (s : ℕ) (w : SwitchValue) (mask : ℕ)
     → s < 64 → (packet : Packet) (decision : Decided) → IsDecided journal packet decision
     → (port : ℕ) → decision.action ≡ Action.Out port → net_port_owner setting.net.switches port ≡ None
-    → end_items setting packet.number s (Action.Out port) journal
-    ≡ log_end_item (at_switch s packet) decision (leave_by_switch w mask packet port None) ∷ []
-unfolding leave_by_switch
+    → machine_end_items setting packet.number s (Action.Out port) journal
+    ≡ log_end_item (at_switch s packet) decision (switch_leave_by_port w mask packet port None) ∷ []
+unfolding switch_leave_by_port
 portless_law setting journal s w mask there packet decision said port acts none =
     let i : ℕ = packet.number in
     known_link_laws.portless setting journal i s port there none
@@ -282,22 +282,22 @@ portless_law setting journal s w mask there packet decision said port acts none 
 
 pub end_law : (setting : Setting) (journal : List Item) (s : ℕ) (w : SwitchValue) (mask : ℕ)
     → Sees setting journal s w mask
-    → s < 64 → (ports : Ports) → ArePortOwners setting.net.switches ports
+    → s < 64 → (ports : Ports) → AreNetPortOwners setting.net.switches ports
     → (packet : Packet) (decision : Decided) → IsDecided journal packet decision
-    → (what : Action) → decision.action ≡ what → end_items setting packet.number s what journal
+    → (what : Action) → decision.action ≡ what → machine_end_items setting packet.number s what journal
     ≡ log_end_item (at_switch s packet) decision (next_of w (around mask ports) packet what) ∷ []
-unfolding end_items next_of
+unfolding machine_end_items next_of
 end_law setting journal s w mask sees there ports owners packet decision said Action.Drop acts =
     refl
 end_law setting journal s w mask sees there ports owners packet decision said (Action.Out port)
     acts = by_owner (net_port_owner setting.net.switches port) refl
   where
     at_owner : Option ℕ → Item
-    at_owner o = log_end_item (at_switch s packet) decision (leave_by_switch w mask packet port o)
+    at_owner o = log_end_item (at_switch s packet) decision (switch_leave_by_port w mask packet port o)
 
     by_owner : (o : Option ℕ) → net_port_owner setting.net.switches port ≡ o
-        → end_items setting packet.number s (Action.Out port) journal
-        ≡ at_owner (port_owner ports port) ∷ []
+        → machine_end_items setting packet.number s (Action.Out port) journal
+        ≡ at_owner (owner_in_net_ports ports port) ∷ []
     by_owner None none =
         portless_law setting journal s w mask there packet decision said port acts none
         ∙ ap (λ o. at_owner o ∷ []) (sym (owners port ∙ none))

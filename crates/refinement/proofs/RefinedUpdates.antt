@@ -1,14 +1,14 @@
 -- A policy is submitted or refused: what is written then, and what the parts are behind it.
 use Rattle.std.proofs.Common.{[], ◌++◌, ◌+◌, ◌-◌, ◌<◌, ◌==◌, ◌∙◌, ◌∷◌, ◌≡◌, ◌≢◌, ◌≤◌, All, Err, List, None, Ok, Some, ap, append-nil, arith, cond, false, filter, get_or, if◌then◌else◌, length, map, refl, rules, slice_get, subst, sym, ℕ}
 use Rattle.base.proofs.Exports.{All-nil, get_or-map-range_with_len, length-map-range_with_len, nat_tests, range_with_len}
-use Rattle.refinement.specs.Exports.{AreRefinedActsWritten, IsRefinedBagOf, IsControllerOf, IsNextPlanRefined, RefinedNetworkState, RefineJournal, refined_flight_in, is_refined_up_link, refined_plan_to_keep, refined_switch_begun, refined_switch_of}
+use Rattle.refinement.specs.Exports.{AreRefinedActsWritten, IsRefinedBagOf, IsRefinedController, IsNextPlanRefined, RefinedNetworkState, RefineJournal, refined_flight_in, is_refined_up_link, refined_plan_to_keep, refined_switch_begun, refined_switch_of}
 use Rattle.refinement.proofs.RefinedControllerResends.{items_leave}
 use Rattle.refinement.proofs.RefinedSubmissions.{submits, too_many_live, too_many_versions}
-use Rattle.controller.specs.Exports.{ControllerValue, PlanValue, ControllerSubmitsPlan, controller_at_start, controller_newest_policy, next_kept_plan, submit_acts}
+use Rattle.controller.specs.Exports.{ControllerValue, PlanValue, ControllerSubmitsPlan, controller_at_start, controller_newest_policy, next_kept_plan, controller_submit_acts}
 use Rattle.controller.specs.declared.sends.Act.{Act}
-use Rattle.update_machine.specs.Exports.{Inapplicable, IsSetting, Item, LinkRow, NamesSettingPort, Net, JournalPoliciesKeep, PolicyFile, Row, Setting, Step, Update, Whole, machine_apply_code, journal_items_then, made_by, journal_next_packet, piece, journal_plan_at, machine_plan_code, policy_at, policy_in, setting_of, submitted_items, touched_of, travels, machine_update_code, update_items, journal_version_count}
+use Rattle.update_machine.specs.Exports.{Inapplicable, IsSetting, Item, LinkRow, NamesSettingPort, Net, JournalPoliciesKeep, PolicyFile, Row, Setting, Step, Update, Whole, machine_apply_code, journal_items_then, made_by, journal_next_packet, piece, journal_plan_at, machine_plan_code, policy_at, policy_in, setting_of, submitted_items, touched_of, travels, machine_update_code, machine_update_items, journal_version_count}
 use Rattle.partition.specs.Plan.{Hosted, partition_plan_of}
-use Rattle.policy_rules.specs.Exports.{PolicyRulesGiveOnly, IsPolicyOrAmendment, NoPolicyPlan}
+use Rattle.policy_rules.specs.Exports.{PolicyFileRowsAre, IsPolicyRulesOrAmendment, NoPolicyPlan}
 use Rattle.steps.specs.Exports.{IsStep}
 use Rattle.update_machine.proofs.Exports.{first_version_is, next_by, policies_keep, setting_begun, start_laws, unapplied_code, unplanned_code}
 use Rattle.world_log.specs.Exports.{AreLogNearMasks, LogMayNote, log_act_items, log_act_posts}
@@ -81,7 +81,7 @@ pub refused_piece : (setting : Setting) (journal : List Item) (row file code : �
     → machine_update_code setting (journal ++ Item.Row row (Update file) ∷ []) file ≡ Some code
     → piece setting journal row (Update file)
     ≡ Item.Row row (Update file) ∷ Item.Refused file code ∷ []
-unfolding piece update_items
+unfolding piece machine_update_items
 refused_piece setting journal row file code is =
     let rowed : List Item = journal ++ Item.Row row (Update file) ∷ [] in
     ap (λ o. Item.Row row (Update file) ∷ elim o [
@@ -105,7 +105,7 @@ module _ {setting : Setting} {journal : List Item} {state : RefinedNetworkState}
   unfolding log_act_items log_act_posts
   refused_refines code is =
       let one : Item = Item.Refused file code in
-      let controller = subst (λ more. IsControllerOf setting (journal ++ more) state.controller)
+      let controller = subst (λ more. IsRefinedController setting (journal ++ more) state.controller)
       (sym is) (items_leave setting journal (first one) state.controller (reached_known setting
       journal refines.sound refines.reached).caused (refl, (refl, tt)) refines.controller) in
       subst (λ posts. RefineJournal setting (grown journal row (Update file) one)
@@ -126,7 +126,7 @@ module _ {setting : Setting} {journal : List Item} {state : RefinedNetworkState}
       one = Item.Submitted file version
 
       abbrev acts : List Act
-      acts = submit_acts state.controller.marks (next_kept_plan state.controller plan touched) new
+      acts = controller_submit_acts state.controller.marks (next_kept_plan state.controller plan touched) new
 
       bag_behind : IsRefinedBagOf (grown journal row (Update file) one) state.posts
       bag_behind = bag_on journal (first one) state.posts (refl, (refl, tt)) refines.bag
@@ -212,8 +212,8 @@ all_up (link ∷ links) = cc (start_laws.links link.one link.two, all_up links)
 
 pub begun_refines : (net : Net) (files : List PolicyFile) (plan : PlanValue)
     (switches : List SwitchValue) (controller : ControllerValue) (near : List ℕ) → IsNet net
-    → slice_get files 0 ≡ Some (Whole plan.policy) → All IsPolicyOrAmendment files
-    → All (PolicyRulesGiveOnly (λ row. NamesSettingPort (setting_of net files) row.action)) files
+    → slice_get files 0 ≡ Some (Whole plan.policy) → All IsPolicyRulesOrAmendment files
+    → All (PolicyFileRowsAre (λ row. NamesSettingPort (setting_of net files) row.action)) files
     → partition_plan_of plan.policy net ≡ Ok plan.hosted
     → switches ≡ map (refined_switch_begun net plan.hosted) (range_with_len 0 (length net.switches))
     → controller ≡ controller_at_start (length net.switches) plan → AreLogNearMasks net near

@@ -1,8 +1,8 @@
 -- What the calls of a switch require follows from the laws of versions, tables, boots and adverts,
 -- whatever steps were taken.
 use Rattle.std.specs.Prelude.{◌-◌, ◌<◌, ◌^◌, ◌≡◌, IsFalse, IsTrue, List, Some, length, ℕ}
-use Rattle.update_machine.specs.Exports.{Body, Header, Item, Leg, Setting, is_up, message_of, serves as serves_in, machine_message_to_switch}
-use Rattle.switch_core.specs.Exports.{CanSwitchLookUp, IsAtAuthoritySwitch, IsBodySoundForSwitch, SwitchValue, serves, switch_with_message}
+use Rattle.update_machine.specs.Exports.{Body, Header, Item, Leg, Setting, is_up, journal_message_of, serves as serves_in, machine_message_to_switch}
+use Rattle.switch_core.specs.Exports.{CanSwitchLookUp, IsSwitchAuthorityForLeg, IsSoundSwitchBody, SwitchValue, serves, switch_with_message}
 use Rattle.control_laws.specs.Exports.{LegEndsAt, ControlNumbersFit, ServingHoldVersions, ServingIsKnown}
 use Rattle.refinement.specs.Knowing.{RefinementTablesAreKnown}
 use Rattle.refinement.specs.SwitchOf.{refined_switch_of}
@@ -11,7 +11,7 @@ use Rattle.refinement.specs.SwitchOf.{refined_switch_of}
 pub record RefinementCanReceive (switch : SwitchValue) (header : Header) (leg : Leg) : Type 0 where
   pub serving : IsTrue (serves switch)
   pub stamped : CanSwitchLookUp switch
-  pub authority : IsAtAuthoritySwitch switch header leg
+  pub authority : IsSwitchAuthorityForLeg switch header leg
 
 -- there is a next number for its own advert, now and after it hears any message
 pub record HasRefinedNextSeq (switch : SwitchValue) : Type 0 where
@@ -25,8 +25,8 @@ pub record CanRefinedSwitchRestart (switch : SwitchValue) : Type 0 where
 
 pub record RefinementRequirementsHold : Type 0 where
   pub hear : (setting : Setting) (journal : List Item) (n s : ℕ) (body : Body) →
-      RefinementTablesAreKnown setting journal → message_of journal n ≡ Some (machine_message_to_switch s body) →
-      IsBodySoundForSwitch body
+      RefinementTablesAreKnown setting journal → journal_message_of journal n ≡ Some (machine_message_to_switch s body) →
+      IsSoundSwitchBody body
   pub near_changed : (setting : Setting) (journal : List Item) (s : ℕ) →
       ControlNumbersFit setting journal → s < length setting.net.switches →
       HasRefinedNextSeq (refined_switch_of setting journal s)

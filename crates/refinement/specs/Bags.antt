@@ -1,7 +1,7 @@
 -- What a journal says of the messages that were sent.
 use Rattle.std.specs.Prelude.{◌+◌, ◌<◌, ◌≡◌, List, Option, false, length, option_map, ℕ}
 use Rattle.message_bag.specs.Exports.{Post, item_numbered, posted_frames}
-use Rattle.update_machine.specs.Exports.{Item, is_forgotten_in_journal, message_of, journal_next_message, was_delivered}
+use Rattle.update_machine.specs.Exports.{Item, is_forgotten_in_journal, journal_message_of, journal_next_message, was_delivered}
 
 -- what the journal says of the message of a number, if sent: its frames, and what became of it
 unfoldable pub refined_post_at : List Item → ℕ → Option Post
@@ -11,7 +11,7 @@ refined_post_at journal n = option_map (λ message. (
     delivered = was_delivered journal n;
     forgotten = is_forgotten_in_journal journal n;
   },
-)) (message_of journal n)
+)) (journal_message_of journal n)
 
 -- each post has the frames of the journal's message, and what became of it; the journal says of no
 -- later number that it was delivered or forgotten

@@ -3,7 +3,7 @@
 -- "Abstractions for Network Update", SIGCOMM 2012.
 use Rattle.std.specs.Prelude.{◌≡◌, List, Ok, map, ℕ}
 use Rattle.controller.specs.Exports.{ControllerValue, KeptPlan, PlanValue}
-use Rattle.update_machine.specs.Exports.{Item, Setting, journal_next_policy, journal_next_touched, journal_plan_at, policy_at, touched_by, journal_versions_from_current}
+use Rattle.update_machine.specs.Exports.{Item, Setting, journal_next_policy, journal_next_touched, journal_plan_at, policy_at, machine_touched_by, journal_versions_from_current}
 use Rattle.refinement.specs.Marks.{AreMarksRefined}
 use Rattle.ternary.specs.Exports.{WordValue}
 
@@ -15,12 +15,12 @@ refined_plan_to_keep setting journal version = record {
     policy = policy_at setting journal version;
     hosted = journal_plan_at setting journal version;
   };
-  touched = touched_by setting journal version;
+  touched = machine_touched_by setting journal version;
 }
 
 -- the marks are those that the journal says, and the plans those of the versions from the current
 -- one to the last
-pub record IsControllerOf (setting : Setting) (journal : List Item)
+pub record IsRefinedController (setting : Setting) (journal : List Item)
     (controller : ControllerValue) : Type 0 where
   pub marks : AreMarksRefined setting journal controller.marks
   pub plans : controller.plans ≡ map (refined_plan_to_keep setting journal) (journal_versions_from_current journal)

@@ -1,6 +1,6 @@
 -- What a journal says of a packet on its way: where it is, and what is known of it.
 use Rattle.std.specs.Prelude.{if◌then◌else◌, List, None, Option, Some, option_map, unwrap_or, ℕ}
-use Rattle.update_machine.specs.Exports.{Exit, Item, Leg, Setting, journal_decision_of, journal_found_down, journal_packet_header_at, journal_ingress_of, journal_leg_of, journal_route_in, route_place, targets_of, travels}
+use Rattle.update_machine.specs.Exports.{Exit, Item, Leg, Setting, journal_decision_of, journal_found_down, journal_packet_header_at, journal_ingress_of, journal_leg_of, journal_route_in, route_place, journal_leg_targets, travels}
 use Rattle.travelling.specs.Travelling.{Flight}
 use Rattle.tunnel.specs.Exports.{TunnelValue}
 
@@ -14,7 +14,7 @@ refined_tunnel_of setting journal i = record {
   header = journal_packet_header_at journal i;
   ingress = unwrap_or (journal_ingress_of journal i) 0;
   leg = refined_own_leg journal i;
-  targets = targets_of setting journal (refined_own_leg journal i);
+  targets = journal_leg_targets setting journal (refined_own_leg journal i);
   route = journal_route_in journal i;
   place = route_place journal i;
   down = journal_found_down journal i;

@@ -1,6 +1,6 @@
 -- What a delivered message does to a switch, and what the switch does in reply.
 use Rattle.std.specs.Prelude.{[], ◌++◌, ◌∷◌, ◌≡◌, IsFalse, IsTrue, List, None, Some, ℕ}
-use Rattle.update_machine.specs.Exports.{Body, Deliver, Item, Setting, machine_delivery_items, journal_usable_links_changed, is_journal_message_to, journal_items_then, journal_link_changes, message_of, near, own_advert, send_items, machine_message_to_switch}
+use Rattle.update_machine.specs.Exports.{Body, Deliver, Item, Setting, machine_delivery_items, journal_usable_links_changed, is_journal_message_to, journal_items_then, journal_link_changes, journal_message_of, near, own_advert, send_items, machine_message_to_switch}
 use Rattle.net_file.specs.Exports.{IsNet}
 use Rattle.journal.specs.declared.item.Item.TheVariants as item
 use Rattle.switch_core.specs.Exports.{switch_next_advert, switch_opening_stamp, replies, switch_with_message}
@@ -11,7 +11,7 @@ use Rattle.refinement.specs.SwitchOf.{refined_switch_of}
 -- the message of this number was sent to the switch, and has this body; it may be for any boot,
 -- and the switch may be down
 pub record IsRefinedSentTo (setting : Setting) (before : List Item) (n s : ℕ) (body : Body) : Type 0 where
-  pub sent : message_of before n ≡ Some (machine_message_to_switch s body)
+  pub sent : journal_message_of before n ≡ Some (machine_message_to_switch s body)
   pub names : ControlBodiesNameThere setting before
   pub touched : StampsSayTouched setting before
 

@@ -4,14 +4,14 @@ use Rattle.failover.specs.Exports.{is_isolated, route_of}
 use Rattle.update_machine.specs.Exports.{Header, IsSetting, Item, Setting, holds_version as holds_in, is_cut_off_in_journal, lookup_at, near, journal_route_from, journal_stamp_of, journal_tables_at}
 use Rattle.switch_core.specs.Exports.{held_tables, holds_version, stamp_tables}
 use Rattle.switch_table.specs.Exports.{lookup_of}
-use Rattle.control_laws.specs.Exports.{ControlBodiesNameThere, TablesArePlanned, ControlVersionsArePlanned}
+use Rattle.control_laws.specs.Exports.{ControlBodiesNameThere, ControlTablesArePlanned, ControlVersionsArePlanned}
 use Rattle.refinement.specs.SwitchOf.{refined_switch_of}
 
 -- what is known of versions and their tables
 pub record RefinementTablesAreKnown (setting : Setting) (journal : List Item) : Type 0 where
   pub sound : IsSetting setting
   pub versions : ControlVersionsArePlanned setting journal
-  pub tables : TablesArePlanned setting journal
+  pub tables : ControlTablesArePlanned setting journal
   pub names : ControlBodiesNameThere setting journal
 
 pub record KnowledgeRefines : Type 0 where

@@ -1,7 +1,7 @@
 -- What a change of its links does to a switch: it makes its next advert, which it keeps and sends,
 -- as a router in OSPF makes a new own advert when its links changed (RFC 2328, section 12.4).
 use Rattle.std.specs.Prelude.{[], if◌then◌else◌, ◌++◌, ◌∷◌, ◌≡◌, Bool, IsTrue, List, false, flat_map, map, true, ℕ}
-use Rattle.update_machine.specs.Exports.{Advert, Item, LinkDown, LinkUp, Message, NoneConcern, Setting, Step, advert_to, item_concerns_calls, item_concerns_known, concerns_switch, journal_usable_links_changed, journal_held_adverts, machine_messages_of, near, own_advert, send_items, setting_switches_in}
+use Rattle.update_machine.specs.Exports.{Advert, Item, LinkDown, LinkUp, Message, NoneConcern, Setting, Step, machine_advert_to, item_concerns_calls, item_concerns_known, concerns_switch, journal_usable_links_changed, journal_held_adverts, machine_messages_of, near, own_advert, send_items, setting_switches_in}
 use Rattle.base.specs.Exports.{has}
 use Rattle.journal.specs.declared.item.Item.TheVariants as item
 use Rattle.switch_core.specs.Exports.{SwitchValue, near_changed, switch_next_advert}
@@ -30,8 +30,8 @@ refined_relinked_switch setting before now s switch =
 -- became usable all that it has
 abbrev pub refined_link_messages : Setting → ℕ → ℕ → Advert → SwitchValue → List Message
 refined_link_messages setting had has_now own switch = flat_map (λ neighbour. elim (has had neighbour) [
-  | true ↦ advert_to neighbour own ∷ []
-  | false ↦ map (advert_to neighbour) (all_held switch)
+  | true ↦ machine_advert_to neighbour own ∷ []
+  | false ↦ map (machine_advert_to neighbour) (all_held switch)
 ]) (setting_switches_in setting has_now)
 
 pub record LinksRefine : Type 0 where

@@ -4,8 +4,8 @@ use Rattle.message_bag.specs.Exports.{Post, new_post, posts_with_delivered, post
 use Rattle.update_machine.specs.Exports.{Header, Hop, IsJournalReached, IsSetting, Item, Message, NoneConcern, Packet, Ports, Setting, concerns_messages, near, journal_next_message, journal_next_packet, piece}
 use Rattle.five_tuple.specs.Exports.{IsHeader}
 use Rattle.journal.specs.declared.item.Item.TheVariants as item
-use Rattle.net_file.specs.Exports.{ArePortOwners}
-use Rattle.switch_core.specs.Exports.{Answer, CanSwitchLookUp, IsAtAuthoritySwitch, PacketStandsAtSwitch, switch_hop_answer, serves}
+use Rattle.net_file.specs.Exports.{AreNetPortOwners}
+use Rattle.switch_core.specs.Exports.{Answer, CanSwitchLookUp, IsSwitchAuthorityForLeg, SwitchStandsAtRoutePlace, switch_hop_answer, serves}
 use Rattle.switch_core.specs.declared.tunnel_calls.HopEnd.TheVariants as hop
 use Rattle.refinement.specs.SwitchOf.{refined_switch_of}
 use Rattle.travelling.specs.Travelling.{Flight}
@@ -15,10 +15,10 @@ use Rattle.refinement.specs.Bags.{IsRefinedBagOf}
 use Rattle.refinement.specs.Flights.{refined_flight_in}
 
 -- the journal is of steps of the network, and the table of the ports is the network's
-pub record IsNetRefined (setting : Setting) (journal : List Item) (ports : Ports) : Type 0 where
+pub record IsRefinedJournalOfNet (setting : Setting) (journal : List Item) (ports : Ports) : Type 0 where
   pub sound : IsSetting setting
   pub reached : IsJournalReached setting journal
-  pub owners : ArePortOwners setting.net.switches ports
+  pub owners : AreNetPortOwners setting.net.switches ports
 
 -- ---- a packet enters
 
@@ -29,7 +29,7 @@ refined_entry_at setting journal ports s header =
 
 -- the switch's call may be made, its result is what the step writes, and the packet is then where
 -- the result leaves it, while all others are where they were
-pub record Comes (setting : Setting) (journal : List Item) (row s : ℕ) (header : Header)
+pub record RefinedPacketComes (setting : Setting) (journal : List Item) (row s : ℕ) (header : Header)
     (ports : Ports) : Type 0 where
   pub may : CanSwitchLookUp (refined_switch_of setting journal s)
   pub written : piece setting journal row (Packet s header)
@@ -43,22 +43,23 @@ pub record Comes (setting : Setting) (journal : List Item) (row s : ℕ) (header
 
 abbrev pub EntriesRefine : Type 0
 EntriesRefine = (setting : Setting) (journal : List Item) (row s : ℕ) (header : Header)
-    (ports : Ports) → IsNetRefined setting journal ports → s < length setting.net.switches
-    → IsHeader header → Comes setting journal row s header ports
+    (ports : Ports) → IsRefinedJournalOfNet setting journal ports → s < length setting.net.switches
+    → IsHeader header → RefinedPacketComes setting journal row s header ports
 
 -- ---- a packet moves on
 
 -- what a hop requires of the switch where the packet is
 pub record RefinedHopMayBeAsked (setting : Setting) (journal : List Item) (t : Flight) : Type 0 where
   pub there : here t.tunnel < length setting.net.switches
-  pub stands : PacketStandsAtSwitch (refined_switch_of setting journal (here t.tunnel)) t.tunnel.route t.tunnel.place
+  pub stands : SwitchStandsAtRoutePlace (refined_switch_of setting journal (here t.tunnel)) t.tunnel.route t.tunnel.place
   pub serving : IsTrue (serves (refined_switch_of setting journal (here t.tunnel)))
   pub stamped : CanSwitchLookUp (refined_switch_of setting journal (here t.tunnel))
   pub authority : (switch_hop_answer (refined_switch_of setting journal (here t.tunnel))
       (near setting journal (here t.tunnel)) t.tunnel).end ≡ hop.Arrive
-      → IsAtAuthoritySwitch (refined_switch_of setting journal (here t.tunnel)) t.tunnel.header t.tunnel.leg
+      → IsSwitchAuthorityForLeg (refined_switch_of setting journal (here t.tunnel)) t.tunnel.header t.tunnel.leg
 
--- the same is true of the hop of a packet on its way, at the switch where it is
+-- the hop of a packet on its way: the call of the switch where it is may be made, and its result is
+-- what the step writes. The packet is then where the result leaves it, all others where they were
 pub record RefinedHopGoesOn (setting : Setting) (journal : List Item) (row i : ℕ) (t : Flight)
     (ports : Ports) : Type 0 where
   pub may : RefinedHopMayBeAsked setting journal t
@@ -74,7 +75,7 @@ pub record RefinedHopGoesOn (setting : Setting) (journal : List Item) (row i : �
 
 abbrev pub HopsRefine : Type 0
 HopsRefine = (setting : Setting) (journal : List Item) (row i : ℕ) (t : Flight) (ports : Ports)
-    → IsNetRefined setting journal ports → refined_flight_in setting journal i ≡ Some t
+    → IsRefinedJournalOfNet setting journal ports → refined_flight_in setting journal i ≡ Some t
     → RefinedHopGoesOn setting journal row i t ports
 
 -- ---- messages

@@ -2,7 +2,7 @@
 use Rattle.std.specs.Prelude.{◌+◌, ◌<◌, ◌≡◌, Bool, List, filter, length, slice_index, slice_index_or, ℕ}
 use Rattle.message_bag.specs.Exports.{Post}
 use Rattle.controller.specs.Exports.{ControllerValue}
-use Rattle.refinement.specs.Controller.{IsControllerOf}
+use Rattle.refinement.specs.Controller.{IsRefinedController}
 use Rattle.refinement.specs.Bags.{IsRefinedBagOf}
 use Rattle.refinement.specs.Flights.{refined_flight_in}
 use Rattle.update_machine.specs.Exports.{IsJournalReached, IsSetting, Item, LinkRow, Setting, is_link_up_in_journal, near as near_of, journal_next_packet}
@@ -50,7 +50,7 @@ pub record RefineJournal (setting : Setting) (journal : List Item) (state : Refi
       slice_index_or state.switches s d ≡ refined_switch_of setting journal s
   pub packet : (i : ℕ) → flight state.travelling i ≡ refined_flight_in setting journal i
   pub counted : journal_next_packet journal ≡ state.packets + 1
-  pub controller : IsControllerOf setting journal state.controller
+  pub controller : IsRefinedController setting journal state.controller
   pub bag : IsRefinedBagOf journal state.posts
   pub up : RefineUpLinks setting journal state.links
   pub usable : RefineUsableLinks setting journal state.near

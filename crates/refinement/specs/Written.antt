@@ -6,7 +6,7 @@ use Rattle.controller.specs.declared.sends.Act.{Act}
 use Rattle.controller.specs.declared.sends.Act.TheVariants.{Current, Retired, Post}
 use Rattle.update_machine.specs.Exports.{Item, Setting, journal_next_message, journal_resent_by_switch}
 use Rattle.journal.specs.declared.item.Item.TheVariants as item
-use Rattle.refinement.specs.Controller.{IsControllerOf}
+use Rattle.refinement.specs.Controller.{IsRefinedController}
 
 abbrev pub refined_act_item : List Item → Act → Item
 refined_act_item journal (Current version) = item.Current version
@@ -29,4 +29,4 @@ refined_resend_acts setting journal s controller =
 pub record AreRefinedActsWritten (setting : Setting) (journal first : List Item) (acts : List Act)
     (new : ControllerValue) (items : List Item) : Type 0 where
   pub same : items ≡ first ++ refined_acts_written (journal ++ first) acts
-  pub after : IsControllerOf setting (journal ++ items) new
+  pub after : IsRefinedController setting (journal ++ items) new

@@ -12,11 +12,12 @@ mod switch_laws;
 mod world_laws;
 
 pub use switch_laws::{
-    calls_are_counted, calls_may_be_made, links_change_switches, messages_are_heard,
-    switches_forget, switches_know,
+    links_change_switches, refined_calls_are_counted, refined_calls_may_be_made,
+    refined_messages_are_heard, switch_knowledge_refines, switch_lives_refine,
 };
 pub use world_laws::{
-    acts_write_in_turn, controllers_begin, controllers_confirm, controllers_hear,
-    controllers_resend, controllers_submit, messages_are_kept, messages_have_spellings,
-    others_leave_controllers, packets_come_in, packets_move_on,
+    acts_write_in_turn, controller_hearing_refines, others_leave_controllers, packet_hops_refine,
+    refined_controllers_begin, refined_controllers_confirm, refined_controllers_resend,
+    refined_controllers_submit, refined_messages_are_kept, refined_messages_have_spellings,
+    refined_packets_come_in,
 };

@@ -1,8 +1,8 @@
 -- Plays that go on by the steps of events.
 use Rattle.std.proofs.Common.{[], ◌++◌, ◌+◌, ◌<◌, ◌∙◌, ◌∷◌, ◌≡◌, List, None, Option, Some, add-one, ap, append_assoc, drop, drop-cons, get_or, inl, inr, length, refl, subst, sym, ℕ}
-use Rattle.update_machine.specs.Exports.{AreJournalFirstSteps, AreMachineSteps, Event, MachineJournalsHaveRoom, IsJournalFull, IsMachinePlay, Item, Setting, StepOfRow, journal_after_steps}
+use Rattle.update_machine.specs.Exports.{AreJournalFirstSteps, AreMachineSteps, Event, MachineJournalsHaveRoom, IsMachineJournalFull, IsMachinePlay, Item, Setting, StepOfRow, journal_after_steps}
 use Rattle.update_machine.proofs.Exports.{after_append, rooms_append}
-use Rattle.replay.specs.Playing.{ReplayEventHappens, EventStopsWithin}
+use Rattle.replay.specs.Playing.{ReplayEventHappens, ReplayEventStopsWithin}
 
 -- the journal is what stood before and the pieces of all steps of these events, of which the first
 -- has this row; each began with room
@@ -21,7 +21,7 @@ pub record StopsOn (setting : Setting) (before : List Item) (row : ℕ) (events 
   pub allowed : AreJournalFirstSteps setting row events before (steps ++ next ∷ [])
   pub written : journal ≡ journal_after_steps setting before steps
   pub room : MachineJournalsHaveRoom setting before steps
-  pub full : IsJournalFull journal
+  pub full : IsMachineJournalFull journal
   pub of_row : next.row ≡ at
 
 -- a play of these events goes on from this journal to that one
@@ -102,7 +102,7 @@ plays_no_more setting journal row = record { steps = []; allowed = refl; room = 
 -- within the next event, of which a step would begin full
 pub stops_by : (setting : Setting) (before after : List Item) (row : ℕ) (events : List Event)
     (i : ℕ) (d : Event) → i < length events
-    → EventStopsWithin setting row (get_or events i d) before after
+    → ReplayEventStopsWithin setting row (get_or events i d) before after
     → PlaysOn setting before row (drop i events) after (Some row)
 stops_by setting before after row events i d within stops =
     let there : PlaysOn setting before row (get_or events i d ∷ drop (i + 1) events) after

@@ -1,9 +1,9 @@
 -- An event that takes its steps one after another.
 use Rattle.std.proofs.Common.{[], ◌++◌, ◌∙◌, ◌∷◌, ◌≡◌, ◌⊎◌, Bool, List, None, Option, Some, ap, append-nil, append_assoc, false, inl, inr, refl, subst, sym, true, ℕ}
-use Rattle.update_machine.specs.Exports.{AreAllMachineEventSteps, AreFirstStepsOf, AreFirstMachineEventSteps, AreMachineStepsOf, Drain, Event, Flush, HasRoom, MachineJournalsHaveRoom, IsJournalFull, Item, One, Setting, Step, StepOfRow, journal_after_steps, journal_next_delivery, journal_next_hop, piece}
+use Rattle.update_machine.specs.Exports.{AreAllMachineEventSteps, AreFirstMachineStepsOf, AreFirstMachineEventSteps, AreMachineStepsOf, Drain, Event, Flush, HasRoom, MachineJournalsHaveRoom, IsMachineJournalFull, Item, One, Setting, Step, StepOfRow, journal_after_steps, journal_next_delivery, journal_next_hop, piece}
 use Rattle.update_machine.proofs.Exports.{after_append, rooms_append}
 use Rattle.world_log.specs.Exports.{IsLogPart}
-use Rattle.replay.specs.Playing.{BeginsReplayEvent, ReplayEventHappens, EventStopsWithin, replay_next_step}
+use Rattle.replay.specs.Playing.{BeginsReplayEvent, ReplayEventHappens, ReplayEventStopsWithin, replay_next_step}
 
 abbrev pub is_some_step : List StepOfRow → Bool
 is_some_step [] = false
@@ -13,7 +13,7 @@ is_some_step (step ∷ steps) = true
 pub record Took (setting : Setting) (row : ℕ) (event : Event) (is_begun : Bool)
     (start here : List Item) : Type 0 where
   pub steps : List StepOfRow
-  pub first : AreFirstStepsOf setting row event start steps
+  pub first : AreFirstMachineStepsOf setting row event start steps
   pub room : MachineJournalsHaveRoom setting start steps
   pub written : here ≡ journal_after_steps setting start steps
   pub items : List Item
@@ -21,7 +21,7 @@ pub record Took (setting : Setting) (row : ℕ) (event : Event) (is_begun : Bool
   pub begun : is_begun ≡ is_some_step steps
 
 none_first : (setting : Setting) (row : ℕ) (event : Event) (start : List Item)
-    → AreFirstStepsOf setting row event start []
+    → AreFirstMachineStepsOf setting row event start []
 none_first setting row (One step) start = inl refl
 none_first setting row Flush start = tt
 none_first setting row Drain start = tt
@@ -55,10 +55,10 @@ some_on setting next row start (x ∷ steps) step some is = (
 )
 
 first_on : (setting : Setting) (row : ℕ) (event : Event) (is_begun : Bool) (start : List Item)
-    (steps : List StepOfRow) (step : Step) → AreFirstStepsOf setting row event start steps
+    (steps : List StepOfRow) (step : Step) → AreFirstMachineStepsOf setting row event start steps
     → is_begun ≡ is_some_step steps
     → replay_next_step event is_begun (journal_after_steps setting start steps) ≡ Some step
-    → AreFirstStepsOf setting row event start (steps ++ one row step ∷ [])
+    → AreFirstMachineStepsOf setting row event start (steps ++ one row step ∷ [])
 first_on setting row (One own) false start [] step first begun is =
     let same : own ≡ step = cc is in inr (ap (λ s. one row s ∷ []) (sym same))
 first_on setting row (One own) true start steps step first begun is = absurd (cc is)
@@ -76,7 +76,7 @@ begun_on (x ∷ steps) step = refl
 with_next : (setting : Setting) (row : ℕ) (event : Event) (is_begun : Bool) (start here : List Item)
     (step : Step) → (took : Took setting row event is_begun start here)
     → replay_next_step event is_begun here ≡ Some step
-    → AreFirstStepsOf setting row event start (took.steps ++ one row step ∷ [])
+    → AreFirstMachineStepsOf setting row event start (took.steps ++ one row step ∷ [])
 with_next setting row event is_begun start here step took is =
     first_on setting row event is_begun start took.steps step took.first took.begun
     (subst (λ journal. replay_next_step event is_begun journal ≡ Some step) took.written is)
@@ -122,8 +122,8 @@ begins_whole setting row event is_begun start here took = record {
 -- in front of a step that would begin full
 pub stops_next : (setting : Setting) (row : ℕ) (event : Event) (is_begun : Bool)
     (start here : List Item) (step : Step) → Took setting row event is_begun start here
-    → replay_next_step event is_begun here ≡ Some step → IsJournalFull here
-    → EventStopsWithin setting row event start here
+    → replay_next_step event is_begun here ≡ Some step → IsMachineJournalFull here
+    → ReplayEventStopsWithin setting row event start here
 stops_next setting row event is_begun start here step took is full = record {
   steps = took.steps;
   next = one row step;
@@ -170,7 +170,7 @@ one_of step (x ∷ steps) begun (inl none) = absurd (cc none)
 one_of step steps begun (inr is) = is
 
 all_on : (setting : Setting) (row : ℕ) (event : Event) (is_begun : Bool) (start : List Item)
-    (steps : List StepOfRow) → AreFirstStepsOf setting row event start steps
+    (steps : List StepOfRow) → AreFirstMachineStepsOf setting row event start steps
     → is_begun ≡ is_some_step steps → replay_next_step event is_begun (journal_after_steps setting start steps)
     ≡ None → AreMachineStepsOf setting row event start steps
 all_on setting row (One own) false start steps first begun is = absurd (cc is)

@@ -4,9 +4,9 @@ use Rattle.base.proofs.Exports.{range_with_len}
 use Rattle.controller.specs.Exports.{ControllerValue, KeptPlan, PlanValue, current_plan}
 use Rattle.update_machine.specs.Exports.{SettingHasPlan, IsSetting, Item, Setting, journal_current_mark, journal_version_count}
 use Rattle.partition.specs.Plan.{IsPartitionPlan}
-use Rattle.refinement.specs.Exports.{IsControllerOf, refined_plan_to_keep}
+use Rattle.refinement.specs.Exports.{IsRefinedController, refined_plan_to_keep}
 use Rattle.update_machine.proofs.Exports.{begins_planned, version_is_planned}
-use Rattle.control_laws.specs.Exports.{MarksAreBounded, ControlVersionsArePlanned}
+use Rattle.control_laws.specs.Exports.{ControlMarksAreBounded, ControlVersionsArePlanned}
 use Rattle.replay.specs.InForce.{IsReplayPlanInForce}
 
 -- the first of the plans of the versions from one on is that one's
@@ -29,8 +29,8 @@ first_found setting journal first (suc n) plan is =
     cc
 
 pub kept_in_force : (setting : Setting) (journal : List Item) (controller : ControllerValue)
-    (plan : PlanValue) → IsSetting setting → IsControllerOf setting journal controller
-    → MarksAreBounded setting journal → ControlVersionsArePlanned setting journal
+    (plan : PlanValue) → IsSetting setting → IsRefinedController setting journal controller
+    → ControlMarksAreBounded setting journal → ControlVersionsArePlanned setting journal
     → current_plan controller ≡ Some plan → IsReplayPlanInForce setting journal plan
 kept_in_force setting journal controller plan sound is bounds planned kept =
     let current = journal_current_mark journal in

@@ -2,7 +2,7 @@
 use Rattle.std.specs.Prelude.{[], ◌++◌, ◌∷◌, ◌≡◌, Bool, Err, List, None, Option, Result, Some, false, true, ℕ, ⊤}
 use Rattle.controller.specs.declared.plan_error.PlanError.{PlanError}
 use Rattle.controller.specs.declared.plan_error.PlanError.TheVariants as why
-use Rattle.update_machine.specs.Exports.{AreFirstStepsOf, AreMachineStepsOf, Drain, Event, Flush, MachineJournalsHaveRoom, IsJournalFull, Item, One, Setting, Step, StepOfRow, journal_after_steps, journal_next_delivery, journal_next_hop}
+use Rattle.update_machine.specs.Exports.{AreFirstMachineStepsOf, AreMachineStepsOf, Drain, Event, Flush, MachineJournalsHaveRoom, IsMachineJournalFull, Item, One, Setting, Step, StepOfRow, journal_after_steps, journal_next_delivery, journal_next_hop}
 use Rattle.partition.specs.Plan.{Hosted}
 use Rattle.policy_rules.specs.Hosted as no_plan
 use Rattle.world.specs.Exports.{comes_in}
@@ -32,21 +32,21 @@ pub record ReplayEventHappens (setting : Setting) (row : ℕ) (event : Event) (b
 
 -- after this journal, the event of the row took the steps that began with room; it has a next one,
 -- which isn't taken because the journal is full
-pub record EventStopsWithin (setting : Setting) (row : ℕ) (event : Event) (before after : List Item)
+pub record ReplayEventStopsWithin (setting : Setting) (row : ℕ) (event : Event) (before after : List Item)
     : Type 0 where
   pub steps : List StepOfRow
   pub next : StepOfRow
-  pub first : AreFirstStepsOf setting row event before (steps ++ next ∷ [])
+  pub first : AreFirstMachineStepsOf setting row event before (steps ++ next ∷ [])
   pub of_row : next.row ≡ row
   pub room : MachineJournalsHaveRoom setting before steps
   pub written : after ≡ journal_after_steps setting before steps
-  pub full : IsJournalFull after
+  pub full : IsMachineJournalFull after
 
 -- after this journal, the event of the row took its first steps, the last of them perhaps in part
 pub record BeginsReplayEvent (setting : Setting) (row : ℕ) (event : Event) (before after : List Item)
     : Type 0 where
   pub steps : List StepOfRow
-  pub first : AreFirstStepsOf setting row event before steps
+  pub first : AreFirstMachineStepsOf setting row event before steps
   pub written : List Item
   pub grown : after ≡ before ++ written
   pub lacking : List Item

@@ -4,12 +4,12 @@ ghost use Rattle.steps.specs.Steps.{IsEvent};
 ghost use Rattle.steps.specs.Limits.{max_events};
 ghost use Rattle.world.specs.NoStep.{no_world_step};
 ghost use Rattle.replay.specs.Leavings.{ReplayMetersKeepUp, ReplayMetersKeepUpWithin};
-ghost use Rattle.replay.specs.Playing.{BeginsReplayEvent, ReplayEventHappens, EventStopsWithin, replay_event_brings_in, replay_next_step};
+ghost use Rattle.replay.specs.Playing.{BeginsReplayEvent, ReplayEventHappens, ReplayEventStopsWithin, replay_event_brings_in, replay_next_step};
 ghost use Rattle.world.specs.State.{world_setting_at};
 
-use crate::noting::note_left_packets;
+use crate::noting::replay_note_left_packets;
 use meters::{Board, Meter};
-use packet_laws::{deliveries_rise, drains_end};
+use packet_laws::{deliveries_rise, packet_drains_end};
 use steps::{Event, Step};
 use world::{StepError, World};
 
@@ -39,7 +39,7 @@ pub fn take_event_steps<M: Meter>(
     ensures packets_full { IsErrOf result no_world_step → world.new.packets ≡ world.old.packets }
     ensures happens { OnOk result (ReplayEventHappens (world_setting_at world.old) row event.now world.old.journal
         world.new.journal) }
-    ensures stops { IsErrOf result no_world_step → EventStopsWithin (world_setting_at world.old) row event.now
+    ensures stops { IsErrOf result no_world_step → ReplayEventStopsWithin (world_setting_at world.old) row event.now
         world.old.journal world.new.journal }
     ensures part { OnErr result (BeginsReplayEvent (world_setting_at world.old) row event.now world.old.journal
         world.new.journal) }
@@ -51,20 +51,20 @@ pub fn take_event_steps<M: Meter>(
         world.new.journal (seen_board M.seen board.old) (seen_board M.seen board.new)) }
 {
     let mut is_begun = false;
-    while let Some(next) = next_of(world, event, is_begun) {
-        drains_end();
+    while let Some(next) = next_replay_step(world, event, is_begun) {
+        packet_drains_end();
         deliveries_rise();
         world.refines();
         let before = world.journal().items().len();
         world.step(row, &next)?;
-        note_left_packets(board, &world.journal().items()[before..])?;
+        replay_note_left_packets(board, &world.journal().items()[before..])?;
         is_begun = true;
     }
     Ok(())
 }
 
 // The next step of the event; `None` if it has taken all its steps.
-fn next_of(world: &World, event: &Event, is_begun: bool) -> Option<Step>
+fn next_replay_step(world: &World, event: &Event, is_begun: bool) -> Option<Step>
     requires { world.now.is_spent ≡ false }
     ensures { result ≡ replay_next_step event.now is_begun world.now.journal }
 {

@@ -12,7 +12,7 @@ use world::World;
 ///
 /// # Errors
 /// Only out of memory.
-pub fn plan_in_force(world: &World) -> Result<Plan, AllocError>
+pub fn replay_plan_in_force(world: &World) -> Result<Plan, AllocError>
     requires { world.now.is_spent ≡ false }
     ensures { IfOk result (IsReplayPlanInForce (world_setting_at world.now) world.now.journal) }
 {

@@ -3,11 +3,11 @@
 //! `replay` returns the one play of the schedule, or why the first policy has no plan on the
 //! network. A play is the journal that answers the schedule, or that of the steps before the first
 //! one that would begin with a full journal. It is a run of the abstract machine, its ends have
-//! causes, and the invariants were true at each moment (`HeldOnTheWay`). That drains and flushes
-//! end are laws of `packet_laws`: a packet takes few hops, and each message that is delivered in a
-//! flush has a greater number than the one before it. After each step the meters record the packets
-//! that left; those that stay are the kept meters of the journal, and the flow records of those
-//! that leave are its gone records.
+//! causes, and the invariants were true at each moment (`PacketLawsHeldThroughout`). That drains
+//! and flushes end are laws of `packet_laws`: a packet takes few hops, and each message that is
+//! delivered in a flush has a greater number than the one before it. After each step the meters
+//! record the packets that left; those that stay are the kept meters of the journal, and the flow
+//! records of those that leave are its gone records.
 //!
 //! ```text
 //! let played = replay(alloc, &net, files, &events, meters)?; // Plan(why): no first plan

@@ -11,7 +11,10 @@ use std::alloc::AllocError;
 ///
 /// # Errors
 /// Only out of memory, in the board or in a meter.
-pub fn note_left_packets<M: Meter>(board: &mut Board<M>, items: &[Item]) -> Result<(), AllocError>
+pub fn replay_note_left_packets<M: Meter>(
+    board: &mut Board<M>,
+    items: &[Item],
+) -> Result<(), AllocError>
     ensures { OnOk result
         (ReplayMetersStayOn (left_in items.now) (seen_board M.seen board.old) (seen_board M.seen board.new)) }
 {

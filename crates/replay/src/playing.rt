@@ -1,10 +1,10 @@
 ghost use Rattle.std.specs.Prelude.{◌≡◌, ◌≤◌, ◌+◌, All, IfErr, IfOk, IsOk, IsSome, OnOk, length, map, unwrap_or, []};
-ghost use Rattle.meters.specs.Gone.{gone_records};
+ghost use Rattle.meters.specs.Gone.{gone_meter_records};
 ghost use Rattle.meters.specs.Meters.{kept_meters};
 ghost use Rattle.net_file.specs.Exports.{IsNet, port_mask};
-ghost use Rattle.packet_laws.specs.Exports.{HeldOnTheWay};
+ghost use Rattle.packet_laws.specs.Exports.{PacketLawsHeldThroughout};
 ghost use Rattle.partition.specs.Plan.{partition_plan_of};
-ghost use Rattle.policy_rules.specs.Exports.{PolicyRulesGiveOnly, IsPolicyOrAmendment};
+ghost use Rattle.policy_rules.specs.Exports.{PolicyFileRowsAre, IsPolicyRulesOrAmendment};
 ghost use Rattle.steps.specs.Steps.{IsEvent};
 ghost use Rattle.steps.specs.Limits.{max_events};
 ghost use Rattle.update_machine.specs.Exports.{IsMachinePlay, NamesSettingPort, setting_of};
@@ -16,13 +16,13 @@ ghost use Rattle.replay.specs.Playing.{IsReplayPlanRefusal};
 
 use crate::error::ReplayError;
 use crate::event_steps::take_event_steps;
-use crate::in_force::plan_in_force;
+use crate::in_force::replay_plan_in_force;
 use base::Failure;
 use controller::Plan;
 use journal::Journal;
 use meters::{Board, Flows, Meter};
 use net_file::Net;
-use packet_laws::plays_held_on_the_way;
+use packet_laws::packet_plays_held_on_way;
 use policy_rules::PolicyFile;
 use std::alloc::{AllocError, Global};
 use steps::Event;
@@ -61,20 +61,20 @@ pub fn replay<M: Meter>(
 ) -> Result<Played<M>, ReplayError>
     requires net { IsNet net.now }
     requires first { IsSome (first_policy files.items) }
-    requires sound { All IsPolicyOrAmendment files.items }
-    requires ports { All (PolicyRulesGiveOnly (λ row. NamesSettingPort (setting_of net.now files.items)
+    requires sound { All IsPolicyRulesOrAmendment files.items }
+    requires ports { All (PolicyFileRowsAre (λ row. NamesSettingPort (setting_of net.now files.items)
         row.action)) files.items }
     requires events { All (IsEvent net.now (length files.items)) events.now }
     requires few { length events.now ≤ max_events }
     ensures play { IfOk result (λ played.
         IsMachinePlay (setting_of net.now files.items) events.now played.journal played.full) }
     ensures held { IfOk result (λ played.
-        HeldOnTheWay (setting_of net.now files.items) played.journal) }
+        PacketLawsHeldThroughout (setting_of net.now files.items) played.journal) }
     ensures kept { IfOk result (λ played. map M.seen played.meters.items
         ≡ kept_meters (port_mask net.now.switches) (left_in played.journal)
         (map M.seen meters.items)) }
     ensures gone { IfOk result (λ played. played.gone
-        ≡ gone_records (port_mask net.now.switches) (left_in played.journal)
+        ≡ gone_meter_records (port_mask net.now.switches) (left_in played.journal)
         (map M.seen meters.items)) }
     ensures plan { IfOk result (λ played.
         IsReplayPlanInForce (setting_of net.now files.items) played.journal played.plan) }
@@ -105,16 +105,16 @@ pub fn play<M: Meter>(
     requires few { length events.now ≤ max_events }
     ensures play { IfOk result (λ played.
         IsMachinePlay (world_setting_at world) events.now played.journal played.full) }
-    ensures held { IfOk result (λ played. HeldOnTheWay (world_setting_at world) played.journal) }
+    ensures held { IfOk result (λ played. PacketLawsHeldThroughout (world_setting_at world) played.journal) }
     ensures kept { IfOk result (λ played. map M.seen played.meters.items
         ≡ kept_meters ports (left_in played.journal) (map M.seen meters.items)) }
     ensures gone { IfOk result (λ played. played.gone
-        ≡ gone_records ports (left_in played.journal) (map M.seen meters.items)) }
+        ≡ gone_meter_records ports (left_in played.journal) (map M.seen meters.items)) }
     ensures plan { IfOk result (λ played.
         IsReplayPlanInForce (world_setting_at world) played.journal played.plan) }
 {
     world.refines();
-    plays_held_on_the_way();
+    packet_plays_held_on_way();
     let mut world = world;
     let mut board = Board::new(meters, ports);
     let mut row = 0u32;
@@ -123,13 +123,13 @@ pub fn play<M: Meter>(
         match take_event_steps(&mut world, &mut board, row, event) {
             Ok(()) => {}
             Err(Failure::Refused(Full)) => {
-                let plan = plan_in_force(&world)?;
+                let plan = replay_plan_in_force(&world)?;
                 return Ok(ended(world, board, plan, Some(row)));
             }
             Err(Failure::NoMemory) => return Err(AllocError),
         }
     }
-    let plan = plan_in_force(&world)?;
+    let plan = replay_plan_in_force(&world)?;
     Ok(ended(world, board, plan, None))
 }
 

@@ -66,7 +66,7 @@ pub fn shelf_of(alloc: Global, files: &[(&str, &str)]) -> Result<MemShelf, Alloc
     shelf_with_fault(alloc, files, 0)
 }
 
-/// The number of the call that fails, counted from 1; none fails at 0.
+/// The calls that fail: the one of this number, counted from 1; none at 0.
 pub fn calls(alloc: Global, number: u64) -> Result<Vec<u64>, AllocError> {
     let mut all = Vec::new(alloc);
     if number > 0 {

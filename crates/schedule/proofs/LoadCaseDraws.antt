@@ -2,18 +2,18 @@
 use Rattle.std.proofs.Common.{[], ◌*◌, ◌++◌, ◌+◌, ◌/◌, ◌<◌, ◌==◌, ◌^◌, ◌∙◌, ◌∷◌, ◌≡◌, ◌≤◌, All, Bool, List, add-one, ap, arith, cond, false, length, length-append, ltb-false, ltb-true, nat_lt, ne_eqb, refl, slice_index_or, suc, sym, take, take_all, true, true≢false, zero, ℕ}
 use Rattle.base.proofs.Exports.{All-append, All-cons, All-nil, get_or-append, get_or-append_seam, list_any-append, mod_below, take-append-le}
 use Rattle.five_tuple.specs.Exports.{IsHeader}
-use Rattle.policy_rules.specs.Exports.{IsFirstRepeat, has_priority}
+use Rattle.policy_rules.specs.Exports.{IsFirstPriorityRepeat, has_priority}
 use Rattle.policy_rules.specs.declared.policy.Action.TheVariants.{Drop, Out}
 use Rattle.steps.specs.Exports.{IsEvent}
-use Rattle.schedule.specs.Case.{IsPlayableCase, CaseNamesPort, case_action_at, case_address_at, draw_state_after, draw_below, change_events, drop_draw, case_group_at, case_groups_from, header_drawn, packet_drawn, load_case, load_case_net, next_drawn, row_at, row_ends, rows_drawn}
+use Rattle.schedule.specs.Case.{IsPlayableCase, CaseNamesPort, load_case_action_at, case_address_at, draw_state_after, draw_below, change_events, case_drop_draw, case_group_at, case_groups_from, header_drawn, case_packet_drawn, load_case, load_case_net, next_drawn, load_case_row_at, row_ends, case_rows_drawn}
 use Rattle.schedule.proofs.LoadCaseNetworks.{load_net_sound, port_owned}
 use Rattle.policy_rules.specs.declared.policy.Row.{Row}
 use Rattle.steps.specs.declared.step.Event.TheVariants.{Drain, Flush, One}
 use Rattle.steps.specs.declared.step.Step.TheVariants as step
 
-pub rows_more : (k x : ℕ) → rows_drawn (k + 1) x
-    ≡ ((rows_drawn k x).0 ++ row_at (k + 1) (rows_drawn k x).1 ∷ [], row_ends (rows_drawn k x).1)
-rows_more k x = ap (λ n. rows_drawn n x) (add-one k)
+pub rows_more : (k x : ℕ) → case_rows_drawn (k + 1) x
+    ≡ ((case_rows_drawn k x).0 ++ load_case_row_at (k + 1) (case_rows_drawn k x).1 ∷ [], row_ends (case_rows_drawn k x).1)
+rows_more k x = ap (λ n. case_rows_drawn n x) (add-one k)
 
 pub groups_more : (k x : ℕ) → case_groups_from (k + 1) x
     ≡ ((case_groups_from k x).0 ++ case_group_at (case_groups_from k x).1, draw_state_after 9 (case_groups_from k x).1)
@@ -21,52 +21,52 @@ groups_more k x = ap (λ n. case_groups_from n x) (add-one k)
 
 -- ---- priorities
 
-pub rows_count : (k x : ℕ) → length (rows_drawn k x).0 ≡ k
+pub rows_count : (k x : ℕ) → length (case_rows_drawn k x).0 ≡ k
 rows_count zero x = refl
-rows_count (suc k) x = length-append (rows_drawn k x).0 _ ∙ omega (arith, rows_count k x)
+rows_count (suc k) x = length-append (case_rows_drawn k x).0 _ ∙ omega (arith, rows_count k x)
 
 later_priority : (k x priority : ℕ) → k < priority
-    → has_priority (rows_drawn k x).0 priority ≡ false
+    → has_priority (case_rows_drawn k x).0 priority ≡ false
 later_priority zero x priority above = refl
 later_priority (suc k) x priority above =
-    list_any-append (λ (row : Row). row.priority == priority) (rows_drawn k x).0 _ ∙ rw (
+    list_any-append (λ (row : Row). row.priority == priority) (case_rows_drawn k x).0 _ ∙ rw (
       later_priority k x priority (omega (arith, above)),
       ne_eqb (k + 1) priority (λ e. omega (arith, above, e)),
     ) refl
 
 -- no row has the priority of an earlier one
 pub rows_distinct : (k x place : ℕ) (d : Row) → place < k → has_priority (take place
-    (rows_drawn k x).0) (slice_index_or (rows_drawn k x).0 place d).priority ≡ false
+    (case_rows_drawn k x).0) (slice_index_or (case_rows_drawn k x).0 place d).priority ≡ false
 rows_distinct zero x place d inside = absurd (omega (arith, inside))
 rows_distinct (suc k) x place d inside = go (nat_lt place k) refl (rows_distinct k x place d) where
-  go : (b : Bool) → nat_lt place k ≡ b → (place < k → has_priority (take place (rows_drawn k x).0)
-      (slice_index_or (rows_drawn k x).0 place d).priority ≡ false) → has_priority (take place
-      ((rows_drawn k x).0 ++ row_at (k + 1) (rows_drawn k x).1 ∷ [])) (slice_index_or
-      ((rows_drawn k x).0 ++ row_at (k + 1) (rows_drawn k x).1 ∷ []) place d).priority ≡ false
+  go : (b : Bool) → nat_lt place k ≡ b → (place < k → has_priority (take place (case_rows_drawn k x).0)
+      (slice_index_or (case_rows_drawn k x).0 place d).priority ≡ false) → has_priority (take place
+      ((case_rows_drawn k x).0 ++ load_case_row_at (k + 1) (case_rows_drawn k x).1 ∷ [])) (slice_index_or
+      ((case_rows_drawn k x).0 ++ load_case_row_at (k + 1) (case_rows_drawn k x).1 ∷ []) place d).priority ≡ false
   go true e earlier =
-      let draw_below : place < length (rows_drawn k x).0 =
+      let draw_below : place < length (case_rows_drawn k x).0 =
       omega (arith, ltb-true place k e, rows_count k x) in
       rw (
-        take-append-le place (rows_drawn k x).0 (row_at (k + 1) (rows_drawn k x).1 ∷ [])
+        take-append-le place (case_rows_drawn k x).0 (load_case_row_at (k + 1) (case_rows_drawn k x).1 ∷ [])
             (omega (arith, draw_below)),
-        get_or-append (rows_drawn k x).0 (row_at (k + 1) (rows_drawn k x).1 ∷ []) d place
+        get_or-append (case_rows_drawn k x).0 (load_case_row_at (k + 1) (case_rows_drawn k x).1 ∷ []) d place
             draw_below,
       )
       (earlier (ltb-true place k e))
   go false e earlier =
-      let same : place ≡ length (rows_drawn k x).0 = omega (arith, ltb-false, rows_count k x) in
+      let same : place ≡ length (case_rows_drawn k x).0 = omega (arith, ltb-false, rows_count k x) in
       rw (
         same,
-        take-append-le (length (rows_drawn k x).0) (rows_drawn k x).0
-            (row_at (k + 1) (rows_drawn k x).1 ∷ []) (omega arith),
-        take_all (length (rows_drawn k x).0) (rows_drawn k x).0 (omega arith),
-        get_or-append_seam (rows_drawn k x).0 (row_at (k + 1) (rows_drawn k x).1) [] d,
+        take-append-le (length (case_rows_drawn k x).0) (case_rows_drawn k x).0
+            (load_case_row_at (k + 1) (case_rows_drawn k x).1 ∷ []) (omega arith),
+        take_all (length (case_rows_drawn k x).0) (case_rows_drawn k x).0 (omega arith),
+        get_or-append_seam (case_rows_drawn k x).0 (load_case_row_at (k + 1) (case_rows_drawn k x).1) [] d,
       )
       (later_priority k x (k + 1) (omega arith))
 
-pub no_repeat : (k x place : ℕ) → IsFirstRepeat (rows_drawn k x).0 place → ⊥
-no_repeat k x place repeat = true≢false (sym (repeat.repeats (row_at 1 x))
-    ∙ rows_distinct k x place (row_at 1 x) (omega (arith, repeat.there, rows_count k x)))
+pub no_repeat : (k x place : ℕ) → IsFirstPriorityRepeat (case_rows_drawn k x).0 place → ⊥
+no_repeat k x place repeat = true≢false (sym (repeat.repeats (load_case_row_at 1 x))
+    ∙ rows_distinct k x place (load_case_row_at 1 x) (omega (arith, repeat.there, rows_count k x)))
 
 -- ---- events
 
@@ -85,7 +85,7 @@ header_sound x = record {
   address_fits x = omega (arith, below_limit)
 
 group_may : (x : ℕ) → All (IsEvent load_case_net 2) (case_group_at x)
-group_may x = All-cons (IsEvent load_case_net 2) (One (packet_drawn x))
+group_may x = All-cons (IsEvent load_case_net 2) (One (case_packet_drawn x))
     (Drain ∷ Flush ∷ []) (below_limit 8 (next_drawn x) (omega arith), header_sound (next_drawn x))
     (All-cons (IsEvent load_case_net 2) Drain (Flush ∷ []) tt
     (All-cons (IsEvent load_case_net 2) Flush [] tt (All-nil (IsEvent load_case_net 2))))
@@ -102,19 +102,19 @@ changes_may = All-cons (IsEvent load_case_net 2) (One (step.Update 2))
     (All-cons (IsEvent load_case_net 2) (One (step.LinkDown 0 1)) (Flush ∷ []) refl
     (All-cons (IsEvent load_case_net 2) Flush [] tt (All-nil (IsEvent load_case_net 2)))))
 
-action_names : (x : ℕ) → CaseNamesPort load_case_net (case_action_at x)
-action_names x = go (drop_draw x == 0) where
+action_names : (x : ℕ) → CaseNamesPort load_case_net (load_case_action_at x)
+action_names x = go (case_drop_draw x == 0) where
   go : (b : Bool) → CaseNamesPort load_case_net (cond b Drop (Out (draw_below 8 (draw_state_after 2 x))))
   go true = tt
   go false = port_owned (draw_below 8 (draw_state_after 2 x))
       (below_limit 8 (draw_state_after 2 x) (omega arith))
 
-ports_named : (k x : ℕ) → All (λ (row : Row). CaseNamesPort load_case_net row.action) (rows_drawn k x).0
+ports_named : (k x : ℕ) → All (λ (row : Row). CaseNamesPort load_case_net row.action) (case_rows_drawn k x).0
 ports_named zero x = All-nil (λ (row : Row). CaseNamesPort load_case_net row.action)
-ports_named (suc k) x = All-append (λ (row : Row). CaseNamesPort load_case_net row.action) (rows_drawn k x).0
-    (row_at (k + 1) (rows_drawn k x).1 ∷ []) (ports_named k x)
-    (All-cons (λ (row : Row). CaseNamesPort load_case_net row.action) (row_at (k + 1) (rows_drawn k x).1) []
-    (action_names (draw_state_after 4 (rows_drawn k x).1))
+ports_named (suc k) x = All-append (λ (row : Row). CaseNamesPort load_case_net row.action) (case_rows_drawn k x).0
+    (load_case_row_at (k + 1) (case_rows_drawn k x).1 ∷ []) (ports_named k x)
+    (All-cons (λ (row : Row). CaseNamesPort load_case_net row.action) (load_case_row_at (k + 1) (case_rows_drawn k x).1) []
+    (action_names (draw_state_after 4 (case_rows_drawn k x).1))
     (All-nil (λ (row : Row). CaseNamesPort load_case_net row.action)))
 
 groups_count : (k x : ℕ) → length (case_groups_from k x).0 ≡ 3 * k
@@ -124,13 +124,13 @@ groups_count (suc k) x = length-append (case_groups_from k x).0 _ ∙ omega (ari
 pub case_playable : (n : ℕ) → n ≤ 1000 → IsPlayableCase (load_case n)
 case_playable n few =
     let Named : List Row → Type 0 = All (λ row. CaseNamesPort load_case_net row.action) in
-    let start = (rows_drawn n (rows_drawn n n).1).1 in
+    let start = (case_rows_drawn n (case_rows_drawn n n).1).1 in
     let early = case_groups_from (2 * n) start in
     let late = case_groups_from (2 * n) early.1 in record {
       net = load_net_sound;
-      ports = All-cons Named (rows_drawn n n).0 ((rows_drawn n (rows_drawn n n).1).0 ∷ [])
+      ports = All-cons Named (case_rows_drawn n n).0 ((case_rows_drawn n (case_rows_drawn n n).1).0 ∷ [])
           (ports_named n n)
-          (All-cons Named (rows_drawn n (rows_drawn n n).1).0 [] (ports_named n (rows_drawn n n).1)
+          (All-cons Named (case_rows_drawn n (case_rows_drawn n n).1).0 [] (ports_named n (case_rows_drawn n n).1)
           (All-nil Named));
       may = All-append (IsEvent load_case_net 2) (early.0 ++ change_events) late.0
           (All-append (IsEvent load_case_net 2) early.0 change_events (groups_may (2 * n) start) changes_may)

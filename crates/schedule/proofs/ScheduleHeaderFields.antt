@@ -1,7 +1,7 @@
 -- Each field of a header that is read has the bits that it has in a packet.
 use Rattle.std.proofs.Common.{[], ◌&&◌, ◌*◌, ◌+◌, ◌^◌, ◌∷◌, ◌≡◌, ◌≤◌, Bool, List, None, Option, Some, arith, bytes_eq, codes, cond, false, nat_le, refl, true, ℕ}
 use Rattle.base.proofs.Exports.{digits_value, nat_tests}
-use Rattle.five_tuple.specs.Exports.{IsHeader, address_from, address_of, address_of_parts, tuple_fields_from, header_of, is_number, number_up_to, tuple_fields_of, text_parts_round_byte, proto_number_of}
+use Rattle.five_tuple.specs.Exports.{IsHeader, address_from_bytes, address_of, address_of_parts, tuple_fields_from, header_of, is_number, number_up_to, tuple_fields_of, text_parts_round_byte, proto_number_of}
 use Rattle.five_tuple.specs.declared.header.Fields.{Fields}
 
 checked : (number : Bool) (most value n : ℕ) → cond (number && nat_le value most) (Some value) None
@@ -23,7 +23,7 @@ abbrev IsBelow : ℕ → Option ℕ → Type 0
 IsBelow most read = (n : ℕ) → read ≡ Some n → n ≤ most
 
 address_bound-from : (a b c d : Option ℕ) → IsBelow 255 a → IsBelow 255 b → IsBelow 255 c
-    → IsBelow 255 d → IsBelow 4294967295 (address_from a b c d)
+    → IsBelow 255 d → IsBelow 4294967295 (address_from_bytes a b c d)
 address_bound-from (Some a) (Some b) (Some c) (Some d) ha hb hc hd n is =
     let same : a * 2 ^ 24 + b * 2 ^ 16 + c * 2 ^ 8 + d ≡ n = cc is in
     omega (arith, ha a refl, hb b refl, hc c refl, hd d refl, same)

@@ -5,7 +5,7 @@ use Rattle.csv_records.specs.Texts.{is_heading}
 use Rattle.five_tuple.specs.Exports.{IsHeader, header_of, number_up_to, tuple_fields_of}
 use Rattle.five_tuple.specs.declared.header.Fields.{Fields}
 use Rattle.five_tuple.specs.declared.header.Header.{Header}
-use Rattle.net_file.specs.Exports.{are_linked, require_net_value, switch_number, with_toml_value}
+use Rattle.net_file.specs.Exports.{are_linked_in_net, require_net_value, switch_number, with_toml_value}
 use Rattle.net_file.specs.declared.net.LinkRow.{LinkRow}
 use Rattle.net_file.specs.declared.net.Net.{Net}
 use Rattle.net_file.specs.declared.net.SwitchRow.{SwitchRow}
@@ -18,7 +18,7 @@ use Rattle.steps.specs.declared.step.Step.TheVariants as step
 use Rattle.schedule.specs.Kinds.{kind_of}
 use Rattle.schedule.specs.Reading.{AreSoundScheduleEvents, schedule_events_in, schedule_events_of, events_under_heading, no_schedule_heading, refused_schedule_row, schedule_refusals_from}
 use Rattle.base.specs.declared.row.InRow.{InRow}
-use Rattle.schedule.specs.Rows.{schedule_event_of, row_event_with, schedule_row_file_in, schedule_header_read, row_link_in, schedule_row_number_read, schedule_heading, schedule_switch_in}
+use Rattle.schedule.specs.Rows.{schedule_event_of, row_event_with, schedule_row_file_in, schedule_header_read, schedule_link_in, schedule_row_number_read, schedule_heading, schedule_switch_in}
 use Rattle.schedule.specs.declared.error.ScheduleRefusal.{ScheduleRefusal}
 use Rattle.schedule.specs.declared.error.ScheduleRefusal.TheVariants as why
 use Rattle.schedule.specs.declared.kind.Kind.{Kind}
@@ -56,16 +56,16 @@ file_sound files text file is =
       ),
     )
 
-link_sound : (net : Net) (one two : List ℕ) (link : LinkRow) → row_link_in net one two ≡ Ok link
+link_sound : (net : Net) (one two : List ℕ) (link : LinkRow) → schedule_link_in net one two ≡ Ok link
     → HasLink net link.one link.two
 link_sound net one two link is =
     let (s, _, rest) = with_value_ok (schedule_switch_in net one) (λ s. with_toml_value (schedule_switch_in net two)
-    (λ x. require_net_value (are_linked net.links s x) why.NoLink (Ok (record { one = s; two = x })))) link
+    (λ x. require_net_value (are_linked_in_net net.links s x) why.NoLink (Ok (record { one = s; two = x })))) link
     is in
     let (x, _, last) = with_value_ok (schedule_switch_in net two)
-    (λ x. require_net_value (are_linked net.links s x) why.NoLink (Ok (record { one = s; two = x }))) link
+    (λ x. require_net_value (are_linked_in_net net.links s x) why.NoLink (Ok (record { one = s; two = x }))) link
     rest in
-    let (linked, same) = require_ok (are_linked net.links s x) why.NoLink
+    let (linked, same) = require_ok (are_linked_in_net net.links s x) why.NoLink
     (Ok (record { one = s; two = x })) link last in
     let second : x ≡ link.two = cc same in
     subst (λ t. HasLink net link.one t) second (subst (λ t. HasLink net t x) (cc same) linked)
@@ -115,8 +115,8 @@ module _ (net : Net) (files : ℕ) where
 
   one_link : (one two : List ℕ) (make : LinkRow → Step)
       → ((link : LinkRow) → HasLink net link.one link.two → IsStep net files (make link))
-      → Sound (with_toml_value (row_link_in net one two) (λ link. Ok (One (make link))))
-  one_link one two make sound = follows (row_link_in net one two) (λ link. Ok (One (make link)))
+      → Sound (with_toml_value (schedule_link_in net one two) (λ link. Ok (One (make link))))
+  one_link one two make sound = follows (schedule_link_in net one two) (λ link. Ok (One (make link)))
       (λ link is. gives (One (make link)) (sound link (link_sound net one two link is)))
 
   with_sound : (k : Kind) (fields : List (List ℕ)) → Sound (row_event_with net files k fields)

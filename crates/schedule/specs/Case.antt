@@ -68,18 +68,18 @@ abbrev pub case_address_of_bytes : ℕ → ℕ → ℕ → ℕ → ℕ
 case_address_of_bytes a b c d = a * 2 ^ 24 + b * 2 ^ 16 + c * 2 ^ 8 + d
 
 -- one draw decides whether a row drops; if it doesn't, a second one draws its port
-abbrev pub drop_draw : ℕ → ℕ
-drop_draw x = draw_below 4 (next_drawn x)
+abbrev pub case_drop_draw : ℕ → ℕ
+case_drop_draw x = draw_below 4 (next_drawn x)
 
-abbrev pub case_action_at : ℕ → Action
-case_action_at x = if drop_draw x == 0 then Drop else Out (draw_below 8 (draw_state_after 2 x))
+abbrev pub load_case_action_at : ℕ → Action
+load_case_action_at x = if case_drop_draw x == 0 then Drop else Out (draw_below 8 (draw_state_after 2 x))
 
-abbrev pub case_action_ends : ℕ → ℕ
-case_action_ends x = if drop_draw x == 0 then next_drawn x else draw_state_after 2 x
+abbrev pub load_case_action_ends : ℕ → ℕ
+load_case_action_ends x = if case_drop_draw x == 0 then next_drawn x else draw_state_after 2 x
 
 -- the row of this priority, that is drawn from the state x
-abbrev pub row_at : ℕ → ℕ → Row
-row_at priority x = record {
+abbrev pub load_case_row_at : ℕ → ℕ → Row
+load_case_row_at priority x = record {
   priority = priority;
   src = address_block_round (case_address_of_bytes 10 (draw_below 4 (draw_state_after 1 x))
       (draw_below 256 (draw_state_after 2 x)) 0) 24;
@@ -90,18 +90,18 @@ row_at priority x = record {
     high = draw_below 1024 (draw_state_after 4 x);
   };
   proto = Is 6;
-  action = case_action_at (draw_state_after 4 x);
+  action = load_case_action_at (draw_state_after 4 x);
 }
 
 abbrev pub row_ends : ℕ → ℕ
-row_ends x = case_action_ends (draw_state_after 4 x)
+row_ends x = load_case_action_ends (draw_state_after 4 x)
 
 -- this many rows, whose priorities are their places from 1, and the state after them
-abbrev pub rows_drawn : ℕ → ℕ → List Row × ℕ
-rows_drawn zero x = ([], x)
-rows_drawn (suc k) x =
-    let before = rows_drawn k x in
-    (before.0 ++ row_at (k + 1) before.1 ∷ [], row_ends before.1)
+abbrev pub case_rows_drawn : ℕ → ℕ → List Row × ℕ
+case_rows_drawn zero x = ([], x)
+case_rows_drawn (suc k) x =
+    let before = case_rows_drawn k x in
+    (before.0 ++ load_case_row_at (k + 1) before.1 ∷ [], row_ends before.1)
 
 -- ---- the schedule
 
@@ -120,12 +120,12 @@ header_drawn x = header_of (record {
 })
 
 -- the switch is drawn before the header
-abbrev pub packet_drawn : ℕ → Step
-packet_drawn x = step.Packet (draw_below 8 (next_drawn x)) (header_drawn (next_drawn x))
+abbrev pub case_packet_drawn : ℕ → Step
+case_packet_drawn x = step.Packet (draw_below 8 (next_drawn x)) (header_drawn (next_drawn x))
 
 -- a packet enters at a switch and is drained, and then what was sent is delivered
 abbrev pub case_group_at : ℕ → List Event
-case_group_at x = One (packet_drawn x) ∷ Drain ∷ Flush ∷ []
+case_group_at x = One (case_packet_drawn x) ∷ Drain ∷ Flush ∷ []
 
 -- this many groups, and the state after them
 abbrev pub case_groups_from : ℕ → ℕ → List Event × ℕ
@@ -148,8 +148,8 @@ pub record LoadCase : Type 0 where
 -- two policies of n rows, and 4 n packets, with the changes after the first half of them
 abbrev pub load_case : ℕ → LoadCase
 load_case n =
-    let first = rows_drawn n n in
-    let second = rows_drawn n first.1 in
+    let first = case_rows_drawn n n in
+    let second = case_rows_drawn n first.1 in
     let early = case_groups_from (2 * n) second.1 in
     let late = case_groups_from (2 * n) early.1 in
     record {

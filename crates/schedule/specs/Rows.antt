@@ -3,7 +3,7 @@
 use Rattle.std.specs.Prelude.{[], ◌∷◌, Err, List, Ok, Result, codes, nat_le, ok_or, option_map, ℕ}
 use Rattle.five_tuple.specs.Exports.{header_of, number_up_to, tuple_fields_of}
 use Rattle.five_tuple.specs.declared.header.Header.{Header}
-use Rattle.net_file.specs.Exports.{are_linked, require_net_value, switch_number, with_toml_value}
+use Rattle.net_file.specs.Exports.{are_linked_in_net, require_net_value, switch_number, with_toml_value}
 use Rattle.net_file.specs.declared.net.LinkRow.{LinkRow}
 use Rattle.net_file.specs.declared.net.Net.{Net}
 use Rattle.steps.specs.Exports.{max_step_number}
@@ -36,11 +36,11 @@ schedule_row_file_in files text =
     require_net_value (nat_le 1 file) why.File (Ok file))
 
 -- the link between the switches of these names
-abbrev pub row_link_in : Net → List ℕ → List ℕ → Result LinkRow ScheduleRefusal
-row_link_in net one two =
+abbrev pub schedule_link_in : Net → List ℕ → List ℕ → Result LinkRow ScheduleRefusal
+schedule_link_in net one two =
     with_toml_value (schedule_switch_in net one) (λ one.
     with_toml_value (schedule_switch_in net two) (λ two.
-    require_net_value (are_linked net.links one two) why.NoLink (Ok (record { one = one; two = two }))))
+    require_net_value (are_linked_in_net net.links one two) why.NoLink (Ok (record { one = one; two = two }))))
 
 -- two addresses, two ports and a protocol, none of them `any`
 abbrev pub schedule_header_read : List ℕ → List ℕ → List ℕ → List ℕ → List ℕ → Result Header ScheduleRefusal
@@ -68,9 +68,9 @@ row_event_with net files kind.Expire (switch ∷ place ∷ []) =
 row_event_with net files kind.Update (file ∷ []) =
     with_toml_value (schedule_row_file_in files file) (λ file. Ok (One (step.Update file)))
 row_event_with net files kind.LinkDown (one ∷ two ∷ []) =
-    with_toml_value (row_link_in net one two) (λ link. Ok (One (step.LinkDown link.one link.two)))
+    with_toml_value (schedule_link_in net one two) (λ link. Ok (One (step.LinkDown link.one link.two)))
 row_event_with net files kind.LinkUp (one ∷ two ∷ []) =
-    with_toml_value (row_link_in net one two) (λ link. Ok (One (step.LinkUp link.one link.two)))
+    with_toml_value (schedule_link_in net one two) (λ link. Ok (One (step.LinkUp link.one link.two)))
 row_event_with net files kind.Crash (switch ∷ []) =
     with_toml_value (schedule_switch_in net switch) (λ switch. Ok (One (step.Crash switch)))
 row_event_with net files kind.Restart (switch ∷ []) =

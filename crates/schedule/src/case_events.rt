@@ -1,12 +1,13 @@
 ghost use Rattle.std.specs.Prelude.{◌≡◌, ◌++◌, ◌<◌, ◌^◌, IfOk, OnOk};
-ghost use Rattle.schedule.specs.Case.{case_address_at, draw_state_after, change_events, case_groups_from, header_drawn, packet_drawn};
+ghost use Rattle.schedule.specs.Case.{case_address_at, draw_state_after, change_events, case_groups_from, header_drawn, case_packet_drawn};
 
 use crate::draws::{CaseDraws, address};
 use five_tuple::{Fields, Header};
 use std::alloc::{AllocError, Global};
 use steps::{Event, Step};
 
-/// The events of a case: this many packets, the changes, and as many packets again.
+/// The events of a case: this many packets, an update and a link that fails, each with a flush, and
+/// as many packets again.
 ///
 /// # Errors
 /// Only out of memory.
@@ -16,18 +17,18 @@ pub fn events(alloc: Global, draws: &mut CaseDraws, half: u32) -> Result<Vec<Eve
         events.items ≡ early.0 ++ change_events ++ (case_groups_from half early.1).0) }
 {
     let mut events = Vec::new(alloc);
-    push_packet_groups(&mut events, draws, half)?;
+    push_load_case_groups(&mut events, draws, half)?;
     events.push(Event::One(Step::Update { file: 2 }))?;
     events.push(Event::Flush)?;
     events.push(Event::One(Step::LinkDown { one: 0, two: 1 }))?;
     events.push(Event::Flush)?;
-    push_packet_groups(&mut events, draws, half)?;
+    push_load_case_groups(&mut events, draws, half)?;
     Ok(events)
 }
 
-// Adds this many packets, each drained before the next one enters.
+// Adds this many packets, each drained and flushed before the next one enters.
 #[tactic(auto, using(crate::proofs::LoadCaseDraws::groups_more))]
-fn push_packet_groups(
+fn push_load_case_groups(
     events: &mut Vec<Event>,
     draws: &mut CaseDraws,
     count: u32,
@@ -46,7 +47,7 @@ fn push_packet_groups(
 }
 
 fn draw_packet(draws: &mut CaseDraws) -> Step
-    ensures packet { result ≡ packet_drawn draws.old.state }
+    ensures packet { result ≡ case_packet_drawn draws.old.state }
     ensures state { draws.new.state ≡ draw_state_after 9 draws.old.state }
 {
     let switch = draws.below(8);

@@ -13,12 +13,12 @@ pub fn net(alloc: Global) -> Result<Net, AllocError>
     ensures net { IfOk result (λ net. net ≡ load_case_net) }
     ensures sound { IfOk result IsNet }
 {
-    let net = ring(alloc)?;
+    let net = schedule_load_case_ring(alloc)?;
     Ok(net)
 }
 
 #[tactic(auto, using(crate::proofs::LoadCaseNetworks::switches_more))]
-fn ring(alloc: Global) -> Result<Net, AllocError>
+fn schedule_load_case_ring(alloc: Global) -> Result<Net, AllocError>
     ensures { IfOk result (λ net. net ≡ load_case_net) }
 {
     let mut rows = Vec::new(alloc);

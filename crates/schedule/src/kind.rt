@@ -66,7 +66,7 @@ impl Kind {
 }
 
 // The first of these kinds whose keyword the text is.
-fn first_named_kind(kinds: &[Kind], text: &[u8]) -> Option<Kind>
+fn first_named_schedule_kind(kinds: &[Kind], text: &[u8]) -> Option<Kind>
     ensures { result ≡ find (λ kind. bytes_eq (schedule_keyword_of kind) text.now) kinds.now }
 {
     kinds
@@ -77,12 +77,12 @@ fn first_named_kind(kinds: &[Kind], text: &[u8]) -> Option<Kind>
 
 /// The kind that the keyword names; `None` for any other text.
 #[tactic(auto, unfolding(crate::specs::Kinds::kind_of))]
-pub fn read_kind(text: &[u8]) -> Option<Kind>
+pub fn read_schedule_kind(text: &[u8]) -> Option<Kind>
     ensures { result ≡ kind_of text.now }
 {
     match named(text) {
         Some(kind) => Some(kind),
-        None => first_named_kind(&KINDS, text),
+        None => first_named_schedule_kind(&KINDS, text),
     }
 }
 

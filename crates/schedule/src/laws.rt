@@ -8,6 +8,6 @@ pub fn schedule_laws()
 {}
 
 /// Each kind has its own keyword, and each keyword that names a kind is the kind's.
-pub fn kind_laws()
+pub fn schedule_kind_laws()
     ensures { ScheduleKindLaws }
 {}

@@ -7,7 +7,7 @@ ghost use Rattle.base.specs.Refusals.{IsCallRefusal};
 
 use crate::error::{ScheduleError, ScheduleRefusal};
 use crate::laws::schedule_laws;
-use crate::row::{is_heading, read_event};
+use crate::row::{is_schedule_heading, read_event};
 use base::InRow;
 use csv_records::{ByteRecord, Records};
 use net_file::Net;
@@ -40,7 +40,7 @@ pub fn read_schedule(
     schedule_laws();
     let mut records = Records::new(alloc, bytes);
     let mut fields = ByteRecord::new(alloc);
-    if !records.read_next(&mut fields)? || !is_heading(&fields) {
+    if !records.read_next(&mut fields)? || !is_schedule_heading(&fields) {
         let refusal = ScheduleRefusal::Header;
         return Err(ScheduleError::Refused(InRow { refusal, row: 0 }));
     }

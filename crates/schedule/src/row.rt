@@ -2,19 +2,19 @@ ghost use Rattle.std.specs.Prelude.{◌≡◌, [], ◌∷◌, drop, length};
 ghost use Rattle.csv.specs.Records.{fields_of};
 ghost use Rattle.csv_records.specs.Texts.{is_heading};
 ghost use Rattle.net_file.specs.Net.{IsNet};
-ghost use Rattle.net_file.specs.Joins.{are_linked};
-ghost use Rattle.schedule.specs.Rows.{schedule_event_of, row_event_with, schedule_row_file_in, schedule_header_read, row_link_in, schedule_row_number_read, schedule_heading, schedule_switch_in};
+ghost use Rattle.net_file.specs.Joins.{are_linked_in_net};
+ghost use Rattle.schedule.specs.Rows.{schedule_event_of, row_event_with, schedule_row_file_in, schedule_header_read, schedule_link_in, schedule_row_number_read, schedule_heading, schedule_switch_in};
 
 use crate::error::ScheduleRefusal;
-use crate::kind::{Kind, read_kind};
+use crate::kind::{Kind, read_schedule_kind};
 use csv_records::{ByteRecord, csv_field_has_text, field};
-use five_tuple::{Header, read_fields};
+use five_tuple::{Header, read_tuple_fields};
 use net_file::{LinkRow, Net};
 use steps::{Event, MAX_NUMBER, Step};
 
 /// Whether the record is the heading.
 #[tactic(auto, using(crate::proofs::ScheduleEventFields::heading))]
-pub fn is_heading(fields: &ByteRecord) -> bool
+pub fn is_schedule_heading(fields: &ByteRecord) -> bool
     ensures { result ≡ is_heading schedule_heading (fields_of fields.now) }
 {
     if fields.len() != 2 {
@@ -24,7 +24,7 @@ pub fn is_heading(fields: &ByteRecord) -> bool
 }
 
 // The switch that the text names.
-fn read_switch(net: &Net, text: &[u8]) -> Result<u32, ScheduleRefusal>
+fn read_schedule_switch(net: &Net, text: &[u8]) -> Result<u32, ScheduleRefusal>
     requires { IsNet net.now }
     ensures { result ≡ schedule_switch_in net.now text.now }
 {
@@ -53,27 +53,27 @@ fn read_file(files: u32, text: &[u8]) -> Result<u32, ScheduleRefusal>
 }
 
 // Whether a link joins the two switches.
-fn are_linked(net: &Net, one: u32, two: u32) -> bool
-    ensures { result ≡ are_linked net.now.links one two }
+fn are_schedule_switches_linked(net: &Net, one: u32, two: u32) -> bool
+    ensures { result ≡ are_linked_in_net net.now.links one two }
 {
     net.links.items().iter().any(|link| link.joins(one, two))
 }
 
 // The link between the switches that the texts name.
-fn read_link(net: &Net, one: &[u8], two: &[u8]) -> Result<LinkRow, ScheduleRefusal>
+fn read_schedule_link(net: &Net, one: &[u8], two: &[u8]) -> Result<LinkRow, ScheduleRefusal>
     requires { IsNet net.now }
-    ensures { result ≡ row_link_in net.now one.now two.now }
+    ensures { result ≡ schedule_link_in net.now one.now two.now }
 {
-    let one = read_switch(net, one)?;
-    let two = read_switch(net, two)?;
-    if !are_linked(net, one, two) {
+    let one = read_schedule_switch(net, one)?;
+    let two = read_schedule_switch(net, two)?;
+    if !are_schedule_switches_linked(net, one, two) {
         return Err(ScheduleRefusal::NoLink);
     }
     Ok(LinkRow { one, two })
 }
 
 // The header that the texts state.
-fn read_header(
+fn read_schedule_header(
     src: &[u8],
     dst: &[u8],
     sport: &[u8],
@@ -82,7 +82,7 @@ fn read_header(
 ) -> Result<Header, ScheduleRefusal>
     ensures { result ≡ schedule_header_read src.now dst.now sport.now dport.now proto.now }
 {
-    match read_fields(src, dst, sport, dport, proto) {
+    match read_tuple_fields(src, dst, sport, dport, proto) {
         Some(fields) => Ok(Header::pack(&fields)),
         None => Err(ScheduleRefusal::Address),
     }
@@ -100,7 +100,7 @@ fn read_keyword_event(net: &Net, files: u32, kind: Kind) -> Result<Event, Schedu
 }
 
 // The step of a kind and one field after it.
-fn read_one_field_step(
+fn read_schedule_one_field_step(
     net: &Net,
     files: u32,
     kind: Kind,
@@ -126,16 +126,16 @@ fn read_one_field_step(
             file: read_file(files, text)?,
         },
         Kind::Crash => Step::Crash {
-            switch: read_switch(net, text)?,
+            switch: read_schedule_switch(net, text)?,
         },
         Kind::Restart => Step::Restart {
-            switch: read_switch(net, text)?,
+            switch: read_schedule_switch(net, text)?,
         },
         Kind::Confirm => Step::Confirm {
-            switch: read_switch(net, text)?,
+            switch: read_schedule_switch(net, text)?,
         },
         Kind::Resend => Step::Resend {
-            switch: read_switch(net, text)?,
+            switch: read_schedule_switch(net, text)?,
         },
         _ => return Err(ScheduleRefusal::Width),
     };
@@ -155,16 +155,16 @@ fn read_two_field_step(
 {
     let step = match kind {
         Kind::Expire => {
-            let switch = read_switch(net, one)?;
+            let switch = read_schedule_switch(net, one)?;
             let place = read_number(two)?;
             Step::Expire { switch, place }
         }
         Kind::LinkDown => {
-            let LinkRow { one, two } = read_link(net, one, two)?;
+            let LinkRow { one, two } = read_schedule_link(net, one, two)?;
             Step::LinkDown { one, two }
         }
         Kind::LinkUp => {
-            let LinkRow { one, two } = read_link(net, one, two)?;
+            let LinkRow { one, two } = read_schedule_link(net, one, two)?;
             Step::LinkUp { one, two }
         }
         _ => return Err(ScheduleRefusal::Width),
@@ -187,8 +187,8 @@ fn read_six_field_step(
     if kind != Kind::Packet {
         return Err(ScheduleRefusal::Width);
     }
-    let switch = read_switch(net, field(fields, 1))?;
-    let header = read_header(
+    let switch = read_schedule_switch(net, field(fields, 1))?;
+    let header = read_schedule_header(
         field(fields, 2),
         field(fields, 3),
         field(fields, 4),
@@ -207,10 +207,10 @@ pub fn read_event(fields: &ByteRecord, net: &Net, files: u32) -> Result<Event, S
     requires { IsNet net.now }
     ensures { result ≡ schedule_event_of net.now files (fields_of fields.now) }
 {
-    let kind = read_kind(field(fields, 0)).ok_or(ScheduleRefusal::Kind)?;
+    let kind = read_schedule_kind(field(fields, 0)).ok_or(ScheduleRefusal::Kind)?;
     match fields.len() {
         1 => read_keyword_event(net, files, kind),
-        2 => read_one_field_step(net, files, kind, field(fields, 1)),
+        2 => read_schedule_one_field_step(net, files, kind, field(fields, 1)),
         3 => read_two_field_step(net, files, kind, field(fields, 1), field(fields, 2)),
         7 => read_six_field_step(net, files, kind, fields),
         _ => Err(ScheduleRefusal::Width),

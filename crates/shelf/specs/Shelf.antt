@@ -21,7 +21,7 @@ abbrev pub ReadsAtMost : ℕ → ℕ → ℕ → Type 0
 ReadsAtMost most before now = (n : ℕ) × (n ≤ most) × (now ≡ shelf_faults_counted_up n before)
 
 -- a shelf after at most this many reads: the same files, and no lower count of faults
-pub record IsAfterReads (most : ℕ) (old new : ShelfState) : Type 0 where
+pub record IsShelfAfterReads (most : ℕ) (old new : ShelfState) : Type 0 where
   pub same_files : new.files ≡ old.files
   pub faults : old.faults ≤ new.faults
   pub reads : ReadsAtMost most old.reads new.reads

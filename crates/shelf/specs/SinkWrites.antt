@@ -39,7 +39,7 @@ is_write_fault piece (Err Failed) = true
 is_write_fault piece (Err NoMemory) = false
 
 -- bytes, the most that one call accepts, and the calls that are to fail
-pub record ScriptedBytes : Type 0 where
+pub record ScriptedSinkBytes : Type 0 where
   pub bytes : List ℕ
   pub most : ℕ
   pub script : ShelfCallScript

@@ -12,12 +12,12 @@ const BLOCK_BYTES: usize = 65_536;
 /// The bytes of a text that aren't written yet. A block gathers pieces, so that one call of the
 /// system writes many of them, and it allocates nothing. Contracts see these bytes.
 #[derive(Drop)]
-pub struct Block {
+pub struct ShelfBlock {
     bytes: [u8; BLOCK_BYTES],
     len: usize,
 }
 
-impl Model for Block {
+impl Model for ShelfBlock {
     ghost use Rattle.std.specs.Prelude.{List, ℕ, take, ◌≤◌};
 
     ghost Value = { List ℕ };
@@ -27,12 +27,12 @@ impl Model for Block {
     ghost invariant = { λ block. block.len ≤ 65536 };
 }
 
-impl Block {
+impl ShelfBlock {
     /// An empty block.
-    pub fn new() -> Block
+    pub fn new() -> ShelfBlock
         ensures { result ≡ [] }
     {
-        Block {
+        ShelfBlock {
             bytes: [0; BLOCK_BYTES],
             len: 0,
         }

@@ -7,7 +7,7 @@
 //! known, an error other than out of memory occurs only if the count of faults rose. No shelf
 //! returns more bytes than the caller's limit.
 //!
-//! A `Block` gathers the pieces of a text in a fixed array, so that they are written together.
+//! A `ShelfBlock` gathers the pieces of a text in a fixed array, so that they are written together.
 //!
 //! The kinds in memory can be made to fail at given calls, or never fail. The kinds over the
 //! system are a few trusted lines.
@@ -21,7 +21,7 @@ mod source;
 mod streams;
 mod system;
 
-pub use block::Block;
+pub use block::ShelfBlock;
 pub use calm::{CalmShelf, CalmSink};
 pub use output::{Sink, SinkError, write_pieces, write_whole};
 pub use scripted::{MemShelf, MemSink};

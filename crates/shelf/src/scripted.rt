@@ -133,9 +133,9 @@ pub struct MemSink {
 }
 
 impl Model for MemSink {
-    ghost use Rattle.shelf.specs.SinkWrites.{ScriptedBytes};
+    ghost use Rattle.shelf.specs.SinkWrites.{ScriptedSinkBytes};
 
-    ghost Value = { ScriptedBytes };
+    ghost Value = { ScriptedSinkBytes };
 
     ghost view = { λ s. record { bytes = s.bytes.items; most = s.most; script = s.script } };
 }

@@ -127,7 +127,7 @@ fn find_shelf_file<'a>(files: &'a [(String, Vec<u8>)], name: &str) -> Option<&'a
 
 /// The content of the first of these files with this name.
 #[tactic(auto, using(crate::proofs::ShelfFileLookups::file_named_kept))]
-fn content_of<'a>(files: &'a [(String, Vec<u8>)], name: &str) -> Option<&'a [u8]>
+fn shelf_content_of<'a>(files: &'a [(String, Vec<u8>)], name: &str) -> Option<&'a [u8]>
     ensures { option_copied result ≡ file_named (shelf_files_of files.now) name.now }
 {
     match find_shelf_file(files, name) {
@@ -152,7 +152,7 @@ impl HeldFiles {
         ensures too_long { IsErrOf result ShelfError.TooLong
             ↔ HasLongerFile self.now name.now limit }
     {
-        let mut content = content_of(&self.files, name).ok_or(ShelfError::Missing)?;
+        let mut content = shelf_content_of(&self.files, name).ok_or(ShelfError::Missing)?;
         // Before the copy, so that a file that is too long never runs out of memory.
         if content.len() as u64 > limit {
             return Err(ShelfError::TooLong);

@@ -70,7 +70,7 @@ impl<R: Read + Drop> CountedReader<R> {
 }
 
 // Reads all that a reader of std has left to the end of the content.
-fn append_left<R: Read + Drop>(mut reader: R, content: &mut Vec<u8>) -> io::Result<()>
+fn append_left_from_shelf<R: Read + Drop>(mut reader: R, content: &mut Vec<u8>) -> io::Result<()>
     ensures { OnOk result (IfSome (R.remaining reader) (λ left.
         content.new.items ≡ content.old.items ++ left)) }
 {
@@ -82,7 +82,7 @@ impl<R: Read + Drop> Reader for CountedReader<R> {
     ghost state = { λ r. r };
 
     fn read_front(&mut self, most: u64, content: &mut Vec<u8>) -> io::Result<()> {
-        match append_left(Read::take(&mut self.reader, most), content) {
+        match append_left_from_shelf(Read::take(&mut self.reader, most), content) {
             Ok(()) => Ok(()),
             Err(error) => {
                 if error.kind() != ErrorKind::OutOfMemory {

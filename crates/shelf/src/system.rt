@@ -1,7 +1,8 @@
 //! The edge: files, standard output and standard error of the system.
 //!
 //! Contracts know neither what is in a file nor what reaches a stream of the system. With readers
-//! and writers of known bytes it is proved what `read_stream_up_to` returns and what a `StdSink` accepts.
+//! and writers of known bytes it is proved what `read_stream_up_to` returns and what a `StdSink`
+//! accepts.
 ghost use Rattle.std.specs.Prelude.{◌≡◌, ◌≤◌, None, false, length, IfOk, ◌≢◌, if◌then◌else◌};
 ghost use Rattle.shelf.specs.Sink.{next_count};
 

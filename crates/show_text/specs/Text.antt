@@ -1,16 +1,16 @@
 -- The texts of plans and of tables, one fact a line.
 use Rattle.std.specs.Prelude.{[], ◌++◌, ◌∷◌, List, codes, decimal, flat_map, length, ℕ}
 use Rattle.base.specs.Exports.{enumerate_from}
-use Rattle.net_file.specs.Exports.{switch_name_of, names_text}
+use Rattle.net_file.specs.Exports.{switch_name_of, net_switch_names_text}
 use Rattle.net_file.specs.declared.net.Net.{Net}
 use Rattle.partition.specs.Plan.{Hosted}
-use Rattle.policy_rules.specs.Exports.{action_text, rule_text, rule_word_total}
+use Rattle.policy_rules.specs.Exports.{action_text, rule_text, policy_row_word_total}
 use Rattle.policy_rules.specs.declared.policy.Row.{Row}
 use Rattle.policy_rules.specs.declared.rules.Partition.{Partition}
 use Rattle.policy_rules.specs.declared.rules.Rule.{Rule}
 use Rattle.switch_table.specs.declared.tables.PartRow.{PartRow}
 use Rattle.switch_table.specs.declared.tables.Tables.{Tables}
-use Rattle.ternary.specs.Exports.{WordValue, word_text}
+use Rattle.ternary.specs.Exports.{WordValue, ternary_word_text}
 
 -- a line with its line feed
 abbrev pub shown_with_line_feed : List ℕ → List ℕ
@@ -18,11 +18,11 @@ shown_with_line_feed text = text ++ 10 ∷ []
 
 -- the names of the targets, each after a blank
 abbrev pub plan_targets_text : Net → List ℕ → List ℕ
-plan_targets_text net targets = codes " targets" ++ names_text net targets
+plan_targets_text net targets = codes " targets" ++ net_switch_names_text net targets
 
 abbrev pub plan_region_text : ℕ → WordValue → List ℕ
 plan_region_text number region =
-    codes "part " ++ decimal number ++ codes " region " ++ word_text region
+    codes "part " ++ decimal number ++ codes " region " ++ ternary_word_text region
 
 -- a partition with the number of its rules
 abbrev pub plan_part_text : Partition → List ℕ
@@ -32,7 +32,7 @@ plan_part_text part =
 abbrev pub shown_rule_text : Rule → List ℕ
 shown_rule_text rule =
     codes "  rank " ++ decimal rule.rank ++ codes " rule " ++ rule_text rule.rule
-    ++ codes " word " ++ word_text rule.word ++ codes " " ++ action_text rule.action
+    ++ codes " word " ++ ternary_word_text rule.word ++ codes " " ++ action_text rule.action
 
 abbrev pub rule_lines : List Rule → List ℕ
 rule_lines rules = flat_map (λ rule. shown_with_line_feed (shown_rule_text rule)) rules
@@ -47,7 +47,7 @@ hosted_lines net hosted =
 -- a plan of a policy: how many words its rows have, how many partitions there are, and each of them
 abbrev pub compile_text : List Row → List Hosted → Net → List ℕ
 compile_text rows plan net =
-    shown_with_line_feed (codes "words " ++ decimal (rule_word_total rows))
+    shown_with_line_feed (codes "words " ++ decimal (policy_row_word_total rows))
     ++ shown_with_line_feed (codes "partitions " ++ decimal (length plan))
     ++ flat_map (hosted_lines net) plan
 

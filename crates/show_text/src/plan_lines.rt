@@ -2,7 +2,7 @@ ghost use Rattle.std.specs.Prelude.{◌≡◌, ◌≤◌, ◌<◌, ◌^◌, ◌+
 ghost use Rattle.show_text.specs.Text.{shown_with_line_feed, plan_part_text, plan_region_text, rule_lines, shown_rule_text, plan_targets_text};
 ghost use Rattle.lines.specs.Pushes.{line_with};
 
-use lines::{Line, push_action, push_names, push_rule, push_word};
+use lines::{Line, push_line_action, push_line_word, push_names, push_rule};
 use net_file::Net;
 use policy_rules::{Partition, Rule, Targets};
 use std::alloc::AllocError;
@@ -16,7 +16,7 @@ pub fn show_region(entry: &mut Line, number: u64, region: &Word)
     entry.push("part ");
     entry.push_number(number);
     entry.push(" region ");
-    push_word(entry, region);
+    push_line_word(entry, region);
 }
 
 /// Adds a partition with the number of its rules.
@@ -50,9 +50,9 @@ fn show_rule_line(entry: &mut Line, rule: &Rule)
     entry.push(" rule ");
     push_rule(entry, rule.rule);
     entry.push(" word ");
-    push_word(entry, &rule.word);
+    push_line_word(entry, &rule.word);
     entry.push(" ");
-    push_action(entry, rule.action);
+    push_line_action(entry, rule.action);
     entry.push("\n");
 }
 

@@ -8,7 +8,7 @@ use crate::plan_lines::{show_part, show_region, show_rules, show_targets};
 use controller::{Plan, tables_of};
 use lines::{Line, push_name};
 use net_file::{Net, switch_name_laws};
-use policy_rules::{Partition, Targets, count_match_words};
+use policy_rules::{Partition, Targets, count_policy_match_words};
 use std::alloc::{AllocError, Global};
 use switch_table::{PartRow, Tables};
 
@@ -27,10 +27,10 @@ pub fn compile_text(alloc: Global, plan: &Plan, net: &Net) -> Result<Vec<u8>, Al
 {
     let mut text = Vec::new(alloc);
     let mut entry = Line::new();
-    let words = count_match_words(plan.policy()) as u64;
+    let words = count_policy_match_words(plan.policy()) as u64;
     let hosted = plan.hosted();
-    add_count(&mut text, &mut entry, "words ", words)?;
-    add_count(&mut text, &mut entry, "partitions ", hosted.len() as u64)?;
+    add_shown_count(&mut text, &mut entry, "words ", words)?;
+    add_shown_count(&mut text, &mut entry, "partitions ", hosted.len() as u64)?;
     show_hosted(&mut text, &mut entry, net, hosted)?;
     Ok(text)
 }
@@ -59,10 +59,10 @@ fn text_of_tables(alloc: Global, net: &Net, s: u32, tables: &Tables) -> Result<V
     show_switch_line(&mut entry, net, s, tables.version);
     text.extend_from_slice(entry.bytes())?;
     let own = tables.auth.items();
-    add_count(&mut text, &mut entry, "authority ", own.len() as u64)?;
+    add_shown_count(&mut text, &mut entry, "authority ", own.len() as u64)?;
     show_own_parts(&mut text, &mut entry, own)?;
     let rows = tables.parts.items();
-    add_count(&mut text, &mut entry, "partitions ", rows.len() as u64)?;
+    add_shown_count(&mut text, &mut entry, "partitions ", rows.len() as u64)?;
     show_table_rows(&mut text, &mut entry, net, rows)?;
     Ok(text)
 }
@@ -95,7 +95,7 @@ fn show_count_line(entry: &mut Line, title: &str, count: u64)
     entry.push("\n");
 }
 
-fn add_count(
+fn add_shown_count(
     text: &mut Vec<u8>,
     entry: &mut Line,
     title: &str,

@@ -2,7 +2,7 @@
 -- policy files that exist.
 use Rattle.std.specs.Prelude.{◌<◌, ◌≤◌, IsTrue, length, ℕ, ⊤}
 use Rattle.five_tuple.specs.Exports.{IsHeader}
-use Rattle.net_file.specs.Exports.{are_linked}
+use Rattle.net_file.specs.Exports.{are_linked_in_net}
 use Rattle.net_file.specs.declared.net.Net.{Net}
 use Rattle.steps.specs.declared.step.Event.{Event}
 use Rattle.steps.specs.declared.step.Event.TheVariants.{One, Flush, Drain}
@@ -19,7 +19,7 @@ HasSwitch net switch = switch < length net.switches
 
 -- one of its links joins these switches
 abbrev pub HasLink : Net → ℕ → ℕ → Type 0
-HasLink net one two = IsTrue (are_linked net.links one two)
+HasLink net one two = IsTrue (are_linked_in_net net.links one two)
 
 -- a step of this network, if this many policy files are named
 abbrev pub IsStep : Net → ℕ → Step → Type 0

@@ -2,7 +2,7 @@
 use Rattle.std.proofs.Common.{◌≡◌, List, None, Option, Some, false, option_map, refl, true, ℕ, rules}
 use Rattle.failover.specs.Exports.{no_links}
 use Rattle.five_tuple.specs.declared.header.Header.{Header}
-use Rattle.switch_core.specs.Exports.{Answer, Answered, IsBySwitchLookup, SwitchSite, SwitchValue, admitted, answer_of, are_isolated, switch_call_counted, switch_stuck_cause, enter_answer, switch_entered_with, incoming_packet, leave_by_switch, looked_up, next_of, packet_to_look_up, serves, set_out}
+use Rattle.switch_core.specs.Exports.{Answer, Answered, IsSwitchLookupForwarding, SwitchSite, SwitchValue, admitted, answer_of, are_isolated, switch_call_counted, switch_stuck_cause, enter_answer, switch_entered_with, switch_incoming_packet, switch_leave_by_port, looked_up, next_of, packet_to_look_up, serves, set_out}
 use Rattle.switch_core.specs.declared.tunnel_calls.Entered.{Entered}
 use Rattle.switch_core.specs.declared.tunnel_calls.Packet.{Packet}
 use Rattle.switch_core.specs.declared.forwarding.Forwarding.{Forwarding}
@@ -12,7 +12,7 @@ use Rattle.switch_core.proofs.SwitchArrivals.{entry_by}
 -- one more call changes no answer
 pub answer_counted : (s after : SwitchValue) (site : SwitchSite) (packet : Packet) (forwarding : Forwarding) →
     after ≡ switch_call_counted s → answer_of after site packet forwarding ≡ answer_of s site packet forwarding
-unfolding next_of leave_by_switch set_out switch_stuck_cause are_isolated
+unfolding next_of switch_leave_by_port set_out switch_stuck_cause are_isolated
 answer_counted s after site packet forwarding is = cc (is, by_forwarding forwarding) where
   by_forwarding : (forwarding : Forwarding) →
       answer_of (switch_call_counted s) site packet forwarding ≡ answer_of s site packet forwarding
@@ -26,8 +26,8 @@ module _ (s after : SwitchValue) (site : SwitchSite) (number : ℕ) (header : He
   pub was_admitted : (ingress : ℕ) → after ≡ switch_call_counted s → serves s ≡ true → ingress ≡ s.number →
       answer_of s site (packet_to_look_up number header ingress no_links) forwarding
       ≡ Answered (looked_up s site (packet_to_look_up number header ingress no_links)) →
-      Some (answer_of after site (incoming_packet s number header) forwarding)
-      ≡ option_map Answered (admitted s site (incoming_packet s number header))
+      Some (answer_of after site (switch_incoming_packet s number header) forwarding)
+      ≡ option_map Answered (admitted s site (switch_incoming_packet s number header))
   unfolding admitted
   was_admitted ingress is serving here looked = search (rules, answer_counted, entry_by)
 
@@ -36,15 +36,15 @@ module _ (s after : SwitchValue) (site : SwitchSite) (number : ℕ) (header : He
       → ingress ≡ s.number → down ≡ no_links
       → ((answer : Answer) → answer_of after site (packet_to_look_up number header ingress down)
       forwarding ≡ Answered answer → result ≡ switch_entered_with answer)
-      → Some (answer_of after site (incoming_packet s number header) forwarding)
-      ≡ option_map Answered (admitted s site (incoming_packet s number header))
-      → result ≡ enter_answer s site (incoming_packet s number header)
+      → Some (answer_of after site (switch_incoming_packet s number header) forwarding)
+      ≡ option_map Answered (admitted s site (switch_incoming_packet s number header))
+      → result ≡ enter_answer s site (switch_incoming_packet s number header)
   answered result ingress down here none is = search rules
 
 -- of a packet that enters there is a lookup
 pub by_lookup : (s : SwitchValue) (site : SwitchSite) (packet : Packet) (forwarding : Forwarding)
     (answer : Option Answer) →
-    Some (answer_of s site packet forwarding) ≡ option_map Answered answer → IsBySwitchLookup forwarding
+    Some (answer_of s site packet forwarding) ≡ option_map Answered answer → IsSwitchLookupForwarding forwarding
 by_lookup s site packet forwarding answer is = search rules
 
 -- at a switch that doesn't serve

@@ -7,7 +7,7 @@ use Rattle.policy_rules.specs.declared.packet.Leg.TheVariants.{Seek, Exit}
 use Rattle.policy_rules.specs.declared.rules.Partition.{Partition}
 use Rattle.tunnel.specs.Exports.{TunnelValue}
 use Rattle.switch_table.specs.declared.tables.Tables.{Tables}
-use Rattle.switch_core.specs.Exports.{Answer, Answered, IsArrivingAtSwitch, IsAtAuthoritySwitch, IsDecidedBySwitchIn, IsSwitchEntry, IsSwitchFirstHit, IsRightAnswer, SwitchSite, SwitchValue, admitted, switch_arrival_of, arrive_answer, switch_arrival_on_leg, switch_arrived_with, switch_answer_in_partition, enter_answer, switch_entered_with, switch_entry_of, held_tables, holds_version, looked_up, no_switch_part, own_part, switch_packet_of, switch_part_numbered, switch_own_rule_place, received, serves}
+use Rattle.switch_core.specs.Exports.{Answer, Answered, IsSwitchReadyAsAuthority, IsSwitchAuthorityForLeg, IsSwitchAnswerByPartition, IsSwitchEntry, IsSwitchFirstHit, IsRightSwitchAnswer, SwitchSite, SwitchValue, admitted, switch_arrival_of, arrive_answer, switch_arrival_on_leg, switch_arrived_with, switch_answer_in_partition, enter_answer, switch_entered_with, switch_entered_by_answer, held_tables, holds_version, looked_up, no_switch_core_partition, own_part, switch_packet_of, switch_core_partition_numbered, switch_own_rule_place, received, serves}
 use Rattle.switch_core.specs.declared.tunnel_calls.Arrived.TheVariants as arrival
 use Rattle.switch_core.specs.declared.tunnel_calls.Entered.TheVariants as entry
 use Rattle.switch_core.specs.declared.tunnel_calls.Packet.{Packet}
@@ -32,12 +32,12 @@ entry_is s site packet = record {
   closed = by_test (serves s);
   answered = λ ready. (
     looked_up s site packet,
-    ap switch_entry_of (entry_by s site packet true ready.serving),
+    ap switch_entered_by_answer (entry_by s site packet true ready.serving),
     lookup_is s site packet ready,
   );
 } where
   by_test : (test : Bool)
-      → (switch_entry_of (cond test (Some (looked_up s site packet)) None) ≡ entry.Closed) ↔ IsFalse test
+      → (switch_entered_by_answer (cond test (Some (looked_up s site packet)) None) ≡ entry.Closed) ↔ IsFalse test
   by_test true = (λ is. absurd (not_closed (looked_up s site packet) is), λ is. cc)
   by_test false = (λ is. refl, λ is. refl)
 
@@ -58,32 +58,32 @@ arrived_by s site t version partition held leg is = cc (leg, is)
 
 -- the first hit of the leg's partition
 hit_on : (s : SwitchValue) (t : TunnelValue) (version partition : ℕ) (tables : Tables) →
-    IsArrivingAtSwitch s t → t.leg ≡ Seek version partition → held_tables s version ≡ Some tables →
+    IsSwitchReadyAsAuthority s t → t.leg ≡ Seek version partition → held_tables s version ≡ Some tables →
     IsSomeAnd (own_part tables partition) (λ part. IsSwitchFirstHit t.header part
-    (switch_own_rule_place t.header (switch_part_numbered tables partition)))
+    (switch_own_rule_place t.header (switch_core_partition_numbered tables partition)))
 hit_on s t version partition tables arriving leg held = by_part (own_part tables partition) refl
     (subst (λ (o : Option Tables). IfSome o
     (λ tables. IsSomeAnd (own_part tables partition) (λ part. IsTrue (is_in_policy_partition t.header part)))) held
-    (subst (λ (leg : Leg). IsAtAuthoritySwitch s t.header leg) leg arriving.authority))
+    (subst (λ (leg : Leg). IsSwitchAuthorityForLeg s t.header leg) leg arriving.authority))
   where
     by_part : (part : Option Partition) → own_part tables partition ≡ part →
         IsSomeAnd part (λ part. IsTrue (is_in_policy_partition t.header part)) →
         IsSomeAnd part (λ own. IsSwitchFirstHit t.header own
-        (switch_own_rule_place t.header (unwrap_or part no_switch_part)))
+        (switch_own_rule_place t.header (unwrap_or part no_switch_core_partition)))
     by_part (Some part) is inside = own_hit tables partition part t.header
         (sound_held s version tables arriving.ready.switch held) arriving.ready.is_header is inside
     by_part None is inside = absurd inside
 
 pub arrive_held : (s : SwitchValue) (site : SwitchSite) (t : TunnelValue) (version partition : ℕ)
     (tables : Tables) →
-    IsArrivingAtSwitch s t → t.leg ≡ Seek version partition → held_tables s version ≡ Some tables →
+    IsSwitchReadyAsAuthority s t → t.leg ≡ Seek version partition → held_tables s version ≡ Some tables →
     (answer : Answer) × (arrive_answer s site t ≡ switch_arrived_with answer)
-    × IsDecidedBySwitchIn s site (switch_packet_of t) version tables partition answer
+    × IsSwitchAnswerByPartition s site (switch_packet_of t) version tables partition answer
 unfolding switch_answer_in_partition
 arrive_held s site t version partition tables arriving leg held = (
   switch_answer_in_partition s site (switch_packet_of t) partition tables,
   ap switch_arrival_of (arrived_by s site t version partition (Some tables) leg held),
-  subst (λ (v : ℕ). IsDecidedBySwitchIn s site (switch_packet_of t) v tables partition
+  subst (λ (v : ℕ). IsSwitchAnswerByPartition s site (switch_packet_of t) v tables partition
       (switch_answer_in_partition s site (switch_packet_of t) partition tables)) (version_held s version tables held)
       (hit_in s site (switch_packet_of t) tables.version tables partition _
       (hit_on s t version partition tables arriving leg held)).0,
@@ -93,9 +93,9 @@ pub none_held : (o : Option Tables) → is_some o ≡ false → o ≡ None
 none_held o is = search rules
 
 pub arrive_anew : (s : SwitchValue) (site : SwitchSite) (t : TunnelValue) (version partition : ℕ) →
-    IsArrivingAtSwitch s t → t.leg ≡ Seek version partition → IsFalse (holds_version s version) →
+    IsSwitchReadyAsAuthority s t → t.leg ≡ Seek version partition → IsFalse (holds_version s version) →
     (answer : Answer) × (arrive_answer s site t ≡ switch_arrived_with answer)
-    × IsRightAnswer s site (switch_packet_of t) answer
+    × IsRightSwitchAnswer s site (switch_packet_of t) answer
 arrive_anew s site t version partition arriving leg gone = (
   looked_up s site (switch_packet_of t),
   ap switch_arrival_of (arrived_by s site t version partition None leg

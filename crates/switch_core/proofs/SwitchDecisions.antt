@@ -15,7 +15,7 @@ use Rattle.switch_table.specs.declared.search.Found.{Found}
 use Rattle.switch_table.specs.declared.search.Found.TheVariants.{Cached, Authority, Redirect}
 use Rattle.switch_table.specs.declared.tables.Tables.{Tables}
 use Rattle.ctrl_msg.specs.declared.message.Body.{Body}
-use Rattle.switch_core.specs.Exports.{Answer, Decided, IsArrivingAtSwitch, IsBySwitchOwnRule, IsDecidedBySwitchIn, IsSwitchDecision, IsSwitchReady, IsRightAnswer, Seek, SwitchSite, Stuck, SwitchValue, admitted, arrive_answer, switch_arrived_with, by_entry, by_rule, switch_stuck_cause, enter_answer, switch_entered_with, switch_entry_of, held_tables, looked_up, switch_lookup_by_stamp, next_of, own_part, switch_packet_of, switch_route_known, switch_rule_to_cache, switch_setting_out, stamp_tables}
+use Rattle.switch_core.specs.Exports.{Answer, Decided, IsSwitchReadyAsAuthority, IsSwitchOwnRuleDecision, IsSwitchAnswerByPartition, IsSwitchDecision, IsSwitchReady, IsRightSwitchAnswer, Seek, SwitchSite, Stuck, SwitchValue, admitted, arrive_answer, switch_arrived_with, by_entry, by_rule, switch_stuck_cause, enter_answer, switch_entered_with, switch_entered_by_answer, held_tables, looked_up, switch_lookup_by_stamp, next_of, own_part, switch_packet_of, switch_route_known, switch_rule_to_cache, switch_setting_out, stamp_tables}
 use Rattle.switch_core.specs.declared.tunnel_calls.Arrived.TheVariants as arrival
 use Rattle.switch_core.specs.declared.deciding.Decision.{Decision}
 use Rattle.switch_core.specs.declared.tunnel_calls.Entered.TheVariants as entry
@@ -59,7 +59,7 @@ by_cache s site packet cached first = search rules
 
 by_own : (s : SwitchValue) (site : SwitchSite) (packet : Packet) (version partition : ℕ)
     (tables : Tables) (answer : Answer) → held_tables s version ≡ Some tables →
-    IsDecidedBySwitchIn s site packet version tables partition answer → IsSourced s site packet answer
+    IsSwitchAnswerByPartition s site packet version tables partition answer → IsSourced s site packet answer
 by_own s site packet version partition tables answer held by =
     subst (IsSourced s site packet) (sym by.answered) (record {
       source = inr own;
@@ -71,7 +71,7 @@ by_own s site packet version partition tables answer held by =
     decision : Decision
     decision = by_rule s.number version by.own.part.number by.own.rule
 
-    own : IsBySwitchOwnRule s packet.header decision
+    own : IsSwitchOwnRuleDecision s packet.header decision
     own = record { tables = tables; held = held; own = by.own; decided = refl }
 
     rule : Body
@@ -93,7 +93,7 @@ by_own s site packet version partition tables answer held by =
     is_carried body false is = cc
 
 by_lookup : (s : SwitchValue) (site : SwitchSite) (packet : Packet) (answer : Answer) →
-    IsSwitchReady s packet.header → IsRightAnswer s site packet answer → IsSourced s site packet answer
+    IsSwitchReady s packet.header → IsRightSwitchAnswer s site packet answer → IsSourced s site packet answer
 by_lookup s site packet answer ready law = by_found (switch_lookup_by_stamp s packet.header) refl where
   by_way : (leg : Leg) (targets : List ℕ) (route : Option (List ℕ)) →
       MatchOption route (answer ≡ Stuck (switch_stuck_cause s site.near packet.down leg targets) leg)
@@ -127,14 +127,14 @@ pub decided_on_entry : (s : SwitchValue) (site : SwitchSite) (packet : Packet) (
     × IsSwitchDecision s site packet decision cache way
 decided_on_entry s site packet decision way ready is =
     let looked = entry_by s site packet true ready.serving in
-    let told = told_entry (looked_up s site packet) decision way (sym (ap switch_entry_of looked) ∙ is) in (
+    let told = told_entry (looked_up s site packet) decision way (sym (ap switch_entered_by_answer looked) ∙ is) in (
       told.0,
       looked ∙ ap Some told.1,
       rw told.1 at (by_lookup s site packet _ ready (lookup_is s site packet ready)),
     )
 
 pub decided_on_arrival : (s : SwitchValue) (site : SwitchSite) (t : TunnelValue) (decision : Decision)
-    (cache : Option Body) (way : Next) → IsArrivingAtSwitch s t →
+    (cache : Option Body) (way : Next) → IsSwitchReadyAsAuthority s t →
     arrive_answer s site t ≡ arrival.Decided decision cache way →
     IsSwitchDecision s site (switch_packet_of t) decision cache way
 decided_on_arrival s site t decision cache way arriving is = by_leg t.leg refl where
@@ -178,7 +178,7 @@ of_plan P kept (hosted ∷ plan) all =
 pub decides_as_policy : (s : SwitchValue) (header : Header) (decision : Decision) (rows : List Row)
     (plan : List Hosted) → AreSoundPolicyPartitions rows (map part_of plan) → IsHeader header
     → held_tables s decision.version ≡ Some (tables_of plan decision.version s.number)
-    → IsBySwitchOwnRule s header decision
+    → IsSwitchOwnRuleDecision s header decision
     → scan rows header ≡ record { rule = decision.rule; action = decision.action }
 decides_as_policy s header decision rows plan sound is planned by =
     let part = by.own.part in

@@ -5,7 +5,7 @@ use Rattle.failover.specs.declared.advert.Advert.{Advert}
 use Rattle.failover.specs.Exports.{adverts_after_hearing}
 use Rattle.failover.proofs.FailoverHeldAdverts.{after_no_news}
 use Rattle.switch_table.specs.declared.tables.Tables.{Tables}
-use Rattle.switch_core.specs.Exports.{SwitchValue, switch_collected_to, held_tables, is_news_here, switch_stamp_raised_to, switch_stamped_with, switch_with_heard, with_installed}
+use Rattle.switch_core.specs.Exports.{SwitchValue, switch_collected_to, held_tables, is_news_to_switch, switch_stamp_raised_to, switch_stamped_with, switch_after_advert, switch_with_installed}
 use Rattle.ternary.specs.Exports.{WordValue}
 
 -- ---- tables
@@ -38,9 +38,9 @@ some_or : (o other : Option Tables) → is_some o ≡ true → o ≡ option_or o
 some_or o other is = search rules
 
 pub held_once_installed : (s : SwitchValue) (tables : Tables) (version : ℕ)
-    → held_tables (with_installed s tables) version ≡ option_or (held_tables s version)
+    → held_tables (switch_with_installed s tables) version ≡ option_or (held_tables s version)
     (cond ((tables.version == version) && nat_lt s.collected version) (Some tables) None)
-unfolding with_installed
+unfolding switch_with_installed
 held_once_installed s tables version = search (rules, nat_tests, eqb-true, find-append)
 
 -- ---- a stamp, and adverts
@@ -55,7 +55,7 @@ pub stamp_once_told : (s : SwitchValue) (version : ℕ) (touched : List WordValu
 unfolding switch_stamped_with
 stamp_once_told s version touched = grind (arith, nat_tests)
 
-pub database_once_informed : (s : SwitchValue) (advert : Advert) → (switch_with_heard s advert).database
+pub database_once_informed : (s : SwitchValue) (advert : Advert) → (switch_after_advert s advert).database
     ≡ cond (advert.origin == s.number) s.database (adverts_after_hearing s.database advert)
-unfolding switch_with_heard is_news_here
+unfolding switch_after_advert is_news_to_switch
 database_once_informed s advert = search (rules, after_no_news)

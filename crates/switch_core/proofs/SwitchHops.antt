@@ -4,11 +4,11 @@ use Rattle.base.proofs.Exports.{get_or_from_slice_get, get_or_past, has-zero}
 use Rattle.policy_rules.specs.declared.packet.Cause.{Cause}
 use Rattle.failover.proofs.FailoverKnownLinks.{has_known}
 use Rattle.failover.proofs.RouteSearch.{known_route_is_route}
-use Rattle.failover.specs.Exports.{IsPath, IsRoute, is_link, known_links, neighbours_by_adverts, route_of}
+use Rattle.failover.specs.Exports.{IsPath, IsRoute, is_route_link, known_links, neighbours_by_adverts, route_of}
 use Rattle.base.specs.Exports.{has}
 use Rattle.failover.specs.declared.advert.Advert.{Advert}
 use Rattle.tunnel.specs.Exports.{TunnelValue, here, tunnel_marked_down, next, on_route, tunnel_route_from_here}
-use Rattle.switch_core.specs.Exports.{IsSamePacketAtSwitch, Moved, PacketStandsAtSwitch, SwitchValue, switch_stuck_cause, switch_found_down_with, switch_hop_answer, switch_hopped_to, switch_found_link_down, switch_move_answer, switch_moved_along_route, rerouted_here, switch_route_around}
+use Rattle.switch_core.specs.Exports.{IsSwitchPacketSame, Moved, SwitchStandsAtRoutePlace, SwitchValue, switch_stuck_cause, switch_found_down_with, switch_hop_answer, switch_hopped_to, switch_found_link_down, switch_move_answer, switch_moved_along_route, switch_rerouted_here, switch_route_around}
 use Rattle.switch_core.specs.declared.tunnel_calls.HopEnd.TheVariants.{Arrive, Move, Stuck}
 
 -- ---- a link that is found down
@@ -34,7 +34,7 @@ hop_moves s near t other is usable = cc (is, usable)
 pub hop_around : (s : SwitchValue) (near : ℕ) (t : TunnelValue) (other : ℕ) (way : Option (List ℕ))
     → switch_found_link_down near (next t) ≡ Some other → switch_route_around s near t other ≡ way
     → switch_hop_answer s near t ≡ switch_moved_along_route s near (tunnel_marked_down t other) way
-unfolding switch_hop_answer rerouted_here
+unfolding switch_hop_answer switch_rerouted_here
 hop_around s near t other way found is = cc (found, is)
 
 pub hop_stuck : (s : SwitchValue) (near : ℕ) (t : TunnelValue) (other : ℕ) →
@@ -72,15 +72,15 @@ hop_turns s near t other way found some =
 
 -- a packet stays the same on another route, and with other links down
 same_but : (t : TunnelValue) (route : List ℕ) (place : ℕ) (down : List ℕ) →
-    IsSamePacketAtSwitch t (record t { route = route; place = place; down = down })
+    IsSwitchPacketSame t (record t { route = route; place = place; down = down })
 same_but t route place down = refl
 
 -- what is true of each move, and where a packet is stuck, is true of a hop
 each_hop : (s : SwitchValue) (near : ℕ) (t : TunnelValue) (P : Moved → Type 0) →
-    ((on : TunnelValue) → IsSamePacketAtSwitch t on → P (switch_move_answer on (next on))) →
+    ((on : TunnelValue) → IsSwitchPacketSame t on → P (switch_move_answer on (next on))) →
     ((other : ℕ) (cause : Cause) → P (record { end = Stuck cause; tunnel = tunnel_marked_down t other })) →
     P (switch_hop_answer s near t)
-unfolding switch_hop_answer rerouted_here
+unfolding switch_hop_answer switch_rerouted_here
 each_hop s near t P moves stuck = by_found (switch_found_link_down near (next t)) where
   by_way : (other : ℕ) (way : Option (List ℕ)) → P (switch_moved_along_route s near (tunnel_marked_down t other) way)
   by_way other None = stuck other _
@@ -114,12 +114,12 @@ hop_ends s near t is =
     by_next on (Some after) is end = absurd (cc)
 
 pub hop_same : (s : SwitchValue) (near : ℕ) (t : TunnelValue) →
-    IsSamePacketAtSwitch t (switch_hop_answer s near t).tunnel
-hop_same s near t = each_hop s near t (λ m. IsSamePacketAtSwitch t m.tunnel)
+    IsSwitchPacketSame t (switch_hop_answer s near t).tunnel
+hop_same s near t = each_hop s near t (λ m. IsSwitchPacketSame t m.tunnel)
     (λ on same. by_next on (next on) same) (λ other cause. same_but t t.route t.place _)
   where
-    by_next : (on : TunnelValue) (after : Option ℕ) → IsSamePacketAtSwitch t on →
-        IsSamePacketAtSwitch t (switch_move_answer on after).tunnel
+    by_next : (on : TunnelValue) (after : Option ℕ) → IsSwitchPacketSame t on →
+        IsSwitchPacketSame t (switch_move_answer on after).tunnel
     by_next on None same = same
     by_next on (Some after) same = ap (λ (u : TunnelValue). (switch_move_answer u (Some after)).tunnel)
         same
@@ -164,7 +164,7 @@ way_leads adverts from near down targets way is = let links = known_links advert
 way_is_usable : (adverts : List (Option Advert)) (from near : ℕ) (down targets way : List ℕ)
     (second : ℕ) → route_of adverts from targets near down ≡ Some way →
     slice_get way 1 ≡ Some second → IsTrue (has near second)
-unfolding is_link
+unfolding is_route_link
 way_is_usable adverts from near down targets way second is next =
     let path = way_leads adverts from near down targets way is in
     let link = first_link (known_links adverts from near down) from path.0 way second path.1 next in
@@ -174,7 +174,7 @@ way_is_usable adverts from near down targets way second is next =
 
 pub hop_usable : (s : SwitchValue) (near : ℕ) (t : TunnelValue) (other : ℕ) →
     (switch_hop_answer s near t).end ≡ Move other → IsTrue (has near other)
-unfolding switch_hop_answer rerouted_here
+unfolding switch_hop_answer switch_rerouted_here
 hop_usable s near t other = search (rules, way_is_usable)
 
 -- ---- where it arrives
@@ -186,8 +186,8 @@ unfolding IsPath
 path_begins links from target way path = search rules
 
 -- a packet that is here and arrives is still here
-pub hop_stays : (s : SwitchValue) (near : ℕ) (t : TunnelValue) → PacketStandsAtSwitch s t.route t.place →
+pub hop_stays : (s : SwitchValue) (near : ℕ) (t : TunnelValue) → SwitchStandsAtRoutePlace s t.route t.place →
     (switch_hop_answer s near t).end ≡ Arrive →
-    PacketStandsAtSwitch s (switch_hop_answer s near t).tunnel.route (switch_hop_answer s near t).tunnel.place
-unfolding switch_hop_answer rerouted_here
+    SwitchStandsAtRoutePlace s (switch_hop_answer s near t).tunnel.route (switch_hop_answer s near t).tunnel.place
+unfolding switch_hop_answer switch_rerouted_here
 hop_stays s near t stands = search (rules, way_leads, path_begins, get_or_from_slice_get)

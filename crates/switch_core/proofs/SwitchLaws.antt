@@ -11,7 +11,7 @@ use Rattle.ctrl_msg.specs.declared.message.Body.TheVariants.{Install, OpenAt, St
 use Rattle.switch_table.specs.Exports.{CacheValue}
 use Rattle.switch_table.specs.declared.tables.Tables.{Tables}
 use Rattle.switch_core.specs.declared.tunnel_calls.Packet.{Packet}
-use Rattle.switch_core.specs.Exports.{HasSwitchAdvertUpTo, IsHeardBySwitch, SwitchValue, switch_after_body, are_isolated, switch_stuck_cause, switch_collected_to, is_seek, obeys, switch_stamp_raised_to, set_out, switch_stamped_with, switch_with_heard, with_installed, switch_with_message}
+use Rattle.switch_core.specs.Exports.{HasSwitchAdvertUpTo, IsSwitchAfterHearing, SwitchValue, switch_after_body, are_isolated, switch_stuck_cause, switch_collected_to, is_switch_seek_leg, obeys, switch_stamp_raised_to, set_out, switch_stamped_with, switch_after_advert, switch_with_installed, switch_with_message}
 use Rattle.ternary.specs.Exports.{WordValue}
 
 -- ---- packets
@@ -23,7 +23,7 @@ unfolding set_out
 stuck_without_route s near packet leg targets = search rules
 
 pub no_authority_left : (s : SwitchValue) (near : ℕ) (down : List ℕ) (leg : Leg) (targets : List ℕ)
-    → (switch_stuck_cause s near down leg targets ≡ NoAuthority) ↔ (IsTrue (is_seek leg)
+    → (switch_stuck_cause s near down leg targets ≡ NoAuthority) ↔ (IsTrue (is_switch_seek_leg leg)
     × All (λ target. IsTrue (is_isolated s.database s.number target near down)) targets)
 unfolding switch_stuck_cause are_isolated
 no_authority_left s near down leg targets =
@@ -40,7 +40,7 @@ own_first near count number below advert is = search (rules, held-first)
 -- what a message may change
 kept : (s : SwitchValue) (is_open : Bool) (stamp collected : ℕ) (tables : List Tables)
     (cache : CacheValue) (database : List (Option Advert))
-    → s.stamp ≤ stamp → s.collected ≤ collected → IsHeardBySwitch s (record s {
+    → s.stamp ≤ stamp → s.collected ≤ collected → IsSwitchAfterHearing s (record s {
       is_open = is_open;
       stamp = stamp;
       collected = collected;
@@ -50,25 +50,25 @@ kept : (s : SwitchValue) (is_open : Bool) (stamp collected : ℕ) (tables : List
     })
 kept s is_open stamp collected tables cache database stamped marked = search rules
 
-same : (s : SwitchValue) → IsHeardBySwitch s s
+same : (s : SwitchValue) → IsSwitchAfterHearing s s
 same s = search rules
 
-either : (s one other : SwitchValue) (test : Bool) → IsHeardBySwitch s one → IsHeardBySwitch s other →
-    IsHeardBySwitch s (cond test one other)
+either : (s one other : SwitchValue) (test : Bool) → IsSwitchAfterHearing s one → IsSwitchAfterHearing s other →
+    IsSwitchAfterHearing s (cond test one other)
 either s one other test left right = search rules
 
 raised_heard : (s : SwitchValue) (is_open : Bool) (version : ℕ) →
-    IsHeardBySwitch s (record (switch_stamp_raised_to s version) { is_open = is_open })
+    IsSwitchAfterHearing s (record (switch_stamp_raised_to s version) { is_open = is_open })
 unfolding switch_stamp_raised_to
 raised_heard s is_open version = search (rules, nat_tests)
 
 stamped_heard : (s : SwitchValue) (version : ℕ) (touched : List WordValue) →
-    IsHeardBySwitch s (switch_stamped_with s version touched)
+    IsSwitchAfterHearing s (switch_stamped_with s version touched)
 unfolding switch_stamped_with
 stamped_heard s version touched = search (rules, nat_tests)
 
-heard_body : (s : SwitchValue) (number : ℕ) (body : Body) → IsHeardBySwitch s (switch_after_body s number body)
-unfolding with_installed switch_collected_to switch_with_heard
+heard_body : (s : SwitchValue) (number : ℕ) (body : Body) → IsSwitchAfterHearing s (switch_after_body s number body)
+unfolding switch_with_installed switch_collected_to switch_after_advert
 heard_body s number (Install boot tables) = search rules
 heard_body s number (OpenAt boot version) = raised_heard s true version
 heard_body s number (Stamp boot version touched) = stamped_heard s version touched
@@ -77,7 +77,7 @@ heard_body s number (CacheRule version word rule action) = search rules
 heard_body s number (Advertise advert) = search rules
 heard_body s number _ = same s
 
-pub heard_keeps : (s : SwitchValue) (number : ℕ) (body : Body) → IsHeardBySwitch s (switch_with_message s number body)
+pub heard_keeps : (s : SwitchValue) (number : ℕ) (body : Body) → IsSwitchAfterHearing s (switch_with_message s number body)
 unfolding switch_with_message
 heard_keeps s number body = either s _ _ (obeys s body) (heard_body s number body) (same s)
 

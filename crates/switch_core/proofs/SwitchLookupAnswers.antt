@@ -12,7 +12,7 @@ use Rattle.switch_table.specs.declared.cache.CacheEntry.{CacheEntry}
 use Rattle.switch_table.specs.declared.search.Found.{Found}
 use Rattle.switch_table.specs.declared.search.Found.TheVariants.{Cached, Authority, Redirect}
 use Rattle.switch_table.specs.declared.tables.Tables.{Tables}
-use Rattle.switch_core.specs.Exports.{Answer, Decided, IsDecidedBySwitchIn, IsSwitchFirstHit, IsFoundBySwitch, IsSwitchReady, IsRightAnswer, IsSoundSwitch, IsSwitchAnswerUncached, Seek, SwitchSite, Stuck, SwitchValue, admitted, switch_answer_by_found, by_entry, switch_stuck_cause, switch_answer_by_rule, held_tables, holds_version, incoming_packet, looked_up, switch_lookup_by_stamp, next_of, no_switch_part, no_rule, own_part, switch_part_numbered, switch_route_known, switch_cache_rule_sent, switch_own_rule_in, switch_seek_by, set_out, switch_setting_out, stamp_tables}
+use Rattle.switch_core.specs.Exports.{Answer, Decided, IsSwitchAnswerByPartition, IsSwitchFirstHit, IsSwitchFindingFirstHit, IsSwitchReady, IsRightSwitchAnswer, IsSoundSwitch, IsSwitchAnswerUncached, Seek, SwitchSite, Stuck, SwitchValue, admitted, switch_answer_by_found, by_entry, switch_stuck_cause, switch_answer_by_rule, held_tables, holds_version, switch_incoming_packet, looked_up, switch_lookup_by_stamp, next_of, no_switch_core_partition, no_rule, own_part, switch_core_partition_numbered, switch_route_known, switch_cache_rule_sent, switch_core_rule_in, switch_seek_by, set_out, switch_setting_out, stamp_tables}
 use Rattle.switch_core.specs.declared.tunnel_calls.Packet.{Packet}
 use Rattle.switch_core.proofs.SwitchOwnLookups.{lookup_is_found}
 
@@ -48,7 +48,7 @@ own_number tables number part is = search (rules, eqb-true, find-there)
 -- the partition of a number decides, by its first hit
 abbrev pub IsHitIn : SwitchValue → SwitchSite → Packet → ℕ → Tables → ℕ → ℕ → Answer → Type 0
 IsHitIn s site packet version tables number place answer =
-    (by : IsDecidedBySwitchIn s site packet version tables number answer) × (by.own.place ≡ place)
+    (by : IsSwitchAnswerByPartition s site packet version tables number answer) × (by.own.place ≡ place)
 
 hit_of : (s : SwitchValue) (site : SwitchSite) (packet : Packet) (version : ℕ) (tables : Tables)
     (number place : ℕ) (part : Partition) → own_part tables number ≡ Some part
@@ -58,13 +58,13 @@ unfolding switch_answer_by_rule switch_cache_rule_sent
 hit_of s site packet version tables number place part is hit =
     let test = is_held (number_of packet.header) in
     let within = (position-Some test part.rules place no_rule hit.first).0 in
-    let there : slice_get part.rules place ≡ Some (switch_own_rule_in part place) =
+    let there : slice_get part.rules place ≡ Some (switch_core_rule_in part place) =
     slice_get-get_or part.rules place no_rule within in (
       record {
         own = record {
           part = part;
           place = place;
-          rule = switch_own_rule_in part place;
+          rule = switch_core_rule_in part place;
           own = ap (own_part tables) (own_number tables number part is) ∙ is;
           hit = hit;
           at_place = there;
@@ -79,12 +79,12 @@ hit_of s site packet version tables number place part is hit =
 pub hit_in : (s : SwitchValue) (site : SwitchSite) (packet : Packet) (version : ℕ) (tables : Tables)
     (number place : ℕ) → IsSomeAnd (own_part tables number)
     (λ part. IsSwitchFirstHit packet.header part place) → IsHitIn s site packet version tables number
-    place (switch_answer_by_rule s site packet version (switch_part_numbered tables number) place)
+    place (switch_answer_by_rule s site packet version (switch_core_partition_numbered tables number) place)
 hit_in s site packet version tables number place = by_part (own_part tables number) refl where
   by_part : (part : Option Partition) → own_part tables number ≡ part →
       IsSomeAnd part (λ part. IsSwitchFirstHit packet.header part place) →
       IsHitIn s site packet version tables number place
-      (switch_answer_by_rule s site packet version (unwrap_or part no_switch_part) place)
+      (switch_answer_by_rule s site packet version (unwrap_or part no_switch_core_partition) place)
   by_part (Some part) is hit = hit_of s site packet version tables number place part is hit
   by_part None is hit = absurd hit
 
@@ -117,7 +117,7 @@ unfolding switch_answer_by_found
 lookup_authority s site packet partition place ready found =
     let tables = stamp_tables s in
     let sound = stamp_sound s ready.switch ready.stamped in
-    let is_found : IsFoundBySwitch tables packet.header (switch_lookup_by_stamp s packet.header) =
+    let is_found : IsSwitchFindingFirstHit tables packet.header (switch_lookup_by_stamp s packet.header) =
     lookup_is_found s.cache.entries tables packet.header sound ready.is_header in
     let hit = hit_in s site packet tables.version tables partition place (rw found at is_found) in
     subst (IsHitIn s site packet s.stamp tables partition place)
@@ -145,7 +145,7 @@ lookup_redirect s site packet partition targets ready found =
     (sets_out s site.near packet leg targets)
 
 pub lookup_is : (s : SwitchValue) (site : SwitchSite) (packet : Packet) → IsSwitchReady s packet.header →
-    IsRightAnswer s site packet (looked_up s site packet)
+    IsRightSwitchAnswer s site packet (looked_up s site packet)
 lookup_is s site packet ready = record {
   cached = lookup_cached s site packet;
   authority = λ partition place. lookup_authority s site packet partition place ready;
@@ -160,6 +160,6 @@ unfolding looked_up switch_answer_by_found switch_answer_by_rule switch_cache_ru
 lookup_uncached s site packet here = search (rules, eq-eqb)
 
 pub entry_uncached : (s : SwitchValue) (site : SwitchSite) (number : ℕ) (header : Header) →
-    IsSwitchAnswerUncached (admitted s site (incoming_packet s number header))
+    IsSwitchAnswerUncached (admitted s site (switch_incoming_packet s number header))
 unfolding admitted
 entry_uncached s site number header = search (rules, lookup_uncached)

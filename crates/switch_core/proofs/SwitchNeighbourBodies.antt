@@ -1,7 +1,7 @@
 -- A body for each neighbour below a number.
 use Rattle.std.proofs.Common.{[], ◌++◌, ◌+◌, ◌-◌, ◌<◌, ◌==◌, ◌^◌, ◌∙◌, ◌∷◌, ◌≡◌, ◌≤◌, List, ap, append-nil, arith, cond, eq-zero-or-pos, false, filter, inl, inr, map, suc, sym, true, w64, zero, ℕ}
 use Rattle.base.proofs.Exports.{bit_at_above, filter_more, has-zero, leading_length, leading_zeros, least_below, map-append, range_with_len, trailing_zeros}
-use Rattle.base.specs.Exports.{has, least_in, switches}
+use Rattle.base.specs.Exports.{has, least_in_number_set, switches}
 use Rattle.ctrl_msg.specs.declared.message.Body.{Body}
 use Rattle.ctrl_msg.specs.declared.message.Message.{Message}
 use Rattle.ctrl_msg.specs.declared.message.Place.TheVariants.{Switch}
@@ -41,7 +41,7 @@ told_same near body n (suc k) none = let next : n + suc k ≡ n + k + 1 = omega 
 
 -- no neighbour is below the least one, nor any where there is none
 none_below : (near j : ℕ) → near < 2 ^ 64 → j < trailing_zeros w64 near → has near j ≡ false
-unfolding least_in
+unfolding least_in_number_set
 none_below near j fits below = elim (eq-zero-or-pos near) [
   | inl none ↦ ap (λ n. has n j) none ∙ has-zero j
   | inr some ↦ least_below near some fits j below

@@ -6,14 +6,14 @@ use Rattle.policy_rules.specs.declared.packet.Leg.{Leg}
 use Rattle.policy_rules.specs.declared.packet.Leg.TheVariants.{Seek as SeekLeg, Exit as ExitLeg}
 use Rattle.policy_rules.specs.declared.policy.Action.{Action}
 use Rattle.policy_rules.specs.declared.policy.Action.TheVariants.{Drop, Out as OutBy}
-use Rattle.net_file.specs.Exports.{port_owner}
+use Rattle.net_file.specs.Exports.{owner_in_net_ports}
 use Rattle.base.specs.Exports.{has}
 use Rattle.base.proofs.Exports.{MatchOption-same}
 use Rattle.tunnel.specs.Exports.{TunnelValue, next}
 use Rattle.switch_table.specs.declared.search.Found.{Found}
 use Rattle.switch_table.specs.declared.search.Found.TheVariants.{Cached, Authority, Redirect}
 use Rattle.switch_table.specs.declared.tables.Tables.{Tables}
-use Rattle.switch_core.specs.Exports.{Answer, IsSwitchArrival, IsArrivingAtSwitch, IsDecidedBySwitchIn, IsSwitchEntry, IsSwitchHop, IsSwitchNextStep, IsSwitchReady, IsRightAnswer, Moved, SwitchOwnRule, Seek, SwitchSite, Stuck, SwitchValue, arrive_answer, switch_arrived_with, switch_stuck_cause, switch_found_down_with, enter_answer, held_tables, switch_hop_answer, switch_found_link_down, looked_up, switch_lookup_by_stamp, next_of, switch_packet_of, switch_route_around, switch_route_known, serves, switch_setting_out, stamp_tables}
+use Rattle.switch_core.specs.Exports.{Answer, IsSwitchArrival, IsSwitchReadyAsAuthority, IsSwitchAnswerByPartition, IsSwitchEntry, IsSwitchHop, IsSwitchNextStep, IsSwitchReady, IsRightSwitchAnswer, Moved, SwitchFindsOwnRule, Seek, SwitchSite, Stuck, SwitchValue, arrive_answer, switch_arrived_with, switch_stuck_cause, switch_found_down_with, enter_answer, held_tables, switch_hop_answer, switch_found_link_down, looked_up, switch_lookup_by_stamp, next_of, switch_packet_of, switch_route_around, switch_route_known, serves, switch_setting_out, stamp_tables}
 use Rattle.switch_core.specs.declared.tunnel_calls.Arrived.{Arrived}
 use Rattle.switch_core.specs.declared.tunnel_calls.Entered.{Entered}
 use Rattle.switch_core.specs.declared.tunnel_calls.HopEnd.TheVariants as hop
@@ -28,7 +28,7 @@ use Rattle.switch_core.proofs.SwitchHops.{down_is, hop_arrives, hop_moves, hop_s
 -- ---- alternatives
 
 -- one first hit in one partition of a number
-same_part : (tables : Tables) (header : Header) (own other : SwitchOwnRule tables header) →
+same_part : (tables : Tables) (header : Header) (own other : SwitchFindsOwnRule tables header) →
     own.part.number ≡ other.part.number → own.part ≡ other.part
 same_part tables header own other number = search rules
 
@@ -36,12 +36,12 @@ same_part tables header own other number = search rules
 
 same_decided : (s : SwitchValue) (site : SwitchSite) (packet : Packet) (version partition : ℕ)
     (tables : Tables) (answer other : Answer) →
-    IsDecidedBySwitchIn s site packet version tables partition answer →
-    IsDecidedBySwitchIn s site packet version tables partition other → answer ≡ other
+    IsSwitchAnswerByPartition s site packet version tables partition answer →
+    IsSwitchAnswerByPartition s site packet version tables partition other → answer ≡ other
 same_decided s site packet version partition tables answer other one two = search (rules, same_part)
 
 same_answer : (s : SwitchValue) (site : SwitchSite) (packet : Packet) (answer other : Answer) →
-    IsRightAnswer s site packet answer → IsRightAnswer s site packet other → answer ≡ other
+    IsRightSwitchAnswer s site packet answer → IsRightSwitchAnswer s site packet other → answer ≡ other
 same_answer s site packet answer other one two = by_found (switch_lookup_by_stamp s packet.header) refl
   where
     by_found : (found : Found) → switch_lookup_by_stamp s packet.header ≡ found → answer ≡ other
@@ -56,7 +56,7 @@ same_answer s site packet answer other one two = by_found (switch_lookup_by_stam
         (one.redirect partition targets is) (two.redirect partition targets is)
 
 pub one_answer : (s : SwitchValue) (site : SwitchSite) (packet : Packet) (answer : Answer) →
-    IsSwitchReady s packet.header → IsRightAnswer s site packet answer → answer ≡ looked_up s site packet
+    IsSwitchReady s packet.header → IsRightSwitchAnswer s site packet answer → answer ≡ looked_up s site packet
 one_answer s site packet answer ready law = search (rules, same_answer, lookup_is)
 
 -- ---- of a packet that enters
@@ -69,7 +69,7 @@ one_entry s site packet answer ready law = search (rules, entry_is, same_answer)
 -- ---- of a packet that arrives
 
 pub one_arrival : (s : SwitchValue) (site : SwitchSite) (t : TunnelValue) (answer : Arrived) →
-    IsArrivingAtSwitch s t → IsSwitchArrival s site t answer → answer ≡ arrive_answer s site t
+    IsSwitchReadyAsAuthority s t → IsSwitchArrival s site t answer → answer ≡ arrive_answer s site t
 one_arrival s site t answer arriving law = by_leg t.leg refl where
   by_tables : (version partition : ℕ) → t.leg ≡ SeekLeg version partition →
       (held : Option Tables) → held_tables s version ≡ held → answer ≡ arrive_answer s site t
@@ -96,7 +96,7 @@ pub one_way_on : (s : SwitchValue) (site : SwitchSite) (packet : Packet) (action
     (way : Next) → IsSwitchNextStep s site packet action way → way ≡ next_of s site packet action
 one_way_on s site packet action way law = by_action action refl where
   by_owner : (port : ℕ) → action ≡ OutBy port → (owner : Option ℕ) →
-      port_owner site.ports port ≡ owner → way ≡ next_of s site packet action
+      owner_in_net_ports site.ports port ≡ owner → way ≡ next_of s site packet action
   by_owner port by None none =
       law.no_owner port by none ∙ sym (next_no_owner s site packet action port by none)
   by_owner port by (Some owner) has = by_test (owner == s.number) refl where
@@ -115,7 +115,7 @@ one_way_on s site packet action way law = by_action action refl where
 
   by_action : (a : Action) → action ≡ a → way ≡ next_of s site packet action
   by_action Drop by = law.dropped.1 by ∙ sym ((next_dropped s site packet action).1 by)
-  by_action (OutBy port) by = by_owner port by (port_owner site.ports port) refl
+  by_action (OutBy port) by = by_owner port by (owner_in_net_ports site.ports port) refl
 
 -- ---- of a packet on its way
 

@@ -5,7 +5,7 @@ use Rattle.failover.specs.declared.advert.Advert.{Advert}
 use Rattle.failover.specs.Exports.{adverts_after_hearing, held_advert, is_news, no_adverts}
 use Rattle.failover.proofs.FailoverHeldAdverts.{held_others}
 use Rattle.failover.proofs.FailoverNewestAdvert.{not_newer}
-use Rattle.switch_core.specs.Exports.{HasSwitchAdvertUpTo, SwitchValue, is_news_here, own_advert}
+use Rattle.switch_core.specs.Exports.{HasSwitchAdvertUpTo, SwitchValue, is_news_to_switch, own_advert}
 
 -- ---- by the numbers alone
 
@@ -49,7 +49,7 @@ pub own_others : (adverts : List (Option Advert)) (advert : Advert) (number boot
 own_others adverts advert number boot seq other own held_one is = search (rules, held_others)
 
 -- news is of another switch
-pub news_is_of_another : (s : SwitchValue) (advert : Advert) → is_news_here s advert ≡ true →
+pub news_is_of_another : (s : SwitchValue) (advert : Advert) → is_news_to_switch s advert ≡ true →
     s.number ≢ advert.origin
-unfolding is_news_here
+unfolding is_news_to_switch
 news_is_of_another s advert news same = search (rules, nat_tests)

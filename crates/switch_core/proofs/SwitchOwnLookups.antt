@@ -10,7 +10,7 @@ use Rattle.switch_table.specs.Exports.{AreSoundSwitchTables, table_authority_of,
 use Rattle.switch_table.specs.declared.cache.CacheEntry.{CacheEntry}
 use Rattle.switch_table.specs.declared.tables.Tables.{Tables}
 use Rattle.switch_table.specs.declared.search.Found.TheVariants.{Cached}
-use Rattle.switch_core.specs.Exports.{IsSwitchFirstHit, IsFoundBySwitch, own_part, switch_part_numbered, switch_own_rule_place}
+use Rattle.switch_core.specs.Exports.{IsSwitchFirstHit, IsSwitchFindingFirstHit, own_part, switch_core_partition_numbered, switch_own_rule_place}
 
 -- ---- a switch's own partitions
 
@@ -68,11 +68,11 @@ own_hit tables number part header sound is found held =
 -- what a lookup in sound tables finds
 pub lookup_is_found : (entries : List CacheEntry) (tables : Tables) (header : Header) →
     AreSoundSwitchTables tables → IsHeader header →
-    IsFoundBySwitch tables header (lookup_of entries tables header)
+    IsSwitchFindingFirstHit tables header (lookup_of entries tables header)
 lookup_is_found entries tables header sound is =
     by_entry (first_entry tables.version (number_of header) entries)
   where
-    by_part : (part : Option Partition) → find (is_in_policy_partition header) tables.auth ≡ part → IsFoundBySwitch tables
+    by_part : (part : Option Partition) → find (is_in_policy_partition header) tables.auth ≡ part → IsSwitchFindingFirstHit tables
         header (option_map_or (table_authority_of header) part (table_redirect_of header tables.parts))
     by_part None none = tt
     by_part (Some part) found =
@@ -83,16 +83,16 @@ lookup_is_found entries tables header sound is =
         (own_hit tables part.number part header sound is own there.1)
 
     by_entry : (entry : Option CacheEntry) →
-        IsFoundBySwitch tables header (option_map_or Cached entry (table_lookup tables header))
+        IsSwitchFindingFirstHit tables header (option_map_or Cached entry (table_lookup tables header))
     by_entry (Some entry) = tt
     by_entry None = by_part (find (is_in_policy_partition header) tables.auth) refl
 
 -- what a search in the own partition of a number finds for a header of its region
 pub record IsOwnFirst (tables : Tables) (number : ℕ) (header : Header) (found : Option ℕ)
     : Type 0 where
-  pub place : found ≡ Some (switch_own_rule_place header (switch_part_numbered tables number))
-  pub first : IsSwitchFirstHit header (switch_part_numbered tables number)
-      (switch_own_rule_place header (switch_part_numbered tables number))
+  pub place : found ≡ Some (switch_own_rule_place header (switch_core_partition_numbered tables number))
+  pub first : IsSwitchFirstHit header (switch_core_partition_numbered tables number)
+      (switch_own_rule_place header (switch_core_partition_numbered tables number))
 
 pub own_first : (tables : Tables) (number : ℕ) (header : Header) (found : Option ℕ) →
     AreSoundSwitchTables tables → IsHeader header →

@@ -1,5 +1,5 @@
--- What a switch returns for packets, as relations in terms of lookups, rules, routes and tunnels:
--- `x_laws` of the crate ensures that the relation of each call allows its result, and no other.
+-- What a switch returns for packets, as relations in terms of lookups, rules, routes and tunnels: a
+-- law of `src` ensures that the relation of each call allows its result, and no other.
 use Rattle.std.specs.Prelude.{[], if◌then◌else◌, ◌+◌, ◌==◌, ◌↔◌, ◌∷◌, ◌≡◌, ◌≢◌, ◌⊎◌, Bool, IsFalse, IsSome, IsTrue, List, MatchOption, None, Option, Some, false, map, slice_get, true, ℕ}
 use Rattle.five_tuple.specs.Exports.{IsHeader, number_of}
 use Rattle.five_tuple.specs.declared.header.Header.{Header}
@@ -14,7 +14,7 @@ use Rattle.policy_rules.specs.declared.policy.Action.TheVariants.{Drop, Out as O
 use Rattle.policy_rules.specs.declared.policy.Row.{Row}
 use Rattle.policy_rules.specs.declared.rules.Partition.{Partition}
 use Rattle.policy_rules.specs.declared.rules.Rule.{Rule}
-use Rattle.net_file.specs.Exports.{port_owner}
+use Rattle.net_file.specs.Exports.{owner_in_net_ports}
 use Rattle.failover.specs.Exports.{route_of, with_link}
 use Rattle.base.specs.Exports.{has}
 use Rattle.tunnel.specs.Exports.{TunnelValue, here, next, tunnel_begun}
@@ -26,10 +26,10 @@ use Rattle.switch_table.specs.declared.search.Found.TheVariants.{Cached, Authori
 use Rattle.switch_table.specs.declared.tables.Tables.{Tables}
 use Rattle.ctrl_msg.specs.declared.message.Body.{Body}
 use Rattle.ctrl_msg.specs.declared.message.Body.TheVariants.{CacheRule}
-use Rattle.switch_core.specs.Answering.{IsAtAuthoritySwitch, admitted, arrive_answer, enter_answer, looked_up, switch_packet_of}
+use Rattle.switch_core.specs.Answering.{IsSwitchAuthorityForLeg, admitted, arrive_answer, enter_answer, looked_up, switch_packet_of}
 use Rattle.switch_core.specs.Deciding.{IsSwitchFirstHit, by_entry, by_rule, own_part}
 use Rattle.switch_core.specs.Ends.{SwitchSite, switch_stuck_cause, next_of}
-use Rattle.switch_core.specs.Moving.{Moved, PacketStandsAtSwitch, switch_found_link_down, switch_hop_answer}
+use Rattle.switch_core.specs.Moving.{Moved, SwitchStandsAtRoutePlace, switch_found_link_down, switch_hop_answer}
 use Rattle.switch_core.specs.State.{IsSoundSwitch, SwitchValue, held_tables, holds_version, serves, stamp_tables}
 use Rattle.switch_core.specs.Answers.{Answer, Decided, Seek, Stuck, switch_arrived_with, switch_entered_with}
 use Rattle.switch_core.specs.declared.tunnel_calls.Arrived.{Arrived}
@@ -53,16 +53,16 @@ pub record IsSwitchReady (s : SwitchValue) (header : Header) : Type 0 where
 
 -- the switch is ready, and is an authority for the packet's leg: it has the leg's version, the
 -- leg's partition is one of its own, and that partition has the header
-pub record IsArrivingAtSwitch (s : SwitchValue) (t : TunnelValue) : Type 0 where
+pub record IsSwitchReadyAsAuthority (s : SwitchValue) (t : TunnelValue) : Type 0 where
   pub ready : IsSwitchReady s t.header
-  pub authority : IsAtAuthoritySwitch s t.header t.leg
+  pub authority : IsSwitchAuthorityForLeg s t.header t.leg
 
 -- what the cache and the tables of the stamp say about a header
 abbrev pub switch_lookup_by_stamp : SwitchValue → Header → Found
 switch_lookup_by_stamp s header = lookup_of s.cache.entries (stamp_tables s) header
 
 -- a rule of one of the tables' own partitions: the first there to hold a header of its region
-pub record SwitchOwnRule (tables : Tables) (header : Header) : Type 0 where
+pub record SwitchFindsOwnRule (tables : Tables) (header : Header) : Type 0 where
   pub part : Partition
   pub place : ℕ
   pub rule : Rule
@@ -82,23 +82,23 @@ switch_setting_out packet leg targets route =
     tunnel_begun packet.number packet.header packet.ingress leg targets route packet.down
 
 -- the first entry of the cache to hold the header, among those of the stamp's version, decides
-pub record IsBySwitchCache (s : SwitchValue) (header : Header) (decision : Decision) : Type 0 where
+pub record IsSwitchCacheDecision (s : SwitchValue) (header : Header) (decision : Decision) : Type 0 where
   pub entry : CacheEntry
   pub first : first_entry s.stamp (number_of header) s.cache.entries ≡ Some entry
   pub decided : decision ≡ by_entry entry
 
 -- one of the switch's own rules decides, by the tables of the decision's version
-pub record IsBySwitchOwnRule (s : SwitchValue) (header : Header) (decision : Decision) : Type 0 where
+pub record IsSwitchOwnRuleDecision (s : SwitchValue) (header : Header) (decision : Decision) : Type 0 where
   pub tables : Tables
   pub held : held_tables s decision.version ≡ Some tables
-  pub own : SwitchOwnRule tables header
+  pub own : SwitchFindsOwnRule tables header
   pub decided : decision ≡ by_rule s.number decision.version own.part.number own.rule
 
 -- ---- the result of a lookup
 
 -- the rule that is sent to a cache if one of these rules decides, by tables of a version: its word
 -- is the widened one
-abbrev pub switch_rule_to_cache : {tables : Tables} {header : Header} → ℕ → SwitchOwnRule tables header → Body
+abbrev pub switch_rule_to_cache : {tables : Tables} {header : Header} → ℕ → SwitchFindsOwnRule tables header → Body
 switch_rule_to_cache {tables} {header} version own =
     CacheRule version (widen (number_of header) own.part.region own.part.rules own.place)
     own.rule.rule own.rule.action
@@ -106,21 +106,21 @@ switch_rule_to_cache {tables} {header} version own =
 -- one of these rules decides, by tables of a version, and is sent to the cache of the switch where
 -- the packet entered, unless that is this one
 abbrev pub decided_by_switch : (s : SwitchValue) → SwitchSite → (packet : Packet) → ℕ →
-    {tables : Tables} → SwitchOwnRule tables packet.header → Answer
+    {tables : Tables} → SwitchFindsOwnRule tables packet.header → Answer
 decided_by_switch s site packet version own =
     Decided (by_rule s.number version own.part.number own.rule)
     (if packet.ingress == s.number then None else Some (switch_rule_to_cache version own))
     (next_of s site packet own.rule.action)
 
 -- the partition of this number decides by its first rule to hold the header
-pub record IsDecidedBySwitchIn (s : SwitchValue) (site : SwitchSite) (packet : Packet)
+pub record IsSwitchAnswerByPartition (s : SwitchValue) (site : SwitchSite) (packet : Packet)
     (version : ℕ) (tables : Tables) (partition : ℕ) (answer : Answer) : Type 0 where
-  pub own : SwitchOwnRule tables packet.header
+  pub own : SwitchFindsOwnRule tables packet.header
   pub numbered : own.part.number ≡ partition
   pub answered : answer ≡ decided_by_switch s site packet version own
 
 -- a switch that is ready looks a packet up under its stamp
-pub record IsRightAnswer (s : SwitchValue) (site : SwitchSite) (packet : Packet)
+pub record IsRightSwitchAnswer (s : SwitchValue) (site : SwitchSite) (packet : Packet)
     (answer : Answer) : Type 0 where
   -- a cached rule decides with its version, its rule and its action
   pub cached : (entry : CacheEntry) → switch_lookup_by_stamp s packet.header ≡ Cached entry →
@@ -128,7 +128,7 @@ pub record IsRightAnswer (s : SwitchValue) (site : SwitchSite) (packet : Packet)
   -- an authority rule decides with the stamp's version: its partition's first to hold the header
   pub authority : (partition place : ℕ) →
       switch_lookup_by_stamp s packet.header ≡ Authority partition place →
-      (by : IsDecidedBySwitchIn s site packet s.stamp (stamp_tables s) partition answer)
+      (by : IsSwitchAnswerByPartition s site packet s.stamp (stamp_tables s) partition answer)
       × (by.own.place ≡ place)
   -- a partition rule sends it to exactly its targets, and it is stuck on that leg exactly if no
   -- route leads to them
@@ -143,9 +143,9 @@ pub record IsRightAnswer (s : SwitchValue) (site : SwitchSite) (packet : Packet)
 pub record SwitchLookupLaws : Type 0 where
   pub is : (s : SwitchValue) (site : SwitchSite) (packet : Packet) →
       IsSwitchReady s packet.header →
-      IsRightAnswer s site packet (looked_up s site packet)
+      IsRightSwitchAnswer s site packet (looked_up s site packet)
   pub only : (s : SwitchValue) (site : SwitchSite) (packet : Packet)
-      (answer : Answer) → IsSwitchReady s packet.header → IsRightAnswer s site packet answer →
+      (answer : Answer) → IsSwitchReady s packet.header → IsRightSwitchAnswer s site packet answer →
       answer ≡ looked_up s site packet
 
 -- ---- a packet enters
@@ -157,7 +157,7 @@ pub record IsSwitchEntry (s : SwitchValue) (site : SwitchSite) (packet : Packet)
   -- otherwise it is looked up
   pub answered : IsSwitchReady s packet.header →
       (answer : Answer) × (enter_answer ≡ switch_entered_with answer)
-      × IsRightAnswer s site packet answer
+      × IsRightSwitchAnswer s site packet answer
 
 -- the result of `enter` is in the relation, and nothing else is
 pub record SwitchEnterLaws : Type 0 where
@@ -175,14 +175,14 @@ pub record IsSwitchNextStep (s : SwitchValue) (site : SwitchSite) (packet : Pack
   pub dropped : (way ≡ goes.Dropped) ↔ (action ≡ Drop)
   -- out here exactly if the action's port is one of this switch
   pub out : (port : ℕ) → (way ≡ goes.Out port)
-      ↔ ((action ≡ OutBy port) × (port_owner site.ports port ≡ Some s.number))
+      ↔ ((action ≡ OutBy port) × (owner_in_net_ports site.ports port ≡ Some s.number))
   -- to another switch's port only by the route to that switch; stuck exactly if there is none
   pub exit : (port owner : ℕ) → action ≡ OutBy port →
-      port_owner site.ports port ≡ Some owner → owner ≢ s.number →
+      owner_in_net_ports site.ports port ≡ Some owner → owner ≢ s.number →
       MatchOption (switch_route_known s site.near packet (owner ∷ [])) (way ≡ goes.Stuck NoRoute)
       (λ route. way ≡ goes.Exit (switch_setting_out packet (ExitLeg port) (owner ∷ []) route))
   -- no route leads to a port that no switch has
-  pub no_owner : (port : ℕ) → action ≡ OutBy port → port_owner site.ports port ≡ None →
+  pub no_owner : (port : ℕ) → action ≡ OutBy port → owner_in_net_ports site.ports port ≡ None →
       way ≡ goes.Stuck NoRoute
 
 -- where a decided packet moves is in the relation, and nothing else is
@@ -201,42 +201,42 @@ pub record IsSwitchArrival (s : SwitchValue) (site : SwitchSite) (t : TunnelValu
   -- on a leg of a version that the switch has it is decided by that version: by the first rule of
   -- the leg's partition to hold the header
   pub decided : (version partition : ℕ) (tables : Tables) →
-      IsArrivingAtSwitch s t → t.leg ≡ SeekLeg version partition → held_tables s version ≡ Some tables →
+      IsSwitchReadyAsAuthority s t → t.leg ≡ SeekLeg version partition → held_tables s version ≡ Some tables →
       (answer : Answer) × (arrive_answer ≡ switch_arrived_with answer)
-      × IsDecidedBySwitchIn s site (switch_packet_of t) version tables partition answer
+      × IsSwitchAnswerByPartition s site (switch_packet_of t) version tables partition answer
   -- if the switch doesn't have the leg's version, it is looked up again under the stamp, as if it
   -- entered here with the links that it found down
   pub anew : (version partition : ℕ) →
-      IsArrivingAtSwitch s t → t.leg ≡ SeekLeg version partition → IsFalse (holds_version s version) →
+      IsSwitchReadyAsAuthority s t → t.leg ≡ SeekLeg version partition → IsFalse (holds_version s version) →
       (answer : Answer) × (arrive_answer ≡ switch_arrived_with answer)
-      × IsRightAnswer s site (switch_packet_of t) answer
+      × IsRightSwitchAnswer s site (switch_packet_of t) answer
 
 -- the result of `arrive` is in the relation, and nothing else is
 pub record SwitchArriveLaws : Type 0 where
   pub is : (s : SwitchValue) (site : SwitchSite) (t : TunnelValue) →
       IsSwitchArrival s site t (arrive_answer s site t)
   pub only : (s : SwitchValue) (site : SwitchSite) (t : TunnelValue)
-      (answer : Arrived) → IsArrivingAtSwitch s t → IsSwitchArrival s site t answer →
+      (answer : Arrived) → IsSwitchReadyAsAuthority s t → IsSwitchArrival s site t answer →
       answer ≡ arrive_answer s site t
 
 -- ---- where decisions come from
 
-abbrev pub is_by_authority_switch : How → Bool
-is_by_authority_switch (ByAuthority switch partition) = true
-is_by_authority_switch _ = false
+abbrev pub is_switch_decision_by_authority : How → Bool
+is_switch_decision_by_authority (ByAuthority switch partition) = true
+is_switch_decision_by_authority _ = false
 
 -- by a cached rule of the stamp's version, or by one of the switch's own rules by the tables of
 -- the decision's version; and the packet moves on as the decision's action says
 pub record IsSwitchDecision (s : SwitchValue) (site : SwitchSite) (packet : Packet)
     (decision : Decision) (cache : Option Body) (way : Next) : Type 0 where
-  pub source : IsBySwitchCache s packet.header decision ⊎ IsBySwitchOwnRule s packet.header decision
+  pub source : IsSwitchCacheDecision s packet.header decision ⊎ IsSwitchOwnRuleDecision s packet.header decision
   pub onward : way ≡ next_of s site packet decision.action
   -- a rule is sent to a cache exactly if an authority rule decided, and the packet entered
   -- elsewhere ..
-  pub sent : IsSome cache ↔ (IsTrue (is_by_authority_switch decision.how) × (packet.ingress ≢ s.number))
+  pub sent : IsSome cache ↔ (IsTrue (is_switch_decision_by_authority decision.how) × (packet.ingress ≢ s.number))
   -- .. and it is the rule that decided
   pub carried : (body : Body) → cache ≡ Some body →
-      (by : IsBySwitchOwnRule s packet.header decision)
+      (by : IsSwitchOwnRuleDecision s packet.header decision)
       × (body ≡ switch_rule_to_cache decision.version by.own)
 
 pub record SwitchDecisionLaws : Type 0 where
@@ -247,21 +247,21 @@ pub record SwitchDecisionLaws : Type 0 where
       (cache : Option Body) × (admitted s site packet ≡ Some (Decided decision cache way))
       × IsSwitchDecision s site packet decision cache way
   pub on_arrival : (s : SwitchValue) (site : SwitchSite) (t : TunnelValue)
-      (decision : Decision) (cache : Option Body) (way : Next) → IsArrivingAtSwitch s t →
+      (decision : Decision) (cache : Option Body) (way : Next) → IsSwitchReadyAsAuthority s t →
       arrive_answer s site t ≡ arrival.Decided decision cache way →
       IsSwitchDecision s site (switch_packet_of t) decision cache way
   -- by the tables of a plan, the switch's own rules decide as the plan's policy does
   pub as_policy : (s : SwitchValue) (header : Header) (decision : Decision) (rows : List Row)
       (plan : List Hosted) → AreSoundPolicyPartitions rows (map part_of plan) → IsHeader header →
       held_tables s decision.version ≡ Some (tables_of plan decision.version s.number) →
-      IsBySwitchOwnRule s header decision →
+      IsSwitchOwnRuleDecision s header decision →
       scan rows header ≡ record { rule = decision.rule; action = decision.action }
 
 -- ---- a packet on its way
 
 -- on its leg a packet may take another route, be elsewhere on it, and find links down
-abbrev pub IsSamePacketAtSwitch : TunnelValue → TunnelValue → Type 0
-IsSamePacketAtSwitch before after =
+abbrev pub IsSwitchPacketSame : TunnelValue → TunnelValue → Type 0
+IsSwitchPacketSame before after =
     after ≡ record before { route = after.route; place = after.place; down = after.down }
 
 -- the links that a packet found down, with the one to this other switch
@@ -305,10 +305,10 @@ pub record IsSwitchHop (s : SwitchValue) (near : ℕ) (t : TunnelValue) (after :
   -- is still at this switch, at the end of its route
   pub stands : (other : ℕ) → after.end ≡ hop.Move other → here after.tunnel ≡ other
   pub usable : (other : ℕ) → after.end ≡ hop.Move other → IsTrue (has near other)
-  pub stays : PacketStandsAtSwitch s t.route t.place → after.end ≡ hop.Arrive →
-      PacketStandsAtSwitch s after.tunnel.route after.tunnel.place
+  pub stays : SwitchStandsAtRoutePlace s t.route t.place → after.end ≡ hop.Arrive →
+      SwitchStandsAtRoutePlace s after.tunnel.route after.tunnel.place
   pub ends : after.end ≡ hop.Arrive → next after.tunnel ≡ None
-  pub same_packet : IsSamePacketAtSwitch t after.tunnel
+  pub same_packet : IsSwitchPacketSame t after.tunnel
 
 -- the result of `hop` is in the relation, and nothing else is
 pub record SwitchHopLaws : Type 0 where

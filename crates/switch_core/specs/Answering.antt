@@ -16,12 +16,12 @@ use Rattle.switch_table.specs.Exports.{lookup_of}
 use Rattle.switch_table.specs.declared.tables.Tables.{Tables}
 use Rattle.switch_table.specs.declared.search.Found.{Found}
 use Rattle.switch_table.specs.declared.search.Found.TheVariants.{Cached, Authority, Redirect}
-use Rattle.switch_core.specs.Answers.{Answer, SwitchArrival, Decided, Seek, Stuck, switch_arrival_of, switch_entry_of}
+use Rattle.switch_core.specs.Answers.{Answer, SwitchArrival, Decided, Seek, Stuck, switch_arrival_of, switch_entered_by_answer}
 use Rattle.switch_core.specs.Answers as arrival
 use Rattle.switch_core.specs.declared.tunnel_calls.Arrived.{Arrived}
 use Rattle.switch_core.specs.declared.tunnel_calls.Entered.{Entered}
 use Rattle.switch_core.specs.declared.tunnel_calls.Packet.{Packet}
-use Rattle.switch_core.specs.Deciding.{by_entry, by_rule, packet_to_look_up, switch_cache_rule_sent, switch_own_rule_place, own_part, switch_part_numbered, switch_own_rule_in}
+use Rattle.switch_core.specs.Deciding.{by_entry, by_rule, packet_to_look_up, switch_cache_rule_sent, switch_own_rule_place, own_part, switch_core_partition_numbered, switch_core_rule_in}
 use Rattle.switch_core.specs.Ends.{SwitchSite, next_of, set_out}
 use Rattle.switch_core.specs.State.{SwitchValue, held_tables, holds_version, serves, stamp_tables}
 
@@ -30,7 +30,7 @@ use Rattle.switch_core.specs.State.{SwitchValue, held_tables, holds_version, ser
 -- the rule at a place of one of the switch's own partitions decides
 unfoldable pub switch_answer_by_rule : SwitchValue → SwitchSite → Packet → ℕ → Partition → ℕ → Answer
 switch_answer_by_rule s site packet version part place =
-    let rule = switch_own_rule_in part place in
+    let rule = switch_core_rule_in part place in
     Decided (by_rule s.number version part.number rule)
     (switch_cache_rule_sent s.number packet version part place)
     (next_of s site packet rule.action)
@@ -45,7 +45,7 @@ unfoldable pub switch_answer_by_found : SwitchValue → SwitchSite → Packet �
 switch_answer_by_found s site packet tables (Cached entry) =
     Decided (by_entry entry) None (next_of s site packet entry.action)
 switch_answer_by_found s site packet tables (Authority partition place) =
-    switch_answer_by_rule s site packet tables.version (switch_part_numbered tables partition) place
+    switch_answer_by_rule s site packet tables.version (switch_core_partition_numbered tables partition) place
 switch_answer_by_found s site packet tables (Redirect partition targets) =
     let leg = SeekLeg tables.version partition in
     switch_seek_by leg (set_out s site.near packet leg targets)
@@ -59,7 +59,7 @@ looked_up s site packet =
 -- by the first rule that holds the header, in these tables' partition of this number
 unfoldable pub switch_answer_in_partition : SwitchValue → SwitchSite → Packet → ℕ → Tables → Answer
 switch_answer_in_partition s site packet partition tables =
-    let part = switch_part_numbered tables partition in
+    let part = switch_core_partition_numbered tables partition in
     switch_answer_by_rule s site packet tables.version part (switch_own_rule_place packet.header part)
 
 -- ---- a packet enters
@@ -69,8 +69,8 @@ abbrev pub CanSwitchLookUp : SwitchValue → Type 0
 CanSwitchLookUp s = IsTrue (serves s) → IsTrue (holds_version s s.stamp)
 
 -- a packet that enters at this switch, and found no link down
-abbrev pub incoming_packet : SwitchValue → ℕ → Header → Packet
-incoming_packet s number header = packet_to_look_up number header s.number no_links
+abbrev pub switch_incoming_packet : SwitchValue → ℕ → Header → Packet
+switch_incoming_packet s number header = packet_to_look_up number header s.number no_links
 
 -- closed exactly if the switch doesn't serve
 unfoldable pub admitted : SwitchValue → SwitchSite → Packet → Option Answer
@@ -83,7 +83,7 @@ IsSwitchAnswerUncached _ = ⊤
 
 -- as `enter` returns it
 abbrev pub enter_answer : SwitchValue → SwitchSite → Packet → Entered
-enter_answer s site packet = switch_entry_of (admitted s site packet)
+enter_answer s site packet = switch_entered_by_answer (admitted s site packet)
 
 -- ---- a packet is at the end of its route
 
@@ -92,11 +92,11 @@ abbrev pub switch_packet_of : TunnelValue → Packet
 switch_packet_of t = packet_to_look_up t.packet t.header t.ingress t.down
 
 -- with the tables of the leg's version, the leg's partition is the switch's own and has the header
-abbrev pub IsAtAuthoritySwitch : SwitchValue → Header → Leg → Type 0
-IsAtAuthoritySwitch s header (SeekLeg version partition) =
+abbrev pub IsSwitchAuthorityForLeg : SwitchValue → Header → Leg → Type 0
+IsSwitchAuthorityForLeg s header (SeekLeg version partition) =
     IfSome (held_tables s version)
     (λ tables. IsSomeAnd (own_part tables partition) (λ part. IsTrue (is_in_policy_partition header part)))
-IsAtAuthoritySwitch s header (ExitLeg port) = ⊤
+IsSwitchAuthorityForLeg s header (ExitLeg port) = ⊤
 
 -- out by the leg's port; or by the tables of the leg's version, or, if the switch doesn't have
 -- them, by a new lookup

@@ -30,9 +30,9 @@ switch_entered_with (Decided decision cache way) = entered.Decided decision way
 switch_entered_with (Seek tunnel) = entered.Seek tunnel
 switch_entered_with (Stuck cause leg) = entered.Stuck cause leg
 
-abbrev pub switch_entry_of : Option Answer → Entered
-switch_entry_of None = entered.Closed
-switch_entry_of (Some answer) = switch_entered_with answer
+abbrev pub switch_entered_by_answer : Option Answer → Entered
+switch_entered_by_answer None = entered.Closed
+switch_entered_by_answer (Some answer) = switch_entered_with answer
 
 -- as `arrive` returns it
 abbrev pub switch_arrived_with : Answer → Arrived

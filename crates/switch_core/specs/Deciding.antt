@@ -25,18 +25,18 @@ use Rattle.switch_core.specs.declared.tunnel_calls.Packet.{Packet}
 abbrev pub no_rule : Rule
 no_rule = record { word = any_word; rank = 0; rule = None; action = Drop }
 
-abbrev pub no_switch_part : Partition
-no_switch_part = record { number = 0; region = any_word; rules = [] }
+abbrev pub no_switch_core_partition : Partition
+no_switch_core_partition = record { number = 0; region = any_word; rules = [] }
 
 -- a switch's own partition of this number
 abbrev pub own_part : Tables → ℕ → Option Partition
 own_part tables number = find (λ part. part.number == number) tables.auth
 
-abbrev pub switch_part_numbered : Tables → ℕ → Partition
-switch_part_numbered tables number = unwrap_or (own_part tables number) no_switch_part
+abbrev pub switch_core_partition_numbered : Tables → ℕ → Partition
+switch_core_partition_numbered tables number = unwrap_or (own_part tables number) no_switch_core_partition
 
-abbrev pub switch_own_rule_in : Partition → ℕ → Rule
-switch_own_rule_in part place = slice_index_or part.rules place no_rule
+abbrev pub switch_core_rule_in : Partition → ℕ → Rule
+switch_core_rule_in part place = slice_index_or part.rules place no_rule
 
 -- the place of its first rule that holds the header
 abbrev pub switch_own_rule_place : Header → Partition → ℕ
@@ -68,10 +68,10 @@ pub record IsSwitchFirstHit (header : Header) (part : Partition) (place : ℕ) :
   pub first : position (is_held (number_of header)) part.rules ≡ Some place
 
 -- an authority rule that a lookup found is the first hit of one of the switch's own partitions
-abbrev pub IsFoundBySwitch : Tables → Header → Found → Type 0
-IsFoundBySwitch tables header (ByAuthority partition place) =
+abbrev pub IsSwitchFindingFirstHit : Tables → Header → Found → Type 0
+IsSwitchFindingFirstHit tables header (ByAuthority partition place) =
     IsSomeAnd (own_part tables partition) (λ part. IsSwitchFirstHit header part place)
-IsFoundBySwitch tables header _ = ⊤
+IsSwitchFindingFirstHit tables header _ = ⊤
 
 -- a packet as it is looked up
 abbrev pub packet_to_look_up : ℕ → Header → ℕ → List ℕ → Packet
@@ -85,6 +85,6 @@ packet_to_look_up number header ingress down = record {
 -- the cache rule of a decision by the rule at a place: none for a packet that entered here
 unfoldable pub switch_cache_rule_sent : ℕ → Packet → ℕ → Partition → ℕ → Option Body
 switch_cache_rule_sent switch packet version part place =
-    let rule = switch_own_rule_in part place in
+    let rule = switch_core_rule_in part place in
     let word = widen (number_of packet.header) part.region part.rules place in
     if packet.ingress == switch then None else Some (CacheRule version word rule.rule rule.action)

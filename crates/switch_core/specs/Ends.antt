@@ -9,7 +9,7 @@ use Rattle.policy_rules.specs.declared.packet.Leg.TheVariants.{Seek as SeekLeg, 
 use Rattle.policy_rules.specs.declared.packet.Cause.{Cause}
 use Rattle.policy_rules.specs.declared.packet.Cause.TheVariants.{NoAuthority, NoRoute}
 use Rattle.net_file.specs.declared.ports.Ports.{Ports}
-use Rattle.net_file.specs.Exports.{port_owner}
+use Rattle.net_file.specs.Exports.{owner_in_net_ports}
 use Rattle.failover.specs.Exports.{is_isolated, route_of}
 use Rattle.tunnel.specs.Exports.{TunnelValue, tunnel_begun}
 use Rattle.switch_core.specs.declared.tunnel_calls.Next.{Next}
@@ -33,9 +33,9 @@ switch_site_of site = around site.near site.ports.now
 
 -- ---- the cause rule
 
-abbrev pub is_seek : Leg → Bool
-is_seek (SeekLeg version partition) = true
-is_seek (ExitLeg port) = false
+abbrev pub is_switch_seek_leg : Leg → Bool
+is_switch_seek_leg (SeekLeg version partition) = true
+is_switch_seek_leg (ExitLeg port) = false
 
 -- each target is another switch, where no link ends that the switch knows, except links found down
 unfoldable pub are_isolated : SwitchValue → ℕ → List ℕ → List ℕ → Bool
@@ -45,7 +45,7 @@ are_isolated s near down targets =
 -- why a packet without a route on its leg is stuck
 unfoldable pub switch_stuck_cause : SwitchValue → ℕ → List ℕ → Leg → List ℕ → Cause
 switch_stuck_cause s near down leg targets =
-    if is_seek leg && are_isolated s near down targets then NoAuthority else NoRoute
+    if is_switch_seek_leg leg && are_isolated s near down targets then NoAuthority else NoRoute
 
 -- the packet at the beginning of its route to the leg's targets; stuck exactly if there is none
 unfoldable pub set_out : SwitchValue → ℕ → Packet → Leg → List ℕ → Result TunnelValue Cause
@@ -56,19 +56,19 @@ set_out s near packet leg targets =
 
 -- ---- the exit rule
 
-abbrev pub exit_by_switch : Result TunnelValue Cause → Next
-exit_by_switch (Ok tunnel) = Exit tunnel
-exit_by_switch (Err cause) = Stuck cause
+abbrev pub switch_exit_by_tunnel : Result TunnelValue Cause → Next
+switch_exit_by_tunnel (Ok tunnel) = Exit tunnel
+switch_exit_by_tunnel (Err cause) = Stuck cause
 
 -- out by a port, if its switch is this one; otherwise to its switch. No route leads to a port that
 -- no switch has
-unfoldable pub leave_by_switch : SwitchValue → ℕ → Packet → ℕ → Option ℕ → Next
-leave_by_switch s near packet port None = Stuck NoRoute
-leave_by_switch s near packet port (Some owner) = if owner == s.number
+unfoldable pub switch_leave_by_port : SwitchValue → ℕ → Packet → ℕ → Option ℕ → Next
+switch_leave_by_port s near packet port None = Stuck NoRoute
+switch_leave_by_port s near packet port (Some owner) = if owner == s.number
     then Out port
-    else exit_by_switch (set_out s near packet (ExitLeg port) (owner ∷ []))
+    else switch_exit_by_tunnel (set_out s near packet (ExitLeg port) (owner ∷ []))
 
 -- where a packet moves that this action decides
 unfoldable pub next_of : SwitchValue → SwitchSite → Packet → Action → Next
 next_of s site packet Drop = Dropped
-next_of s site packet (OutBy port) = leave_by_switch s site.near packet port (port_owner site.ports port)
+next_of s site packet (OutBy port) = switch_leave_by_port s site.near packet port (owner_in_net_ports site.ports port)

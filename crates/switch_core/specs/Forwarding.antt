@@ -14,15 +14,15 @@ use Rattle.switch_core.specs.declared.forwarding.Forwarding.{Forwarding}
 use Rattle.switch_core.specs.declared.forwarding.Forwarding.TheVariants.{Out, Decided, Seek}
 
 -- the decision's rule with this word, for a cache
-abbrev pub switch_rule_cached_by : Decision → Option WordValue → Option Body
-switch_rule_cached_by decision word =
+abbrev pub switch_core_cache_rule : Decision → Option WordValue → Option Body
+switch_core_cache_rule decision word =
     option_map (λ word. CacheRule decision.version word decision.rule decision.action) word
 
 -- the result, with the route that is to be taken
 abbrev pub answer_of : SwitchValue → SwitchSite → Packet → Forwarding → SwitchArrival
 answer_of s site packet (Out port) = answer.Out port
 answer_of s site packet (Decided decision word) =
-    answer.Answered (answer.Decided decision (switch_rule_cached_by decision word)
+    answer.Answered (answer.Decided decision (switch_core_cache_rule decision word)
     (next_of s site packet decision.action))
 answer_of s site packet (Seek leg targets) =
     answer.Answered (switch_seek_by leg (set_out s site.near packet leg targets))
@@ -32,6 +32,6 @@ abbrev pub switch_admitted_as : SwitchValue → SwitchSite → Packet → Option
 switch_admitted_as s site packet forwarding = option_map (answer_of s site packet) forwarding
 
 -- the forwarding is one that a lookup returns: it is not out by a port
-abbrev pub IsBySwitchLookup : Forwarding → Type 0
-IsBySwitchLookup (Out port) = ⊥
-IsBySwitchLookup _ = ⊤
+abbrev pub IsSwitchLookupForwarding : Forwarding → Type 0
+IsSwitchLookupForwarding (Out port) = ⊥
+IsSwitchLookupForwarding _ = ⊤

@@ -17,9 +17,9 @@ use Rattle.ctrl_msg.specs.declared.message.Place.TheVariants.{Switch}
 use Rattle.switch_core.specs.State.{SwitchValue, holds_version}
 
 -- the tables that the body carries are sound
-abbrev pub IsBodySoundForSwitch : Body → Type 0
-IsBodySoundForSwitch (Install boot tables) = AreSoundSwitchTables tables
-IsBodySoundForSwitch _ = ⊤
+abbrev pub IsSoundSwitchBody : Body → Type 0
+IsSoundSwitchBody (Install boot tables) = AreSoundSwitchTables tables
+IsSoundSwitchBody _ = ⊤
 
 -- the switch is up, and the body is for a switch, of this boot if it carries one
 unfoldable pub obeys : SwitchValue → Body → Bool
@@ -30,8 +30,8 @@ obeys s body =
 -- ---- what the switch is afterwards
 
 -- it keeps the tables, unless it has that version or has dropped it
-unfoldable pub with_installed : SwitchValue → Tables → SwitchValue
-with_installed s tables =
+unfoldable pub switch_with_installed : SwitchValue → Tables → SwitchValue
+switch_with_installed s tables =
     if holds_version s tables.version || nat_le tables.version s.collected
     then s
     else record s { tables = s.tables ++ tables ∷ [] }
@@ -47,8 +47,8 @@ unfoldable pub switch_stamped_with : SwitchValue → ℕ → List WordValue → 
 switch_stamped_with s version touched = if nat_lt s.stamp version
     then record s { stamp = version; cache = cache_after_carry version touched s.cache } else s
 
-abbrev pub opened_with : SwitchValue → ℕ → SwitchValue
-opened_with s version = record (switch_stamp_raised_to s version) { is_open = true }
+abbrev pub switch_opened_with : SwitchValue → ℕ → SwitchValue
+switch_opened_with s version = record (switch_stamp_raised_to s version) { is_open = true }
 
 -- its collect mark is at least this version, and the tables up to the mark are dropped
 unfoldable pub switch_collected_to : SwitchValue → ℕ → SwitchValue
@@ -62,17 +62,17 @@ abbrev pub switch_with_learnt : SwitchValue → CacheEntry → SwitchValue
 switch_with_learnt s entry = record s { cache = cache_after_accept s.stamp entry s.cache }
 
 -- the advert is of another switch, and the database has none of that switch or this one is newer
-unfoldable pub is_news_here : SwitchValue → Advert → Bool
-is_news_here s advert = not (advert.origin == s.number) && is_news s.database advert
+unfoldable pub is_news_to_switch : SwitchValue → Advert → Bool
+is_news_to_switch s advert = not (advert.origin == s.number) && is_news s.database advert
 
-unfoldable pub switch_with_heard : SwitchValue → Advert → SwitchValue
-switch_with_heard s advert = if is_news_here s advert
+unfoldable pub switch_after_advert : SwitchValue → Advert → SwitchValue
+switch_after_advert s advert = if is_news_to_switch s advert
     then record s { database = adverts_after_hearing s.database advert } else s
 
 -- the switch after it obeyed the message of this number
 abbrev pub switch_after_body : SwitchValue → ℕ → Body → SwitchValue
-switch_after_body s number (Install boot tables) = with_installed s tables
-switch_after_body s number (OpenAt boot version) = opened_with s version
+switch_after_body s number (Install boot tables) = switch_with_installed s tables
+switch_after_body s number (OpenAt boot version) = switch_opened_with s version
 switch_after_body s number (Stamp boot version touched) = switch_stamped_with s version touched
 switch_after_body s number (Collect boot version) = switch_collected_to s version
 switch_after_body s number (CacheRule version word rule action) = switch_with_learnt s (record {
@@ -82,7 +82,7 @@ switch_after_body s number (CacheRule version word rule action) = switch_with_le
   action = action;
   message = number;
 })
-switch_after_body s number (Advertise advert) = switch_with_heard s advert
+switch_after_body s number (Advertise advert) = switch_after_advert s advert
 switch_after_body s number _ = s
 
 unfoldable pub switch_with_message : SwitchValue → ℕ → Body → SwitchValue
@@ -100,7 +100,7 @@ replies_to s near (Install boot tables) =
     to_controller (Installed s.number s.boot tables.version) ∷ []
 replies_to s near (Stamp boot version touched) = to_controller (Stamped s.number s.boot version) ∷ []
 replies_to s near (Advertise advert) =
-    if is_news_here s advert then switch_flood near (Advertise advert) else []
+    if is_news_to_switch s advert then switch_flood near (Advertise advert) else []
 replies_to s near _ = []
 
 unfoldable pub replies : SwitchValue → ℕ → Body → List Message

@@ -8,13 +8,13 @@ use Rattle.policy_rules.specs.declared.packet.Cause.TheVariants.{NoAuthority}
 use Rattle.ctrl_msg.specs.declared.message.Body.{Body}
 use Rattle.switch_table.specs.declared.tables.Tables.{Tables}
 use Rattle.switch_core.specs.declared.tunnel_calls.Packet.{Packet}
-use Rattle.switch_core.specs.Ends.{switch_stuck_cause, is_seek, set_out}
-use Rattle.switch_core.specs.Hearing.{switch_collected_to, switch_with_message, switch_with_heard, with_installed, obeys, switch_stamp_raised_to, switch_stamped_with}
+use Rattle.switch_core.specs.Ends.{switch_stuck_cause, is_switch_seek_leg, set_out}
+use Rattle.switch_core.specs.Hearing.{switch_collected_to, switch_with_message, switch_after_advert, switch_with_installed, obeys, switch_stamp_raised_to, switch_stamped_with}
 use Rattle.switch_core.specs.State.{HasSwitchAdvertUpTo, SwitchValue, held_tables}
 use Rattle.ternary.specs.Exports.{WordValue}
 
 -- a message changes only these fields, and lowers neither the stamp nor the collect mark
-pub record IsHeardBySwitch (before after : SwitchValue) : Type 0 where
+pub record IsSwitchAfterHearing (before after : SwitchValue) : Type 0 where
   pub rest : after ≡ record before {
     is_open = after.is_open;
     stamp = after.stamp;
@@ -37,16 +37,16 @@ pub record SwitchLaws : Type 0 where
   -- .. and `NoAuthority` is the cause exactly if it seeks one, and each target is isolated
   pub no_authority : (s : SwitchValue) (near : ℕ) (down : List ℕ) (leg : Leg) (targets : List ℕ) →
       (switch_stuck_cause s near down leg targets ≡ NoAuthority) ↔
-      (IsTrue (is_seek leg)
+      (IsTrue (is_switch_seek_leg leg)
       × All (λ target. IsTrue (is_isolated s.database s.number target near down)) targets)
   pub after_message : (s : SwitchValue) (number : ℕ) (body : Body) →
-      IsHeardBySwitch s (switch_with_message s number body)
+      IsSwitchAfterHearing s (switch_with_message s number body)
   pub not_obeyed : (s : SwitchValue) (number : ℕ) (body : Body) → obeys s body ≡ false →
       switch_with_message s number body ≡ s
   -- tables that arrive are kept, unless the switch has those of their version or its collect mark
   -- is at least that
   pub after_install : (s : SwitchValue) (tables : Tables) (version : ℕ) →
-      held_tables (with_installed s tables) version
+      held_tables (switch_with_installed s tables) version
       ≡ option_or (held_tables s version)
       (if (tables.version == version) && nat_lt s.collected version then Some tables else None)
   -- of the versions that the switch had, it keeps exactly those above the collect mark
@@ -59,5 +59,5 @@ pub record SwitchLaws : Type 0 where
       (switch_stamped_with s version touched).stamp ≡ max s.stamp version
   -- adverts of others are heard, and its own are ignored
   pub after_advert : (s : SwitchValue) (advert : Advert) →
-      (switch_with_heard s advert).database
+      (switch_after_advert s advert).database
       ≡ (if advert.origin == s.number then s.database else adverts_after_hearing s.database advert)

@@ -9,7 +9,7 @@ use Rattle.switch_core.specs.State.{SwitchValue, own_advert}
 abbrev pub switch_next_advert : SwitchValue → ℕ → Advert
 switch_next_advert s near = own_advert s.number s.boot (s.seq + 1) near
 
--- it keeps its next advert
+-- the switch after its usable links became these: it keeps its next advert
 abbrev pub near_changed : SwitchValue → ℕ → SwitchValue
 near_changed s near = record s {
   seq = s.seq + 1;

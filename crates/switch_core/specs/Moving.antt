@@ -1,5 +1,5 @@
--- What becomes of a packet that is on its way at a switch, as a function. The relation `IsSwitchHop` says
--- what it returns, and allows nothing else.
+-- What becomes of a packet that is on its way at a switch, as a function. The relation
+-- `IsSwitchHop` says what it returns, and allows nothing else.
 use Rattle.std.specs.Prelude.{if◌then◌else◌, ◌≡◌, List, None, Option, Some, slice_get, ℕ}
 use Rattle.base.specs.Exports.{has}
 use Rattle.tunnel.specs.Exports.{TunnelValue, advanced_tunnel, tunnel_marked_down, next, on_route, tunnel_route_from_here}
@@ -11,8 +11,8 @@ use Rattle.switch_core.specs.Ends.{switch_stuck_cause}
 use Rattle.switch_core.specs.State.{SwitchValue}
 
 -- a packet at this place of its route is at the switch
-abbrev pub PacketStandsAtSwitch : SwitchValue → List ℕ → ℕ → Type 0
-PacketStandsAtSwitch s route place = slice_get route place ≡ Some s.number
+abbrev pub SwitchStandsAtRoutePlace : SwitchValue → List ℕ → ℕ → Type 0
+SwitchStandsAtRoutePlace s route place = slice_get route place ≡ Some s.number
 
 -- where the hop ends, and the packet after it
 pub record Moved : Type 0 where
@@ -33,8 +33,8 @@ switch_moved_along_route s near t None = record {
 switch_moved_along_route s near t (Some route) = switch_move_answer (on_route t route) (next (on_route t route))
 
 -- the switch takes a new route for the packet, by its usable links and what it knows about others
-unfoldable pub rerouted_here : SwitchValue → ℕ → TunnelValue → Moved
-rerouted_here s near t = switch_moved_along_route s near t (tunnel_route_from_here t s.database near)
+unfoldable pub switch_rerouted_here : SwitchValue → ℕ → TunnelValue → Moved
+switch_rerouted_here s near t = switch_moved_along_route s near t (tunnel_route_from_here t s.database near)
 
 -- the next switch, if the link to it is found down: it isn't usable
 abbrev pub switch_found_link_down : ℕ → Option ℕ → Option ℕ
@@ -44,12 +44,12 @@ switch_found_link_down near (Some other) = if has near other then None else Some
 -- a link that is found down is marked, and the packet takes a new route; otherwise it moves on
 abbrev pub switch_hopped_to : SwitchValue → ℕ → TunnelValue → Option ℕ → Moved
 switch_hopped_to s near t None = switch_move_answer t (next t)
-switch_hopped_to s near t (Some other) = rerouted_here s near (tunnel_marked_down t other)
+switch_hopped_to s near t (Some other) = switch_rerouted_here s near (tunnel_marked_down t other)
 
 unfoldable pub switch_hop_answer : SwitchValue → ℕ → TunnelValue → Moved
 switch_hop_answer s near t = switch_hopped_to s near t (switch_found_link_down near (next t))
 
 -- where a packet with this next switch moves on
-abbrev pub onward_by_switch : ℕ → Option ℕ → Onward
-onward_by_switch near None = AtEnd
-onward_by_switch near (Some other) = if has near other then Next other else LinkDown other
+abbrev pub switch_hop_onward : ℕ → Option ℕ → Onward
+switch_hop_onward near None = AtEnd
+switch_hop_onward near (Some other) = if has near other then Next other else LinkDown other

@@ -2,11 +2,11 @@ ghost use Rattle.std.specs.Prelude.{◌≡◌, ◌+◌, ℕ, List, None, IsSomeA
 ghost use Rattle.policy_rules.specs.Hosted.{is_in_policy_partition};
 ghost use Rattle.policy_rules.specs.declared.packet.Leg.TheVariants.{Seek as SeekLeg};
 ghost use Rattle.switch_core.specs.Answers.{Answered};
-ghost use Rattle.switch_core.specs.Exports.{CanSwitchLookUp, IsAtAuthoritySwitch, IsSwitchFirstHit, IsFoundBySwitch, IsSwitchAnswerUncached, SwitchSite as SiteValue, PacketStandsAtSwitch, admitted, switch_admitted_as, switch_answer_by_found, answer_of, switch_arrival_on_leg, switch_call_counted, switch_answer_by_rule, switch_answer_in_partition, holds_version, incoming_packet, looked_up, own_part, packet_to_look_up, serves};
+ghost use Rattle.switch_core.specs.Exports.{CanSwitchLookUp, IsSwitchAuthorityForLeg, IsSwitchFirstHit, IsSwitchFindingFirstHit, IsSwitchAnswerUncached, SwitchSite as SiteValue, SwitchStandsAtRoutePlace, admitted, switch_admitted_as, switch_answer_by_found, answer_of, switch_arrival_on_leg, switch_call_counted, switch_answer_by_rule, switch_answer_in_partition, holds_version, switch_incoming_packet, looked_up, own_part, packet_to_look_up, serves};
 
-use crate::deciding::{Decision, cache_word, own_part, switch_own_rule_in};
+use crate::deciding::{Decision, switch_core_cache_word, switch_core_rule_in, switch_own_part};
 use crate::forwarding::Forwarding;
-use crate::kept::KeptTables;
+use crate::kept::SwitchKeptTables;
 use crate::packet::Arriving;
 use crate::switch::Switch;
 use five_tuple::Header;
@@ -16,14 +16,14 @@ use switch_table::{Found, Tables};
 impl Switch {
     /// What becomes of a packet that enters here, whatever its number: `None` exactly if the switch
     /// doesn't serve. Otherwise the switch looks it up under its stamp, and sends no rule to a
-    /// cache. `lookup_laws` says how. This copies no route and no set of links.
+    /// cache. `switch_core_lookup_laws` says how. This copies no route and no set of links.
     pub fn admit(&mut self, h: &Header) -> Option<Forwarding>
         requires { CanSwitchLookUp self.old }
         ensures answer { (site : SiteValue) (number : ℕ) →
-            switch_admitted_as self.new site (incoming_packet self.old number h.now) result
-            ≡ option_map Answered (admitted self.old site (incoming_packet self.old number h.now)) }
+            switch_admitted_as self.new site (switch_incoming_packet self.old number h.now) result
+            ≡ option_map Answered (admitted self.old site (switch_incoming_packet self.old number h.now)) }
         ensures uncached { (site : SiteValue) (number : ℕ) →
-            IsSwitchAnswerUncached (admitted self.old site (incoming_packet self.old number h.now)) }
+            IsSwitchAnswerUncached (admitted self.old site (switch_incoming_packet self.old number h.now)) }
         ensures after { self.new ≡ switch_call_counted self.old }
     {
         if !self.serves() {
@@ -42,9 +42,9 @@ impl Switch {
     pub fn receive(&mut self, t: Arriving) -> Forwarding
         requires serving { IsTrue (serves self.old) }
         requires stamped { CanSwitchLookUp self.old }
-        requires here { PacketStandsAtSwitch self.old t.route.now t.place }
+        requires here { SwitchStandsAtRoutePlace self.old t.route.now t.place }
         requires last { slice_get t.route.now (t.place + 1) ≡ None }
-        requires authority { IsAtAuthoritySwitch self.old t.header.now t.leg }
+        requires authority { IsSwitchAuthorityForLeg self.old t.header.now t.leg }
         ensures answer { (site : SiteValue) (number : ℕ) (down : List ℕ) →
             answer_of self.new site
             (packet_to_look_up number t.entry.header.now t.entry.ingress down) result
@@ -68,7 +68,7 @@ impl Switch {
     // Decides by the tables of this version if the switch has them, otherwise by a lookup.
     fn judge(&self, h: &Header, ingress: u32, version: u32, partition: u32) -> Forwarding
         requires stamped { IsTrue (holds_version self.now self.now.stamp) }
-        requires authority { IsAtAuthoritySwitch self.now h.now (SeekLeg version partition) }
+        requires authority { IsSwitchAuthorityForLeg self.now h.now (SeekLeg version partition) }
         ensures { (site : SiteValue) (number : ℕ) (down : List ℕ) →
             answer_of self.now site (packet_to_look_up number h.now ingress down) result
             ≡ switch_arrival_on_leg self.now site
@@ -98,7 +98,7 @@ impl Switch {
     // The result for what a lookup found in these tables.
     #[tactic(auto, unfolding(crate::specs::Answering::switch_answer_by_found))]
     fn by_found(&self, h: &Header, ingress: u32, tables: &Tables, found: &Found) -> Forwarding
-        requires { IsFoundBySwitch tables.now h.now found.now }
+        requires { IsSwitchFindingFirstHit tables.now h.now found.now }
         ensures { (site : SiteValue) (number : ℕ) (down : List ℕ) →
             answer_of self.now site (packet_to_look_up number h.now ingress down) result
             ≡ Answered (switch_answer_by_found self.now site
@@ -110,7 +110,7 @@ impl Switch {
                 word: None,
             },
             Found::Authority { partition, rule } => {
-                let part = own_part(tables, *partition).unwrap();
+                let part = switch_own_part(tables, *partition).unwrap();
                 self.decide_at(h, ingress, tables.version, part, *rule)
             }
             Found::Redirect { partition, targets } => Forwarding::Seek {
@@ -125,7 +125,13 @@ impl Switch {
 
     // Decides by the partition of this number in these tables.
     #[tactic(auto, unfolding(crate::specs::Answering::switch_answer_in_partition))]
-    fn decide_in(&self, h: &Header, ingress: u32, partition: u32, tables: &KeptTables) -> Forwarding
+    fn decide_in(
+        &self,
+        h: &Header,
+        ingress: u32,
+        partition: u32,
+        tables: &SwitchKeptTables,
+    ) -> Forwarding
         requires { IsSomeAnd (own_part tables.now partition)
             (λ part. IsTrue (is_in_policy_partition h.now part)) }
         ensures { (site : SiteValue) (number : ℕ) (down : List ℕ) →
@@ -135,7 +141,7 @@ impl Switch {
     {
         let place = tables.first_place(partition, h);
         let tables = tables.finder().tables();
-        let part = own_part(tables, partition).unwrap();
+        let part = switch_own_part(tables, partition).unwrap();
         self.decide_at(h, ingress, tables.version, part, place)
     }
 
@@ -156,10 +162,10 @@ impl Switch {
             ≡ Answered (switch_answer_by_rule self.now site
             (packet_to_look_up number h.now ingress down) version part.now place) }
     {
-        let rule = switch_own_rule_in(part, place);
+        let rule = switch_core_rule_in(part, place);
         Forwarding::Decided {
             decision: Decision::by_rule(self.number, version, part.number, rule),
-            word: cache_word(self.number, h, ingress, part, place),
+            word: switch_core_cache_word(self.number, h, ingress, part, place),
         }
     }
 }

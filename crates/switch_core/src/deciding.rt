@@ -1,7 +1,7 @@
 ghost use Rattle.std.specs.Prelude.{◌≡◌, ◌<◌, ℕ, List, length};
 ghost use Rattle.std.specs.Option.{option_copied};
-ghost use Rattle.switch_core.specs.Deciding.{IsSwitchFirstHit, by_entry, by_rule, switch_cache_rule_sent, own_part, packet_to_look_up, switch_own_rule_in};
-ghost use Rattle.switch_core.specs.Forwarding.{switch_rule_cached_by};
+ghost use Rattle.switch_core.specs.Deciding.{IsSwitchFirstHit, by_entry, by_rule, switch_cache_rule_sent, own_part, packet_to_look_up, switch_core_rule_in};
+ghost use Rattle.switch_core.specs.Forwarding.{switch_core_cache_rule};
 
 use cache_maker::widen;
 use five_tuple::Header;
@@ -49,7 +49,7 @@ impl Decision {
 }
 
 /// A switch's own partition of this number; `None` if it has none.
-pub fn own_part(tables: &Tables, number: u32) -> Option<&Partition>
+pub fn switch_own_part(tables: &Tables, number: u32) -> Option<&Partition>
     ensures { option_copied result ≡ own_part tables.now number }
 {
     let parts = tables.auth.items();
@@ -57,9 +57,9 @@ pub fn own_part(tables: &Tables, number: u32) -> Option<&Partition>
 }
 
 /// The rule at a place.
-pub fn switch_own_rule_in(part: &Partition, place: u32) -> &Rule
+pub fn switch_core_rule_in(part: &Partition, place: u32) -> &Rule
     requires { place < length part.now.rules }
-    ensures { result.now ≡ switch_own_rule_in part.now place }
+    ensures { result.now ≡ switch_core_rule_in part.now place }
 {
     &part.rules.items()[place as usize]
 }
@@ -67,7 +67,7 @@ pub fn switch_own_rule_in(part: &Partition, place: u32) -> &Rule
 /// The word of the rule for the cache of the switch where the packet entered; `None` if that is
 /// this switch.
 #[tactic(auto, unfolding(crate::specs::Deciding::switch_cache_rule_sent))]
-pub fn cache_word(
+pub fn switch_core_cache_word(
     switch: u32,
     header: &Header,
     ingress: u32,
@@ -76,7 +76,7 @@ pub fn cache_word(
 ) -> Option<Word>
     requires { IsSwitchFirstHit header.now part.now place }
     ensures { (number version : ℕ) (down : List ℕ) →
-        switch_rule_cached_by (by_rule switch version part.now.number (switch_own_rule_in part.now place)) result
+        switch_core_cache_rule (by_rule switch version part.now.number (switch_core_rule_in part.now place)) result
         ≡ switch_cache_rule_sent switch (packet_to_look_up number header.now ingress down) version part.now place }
 {
     if ingress == switch {

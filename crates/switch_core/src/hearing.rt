@@ -2,9 +2,9 @@ ghost use Rattle.std.specs.Prelude.{◌≡◌, ◌<◌, [], ◌∷◌, OnErr, On
 ghost use Rattle.switch_table.specs.Tables.{AreSoundSwitchTables};
 ghost use Rattle.ctrl_msg.specs.declared.message.Body.TheVariants.{Advertise};
 ghost use Rattle.ctrl_msg.specs.Kinds.{to_controller};
-ghost use Rattle.switch_core.specs.Hearing.{IsBodySoundForSwitch, switch_collected_to, switch_flood, switch_with_message, switch_with_heard, with_installed, is_news_here, switch_with_learnt, obeys, switch_opening_stamp, opened_with, opened_by, switch_stamp_raised_to, replies, replies_to, switch_stamped_with};
+ghost use Rattle.switch_core.specs.Hearing.{IsSoundSwitchBody, switch_collected_to, switch_flood, switch_with_message, switch_after_advert, switch_with_installed, is_news_to_switch, switch_with_learnt, obeys, switch_opening_stamp, switch_opened_with, opened_by, switch_stamp_raised_to, replies, replies_to, switch_stamped_with};
 
-use crate::kept::KeptTables;
+use crate::kept::SwitchKeptTables;
 use crate::switch::Switch;
 use base::{Items, has};
 use ctrl_msg::{Body, Message, Place, SharedTables};
@@ -34,7 +34,7 @@ impl Switch {
     /// Only out of memory; then nothing changes, as if the message hadn't been delivered.
     #[tactic(auto, unfolding(crate::specs::Hearing::switch_with_message, crate::specs::Hearing::replies, crate::specs::Hearing::switch_opening_stamp))]
     pub fn hear(&mut self, number: u32, body: &Body, near: u64) -> Result<Heard, AllocError>
-        requires { IsBodySoundForSwitch body.now }
+        requires { IsSoundSwitchBody body.now }
         ensures after { OnOk result (self.new ≡ switch_with_message self.old number body.now) }
         ensures replies { IfOk result (λ h. h.replies ≡ replies self.old near body.now) }
         ensures opened { IfOk result (λ h. h.opened ≡ switch_opening_stamp self.old body.now) }
@@ -96,7 +96,7 @@ impl Switch {
         match body {
             Body::Install { tables, .. } => one_switch_reply(
                 alloc,
-                to_controller(Body::Installed {
+                switch_message_to_controller(Body::Installed {
                     switch: self.number,
                     boot: self.boot,
                     version: tables.tables().version,
@@ -104,7 +104,7 @@ impl Switch {
             ),
             Body::Stamp { version, .. } => one_switch_reply(
                 alloc,
-                to_controller(Body::Stamped {
+                switch_message_to_controller(Body::Stamped {
                     switch: self.number,
                     boot: self.boot,
                     version: *version,
@@ -126,23 +126,23 @@ impl Switch {
     }
 
     // Keeps the tables, with trees for them, unless it has that version or has dropped it.
-    #[tactic(auto, unfolding(crate::specs::Hearing::with_installed))]
+    #[tactic(auto, unfolding(crate::specs::Hearing::switch_with_installed))]
     fn install(&mut self, alloc: Global, tables: &SharedTables) -> Result<(), AllocError>
         requires { AreSoundSwitchTables tables.now }
-        ensures after { OnOk result (self.new ≡ with_installed self.old tables.now) }
+        ensures after { OnOk result (self.new ≡ switch_with_installed self.old tables.now) }
         ensures err { OnErr result (self.new ≡ self.old) }
     {
         let version = tables.tables().version;
         if version <= self.collected || self.holds_version(version) {
             return Ok(());
         }
-        self.tables.push(KeptTables::new(alloc, tables)?)?;
+        self.tables.push(SwitchKeptTables::new(alloc, tables)?)?;
         Ok(())
     }
 
     // Serves from now on, with at least this version as its stamp.
     fn open_with(&mut self, version: u32)
-        ensures { self.new ≡ opened_with self.old version }
+        ensures { self.new ≡ switch_opened_with self.old version }
     {
         self.raise(version);
         self.is_open = true;
@@ -192,9 +192,9 @@ impl Switch {
     }
 
     // Keeps an advert of another switch, if it is news.
-    #[tactic(auto, unfolding(crate::specs::Hearing::switch_with_heard))]
+    #[tactic(auto, unfolding(crate::specs::Hearing::switch_after_advert))]
     fn inform(&mut self, advert: &Advert)
-        ensures { self.new ≡ switch_with_heard self.old advert.now }
+        ensures { self.new ≡ switch_after_advert self.old advert.now }
     {
         if self.is_news(advert) {
             self.database.hear(advert);
@@ -202,16 +202,16 @@ impl Switch {
     }
 
     // Whether the advert is of another switch, and news to the database.
-    #[tactic(auto, unfolding(crate::specs::Hearing::is_news_here))]
+    #[tactic(auto, unfolding(crate::specs::Hearing::is_news_to_switch))]
     fn is_news(&self, advert: &Advert) -> bool
-        ensures { result ≡ is_news_here self.now advert.now }
+        ensures { result ≡ is_news_to_switch self.now advert.now }
     {
         advert.origin != self.number && self.database.database().is_news(advert)
     }
 }
 
 // A message for the controller.
-fn to_controller(body: Body) -> Message
+fn switch_message_to_controller(body: Body) -> Message
     ensures { result ≡ to_controller body }
 {
     Message {

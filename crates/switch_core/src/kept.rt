@@ -1,7 +1,7 @@
 ghost use Rattle.std.specs.Prelude.{◌≡◌, IfOk, IsSomeAnd, IsTrue};
 ghost use Rattle.policy_rules.specs.Hosted.{is_in_policy_partition};
 ghost use Rattle.switch_table.specs.Tables.{AreSoundSwitchTables};
-ghost use Rattle.switch_core.specs.Deciding.{IsSwitchFirstHit, switch_own_rule_place, own_part, switch_part_numbered};
+ghost use Rattle.switch_core.specs.Deciding.{IsSwitchFirstHit, switch_own_rule_place, own_part, switch_core_partition_numbered};
 
 use ctrl_msg::SharedTables;
 use five_tuple::Header;
@@ -12,11 +12,11 @@ use table_tree::Finder;
 /// The tables of one version, with the trees that lead to a header's rules in them. Contracts see
 /// the tables.
 #[derive(Drop)]
-pub struct KeptTables {
+pub struct SwitchKeptTables {
     finder: Finder,
 }
 
-impl Model for KeptTables {
+impl Model for SwitchKeptTables {
     ghost use Rattle.switch_table.specs.declared.tables.Tables.{Tables};
 
     ghost Value = { Tables };
@@ -24,17 +24,17 @@ impl Model for KeptTables {
     ghost view = { λ k. k.finder.tables };
 }
 
-impl KeptTables {
+impl SwitchKeptTables {
     /// These tables, with their trees, or with new ones if they have none.
     ///
     /// # Errors
     /// Only out of memory.
-    pub fn new(alloc: Global, tables: &SharedTables) -> Result<KeptTables, AllocError>
+    pub fn new(alloc: Global, tables: &SharedTables) -> Result<SwitchKeptTables, AllocError>
         requires { AreSoundSwitchTables tables.now }
         ensures { IfOk result (λ kept. kept ≡ tables.now) }
     {
         let finder = tables.finder(alloc)?;
-        Ok(KeptTables { finder })
+        Ok(SwitchKeptTables { finder })
     }
 
     /// The finder, which looks headers up in the tables by their trees.
@@ -54,8 +54,8 @@ impl KeptTables {
     /// The place of the first rule that holds the header, in the own partition of this number.
     pub fn first_place(&self, partition: u32, header: &Header) -> u32
         requires { IsSomeAnd (own_part self.now partition) (λ part. IsTrue (is_in_policy_partition header.now part)) }
-        ensures place { result ≡ switch_own_rule_place header.now (switch_part_numbered self.now partition) }
-        ensures first { IsSwitchFirstHit header.now (switch_part_numbered self.now partition) result }
+        ensures place { result ≡ switch_own_rule_place header.now (switch_core_partition_numbered self.now partition) }
+        ensures first { IsSwitchFirstHit header.now (switch_core_partition_numbered self.now partition) result }
     {
         let place = self.finder.first(partition, header).unwrap();
         place as u32

@@ -41,7 +41,8 @@ pub use deciding::Decision;
 pub use forwarding::Forwarding;
 pub use hearing::{Heard, Replies};
 pub use laws::{
-    arrive_laws, decision_laws, enter_laws, exit_laws, hop_laws, lookup_laws, switch_laws,
+    switch_core_arrive_laws, switch_core_enter_laws, switch_core_hop_laws, switch_core_lookup_laws,
+    switch_decision_laws, switch_exit_laws, switch_laws,
 };
 pub use packet::{Arriving, Onward};
 pub use policy_rules::{Cause, How};

@@ -25,12 +25,12 @@ pub struct KeptRoute {
 /// The adverts that a switch has, and routes that it found by them, so that packets share these.
 /// Contracts see the adverts.
 #[derive(Drop)]
-pub struct Routes {
+pub struct SwitchRoutes {
     database: Database,
     kept: Vec<KeptRoute>,
 }
 
-impl Model for Routes {
+impl Model for SwitchRoutes {
     ghost use Rattle.std.specs.Prelude.{List, Option, All};
     ghost use Rattle.failover.specs.declared.advert.Advert.{Advert};
     ghost use Rattle.switch_core.specs.Routes.{IsSwitchRouteBy};
@@ -42,12 +42,12 @@ impl Model for Routes {
     ghost invariant = { λ w. All (IsSwitchRouteBy w.database) w.kept.items };
 }
 
-impl Routes {
+impl SwitchRoutes {
     /// These adverts, without routes; it allocates nothing yet.
-    pub fn new(alloc: Global, database: Database) -> Routes
+    pub fn new(alloc: Global, database: Database) -> SwitchRoutes
         ensures { result ≡ database }
     {
-        Routes {
+        SwitchRoutes {
             database,
             kept: Vec::new(alloc),
         }

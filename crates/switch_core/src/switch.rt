@@ -4,8 +4,8 @@ ghost use Rattle.failover.specs.Adverts.{held_advert};
 ghost use Rattle.switch_table.specs.Tables.{AreSoundSwitchTables};
 ghost use Rattle.switch_core.specs.State.{HasSwitchAdvertUpTo, IsSoundSwitch, new_switch, switch_call_counted, held_tables, holds_version, serves, stamp_tables};
 
-use crate::kept::KeptTables;
-use crate::routes::Routes;
+use crate::kept::SwitchKeptTables;
+use crate::routes::SwitchRoutes;
 use ctrl_msg::SharedTables;
 use failover::{Advert, Database};
 use std::alloc::{AllocError, Global};
@@ -22,9 +22,9 @@ pub struct Switch {
     pub(crate) is_open: bool,
     pub(crate) stamp: u32,
     pub(crate) collected: u32,
-    pub(crate) tables: Vec<KeptTables>,
+    pub(crate) tables: Vec<SwitchKeptTables>,
     pub(crate) cache: Cache,
-    pub(crate) database: Routes,
+    pub(crate) database: SwitchRoutes,
     pub(crate) seq: u32,
     pub(crate) handled: u64,
 }
@@ -61,7 +61,7 @@ impl Switch {
         ensures { IfOk result (λ switch. switch ≡ new_switch number cache tables base) }
     {
         let mut list = Vec::new(alloc);
-        list.push(KeptTables::new(alloc, &tables)?)?;
+        list.push(SwitchKeptTables::new(alloc, &tables)?)?;
         Ok(Switch {
             number,
             boot: 1,
@@ -71,7 +71,7 @@ impl Switch {
             collected: 0,
             tables: list,
             cache: Cache::new(alloc, cache),
-            database: Routes::new(alloc, base),
+            database: SwitchRoutes::new(alloc, base),
             seq: 1,
             handled: 0,
         })
@@ -139,14 +139,14 @@ impl Switch {
     }
 
     /// The tables of this version; `None` if it doesn't have them.
-    pub(crate) fn held_tables(&self, version: u32) -> Option<&KeptTables>
+    pub(crate) fn held_tables(&self, version: u32) -> Option<&SwitchKeptTables>
         ensures { option_copied result ≡ held_tables self.now version }
     {
         self.tables.iter().find(|kept| kept.version() == version)
     }
 
     /// The tables of the version that is its stamp.
-    pub(crate) fn stamp_tables(&self) -> &KeptTables
+    pub(crate) fn stamp_tables(&self) -> &SwitchKeptTables
         requires { IsTrue (holds_version self.now self.now.stamp) }
         ensures { result.now ≡ stamp_tables self.now }
     {

@@ -5,7 +5,7 @@ ghost use Rattle.std.specs.Prelude.{◌≡◌, ◌∷◌, [], IsTrue, None};
 ghost use Rattle.policy_rules.specs.declared.packet.Leg.TheVariants.{Exit as ExitLeg};
 ghost use Rattle.tunnel.specs.Moves.{next};
 ghost use Rattle.switch_core.specs.Answers.{Answered};
-ghost use Rattle.switch_core.specs.Exports.{Answer, CanSwitchLookUp, IsAtAuthoritySwitch, IsBySwitchLookup, IsSwitchAnswerUncached, PacketStandsAtSwitch, admitted, answer_of, around, switch_arrival_of, arrive_answer, switch_rule_cached_by, switch_call_counted, enter_answer, switch_entered_with, exit_by_switch, switch_hop_answer, incoming_packet, switch_found_link_down, next_of, switch_packet_of, rerouted_here, serves, set_out, switch_site_of};
+ghost use Rattle.switch_core.specs.Exports.{Answer, CanSwitchLookUp, IsSwitchAuthorityForLeg, IsSwitchLookupForwarding, IsSwitchAnswerUncached, SwitchStandsAtRoutePlace, admitted, answer_of, around, switch_arrival_of, arrive_answer, switch_core_cache_rule, switch_call_counted, enter_answer, switch_entered_with, switch_exit_by_tunnel, switch_hop_answer, switch_incoming_packet, switch_found_link_down, next_of, switch_packet_of, switch_rerouted_here, serves, set_out, switch_site_of};
 
 use crate::deciding::Decision;
 use crate::forwarding::Forwarding;
@@ -95,17 +95,17 @@ pub enum HopEnd {
 impl Switch {
     /// A packet of this number enters here: closed exactly if the switch doesn't serve. Otherwise
     /// the switch looks it up under its stamp: a cached or an authority rule decides it, or it is
-    /// sent to its partition's targets. The switch sends no rule to a cache. `enter_laws` and
-    /// `lookup_laws` say how.
+    /// sent to its partition's targets. The switch sends no rule to a cache.
+    /// `switch_core_enter_laws` and `switch_core_lookup_laws` say how.
     ///
     /// `near` has a bit for each switch to which there is a usable link.
     pub fn enter(&mut self, packet: u32, h: &Header, near: u64, ports: &Ports) -> Entered
         requires { CanSwitchLookUp self.old }
         ensures answer { result
             ≡ enter_answer self.old (around near ports.now)
-            (incoming_packet self.old packet h.now) }
+            (switch_incoming_packet self.old packet h.now) }
         ensures uncached { IsSwitchAnswerUncached
-            (admitted self.old (around near ports.now) (incoming_packet self.old packet h.now)) }
+            (admitted self.old (around near ports.now) (switch_incoming_packet self.old packet h.now)) }
         ensures after { self.new ≡ switch_call_counted self.old }
     {
         let packet = Packet {
@@ -122,16 +122,17 @@ impl Switch {
 
     /// A packet is here, at the end of its route. On its leg to a port it leaves by the port. On
     /// its leg to an authority switch the tables of its version decide it; if the switch doesn't
-    /// have these, it looks the packet up under its stamp. `arrive_laws` and `lookup_laws` say how.
+    /// have these, it looks the packet up under its stamp. `switch_core_arrive_laws` and
+    /// `switch_core_lookup_laws` say how.
     ///
     /// `near` has a bit for each switch to which there is a usable link.
     #[tactic(auto, unfolding(crate::specs::Answering::received))]
     pub fn arrive(&mut self, t: &Tunnel, near: u64, ports: &Ports) -> Arrived
         requires serving { IsTrue (serves self.old) }
         requires stamped { CanSwitchLookUp self.old }
-        requires here { PacketStandsAtSwitch self.old t.now.route t.now.place }
+        requires here { SwitchStandsAtRoutePlace self.old t.now.route t.now.place }
         requires last { next t.now ≡ None }
-        requires authority { IsAtAuthoritySwitch self.old t.now.header t.now.leg }
+        requires authority { IsSwitchAuthorityForLeg self.old t.now.header t.now.leg }
         ensures answer { result ≡ arrive_answer self.old (around near ports.now) t.now }
         ensures after { self.new ≡ switch_call_counted self.old }
     {
@@ -147,13 +148,14 @@ impl Switch {
 
     /// A packet that is here moves on. At the end of its route it arrives: it stays here. If the
     /// link to the next switch is usable, it moves there. Otherwise it finds that link down and
-    /// takes a new route, on which it moves or arrives, or is stuck. `hop_laws` says how.
+    /// takes a new route, on which it moves or arrives, or is stuck. `switch_core_hop_laws` says
+    /// how.
     ///
     /// `near` has a bit for each switch to which there is a usable link.
     #[tactic(auto, unfolding(crate::specs::Moving::switch_hop_answer))]
     pub fn hop(&mut self, t: &mut Tunnel, near: u64) -> Hop
         requires serving { IsTrue (serves self.old) }
-        requires here { PacketStandsAtSwitch self.old t.old.route t.old.place }
+        requires here { SwitchStandsAtRoutePlace self.old t.old.route t.old.place }
         ensures found { result.found ≡ switch_found_link_down near (next t.old) }
         ensures end { result.end ≡ (switch_hop_answer self.old near t.old).end }
         ensures tunnel { t.new ≡ (switch_hop_answer self.old near t.old).tunnel }
@@ -182,10 +184,10 @@ impl Switch {
     }
 
     // Where the hop ends along a new route, after a link was found down.
-    #[tactic(auto, unfolding(crate::specs::Moving::rerouted_here))]
+    #[tactic(auto, unfolding(crate::specs::Moving::switch_rerouted_here))]
     fn reroute(&self, near: u64, t: &mut Tunnel) -> HopEnd
-        ensures end { result ≡ (rerouted_here self.now near t.old).end }
-        ensures tunnel { t.new ≡ (rerouted_here self.now near t.old).tunnel }
+        ensures end { result ≡ (switch_rerouted_here self.now near t.old).end }
+        ensures tunnel { t.new ≡ (switch_rerouted_here self.now near t.old).tunnel }
     {
         if !t.reroute(self.database.database(), near) {
             return HopEnd::Stuck(self.cause(near, &t.down, &t.leg, &t.targets));
@@ -201,7 +203,7 @@ impl Switch {
 
     /// The result for a packet that enters, with this forwarding.
     fn answer_entry(&self, site: SwitchSite, packet: &Packet, forwarding: Forwarding) -> Entered
-        requires { IsBySwitchLookup forwarding }
+        requires { IsSwitchLookupForwarding forwarding }
         ensures { (answer : Answer)
             → answer_of self.now (switch_site_of site.entry) packet.now forwarding ≡ Answered answer
             → result ≡ switch_entered_with answer }
@@ -230,7 +232,7 @@ impl Switch {
             Forwarding::Out(port) => Arrived::Out(port),
             Forwarding::Decided { decision, word } => Arrived::Decided {
                 decision,
-                cache: switch_rule_cached_by(&decision, word),
+                cache: switch_core_cache_rule(&decision, word),
                 next: self.next(site, packet, decision.action),
             },
             Forwarding::Seek { leg, targets } => match self.set_out(
@@ -243,7 +245,7 @@ impl Switch {
     }
 
     // Where a packet moves that this action decides.
-    #[tactic(auto, unfolding(crate::specs::Ends::next_of, crate::specs::Ends::leave_by_switch))]
+    #[tactic(auto, unfolding(crate::specs::Ends::next_of, crate::specs::Ends::switch_leave_by_port))]
     fn next(&self, site: SwitchSite, packet: &Packet, action: Action) -> Next
         ensures { result ≡ next_of self.now (switch_site_of site.entry) packet.now action }
     {
@@ -259,7 +261,7 @@ impl Switch {
 
     // To the switch of its port.
     fn exit(&self, near: u64, packet: &Packet, port: u32, owner: u32) -> Next
-        ensures { result ≡ exit_by_switch (set_out self.now near packet.now (ExitLeg port) (owner ∷ [])) }
+        ensures { result ≡ switch_exit_by_tunnel (set_out self.now near packet.now (ExitLeg port) (owner ∷ [])) }
     {
         let targets = Targets::new(&[owner]).unwrap();
         match self.set_out(near, packet, Leg::Exit { port }, &targets) {
@@ -311,8 +313,8 @@ fn carried(t: &Tunnel) -> Packet
 }
 
 // The rule for a cache, if there is a word.
-fn switch_rule_cached_by(decision: &Decision, word: Option<Word>) -> Option<Body>
-    ensures { result ≡ switch_rule_cached_by decision.now word }
+fn switch_core_cache_rule(decision: &Decision, word: Option<Word>) -> Option<Body>
+    ensures { result ≡ switch_core_cache_rule decision.now word }
 {
     match word {
         None => None,

@@ -3,7 +3,7 @@
 use Rattle.std.proofs.Common.{[], ◌++◌, ◌+◌, ◌-◌, ◌<◌, ◌^◌, ◌||◌, ◌∙◌, ◌∷◌, ◌≡◌, ◌≤◌, All, Bool, List, Option, ap, arith, cond, drop, eq-eqb, eqb, eqb-true, false, filter, get_or, le-leb, leb, leb-true, length, length-append, refl, remove, subst, suc, sym, true, zero, ℕ, rules}
 use Rattle.base.proofs.Exports.{All-cons, All-filter, All-head, All-push, All-remove, All-tail, All-weaker, AllByRecursion, AllPairs-cons, IsDistinct, all_pairs_push, and_from, count_by-le-length, false_from_ne_true, get_or-append_seam, keys_of, length-filter, list_any, list_any-from_Any, map-append, map-remove}
 use Rattle.ternary.specs.Exports.{WordValue}
-use Rattle.switch_table.specs.Exports.{CacheEntriesAreMasked, AreCacheEntriesUpTo, HasCacheMaskOf, HaveDistinctCacheKeys, HaveOwnKeys, CacheKeysHaveVersions, HoldsEntries, Pair, equal_keys, cache_has_key, kept_entries, kept_entry, cache_key_of, pair_of, same_key}
+use Rattle.switch_table.specs.Exports.{CacheEntriesAreMasked, AreCacheEntriesUpTo, HasCacheMaskOf, HaveDistinctCacheKeys, HaveOwnCacheKeys, CacheKeysHaveVersions, HoldsEntries, Pair, equal_cache_keys, cache_has_key, kept_entries, kept_entry, cache_key_of, pair_of, same_key}
 use Rattle.switch_table.specs.declared.cache.CacheEntry.{CacheEntry}
 
 -- ---- keys of entries
@@ -58,15 +58,15 @@ pub key_of_entry : (shift : ℕ) (pair : Pair) → HasVersion shift pair
 key_of_entry shift pair is = search rules
 
 pub same_key-is : (shift : ℕ) (a b : CacheEntry)
-    → same_key a b ≡ equal_keys (cache_key_of shift a) (cache_key_of shift b)
-unfolding same_key equal_keys
+    → same_key a b ≡ equal_cache_keys (cache_key_of shift a) (cache_key_of shift b)
+unfolding same_key equal_cache_keys
 same_key-is shift a b = cc (eqb-shift a.version b.version shift)
 
 -- an entry's key is that of the pair
 same_key_of : (shift : ℕ) (entry : CacheEntry) (pair : Pair) → HasVersion shift pair
-    → equal_keys (cache_key_of shift entry) pair.0 ≡ same_key entry (kept_entry shift pair)
+    → equal_cache_keys (cache_key_of shift entry) pair.0 ≡ same_key entry (kept_entry shift pair)
 same_key_of shift entry pair is = sym (same_key-is shift entry (kept_entry shift pair)
-    ∙ ap (equal_keys (cache_key_of shift entry)) (key_of_entry shift pair is))
+    ∙ ap (equal_cache_keys (cache_key_of shift entry)) (key_of_entry shift pair is))
 
 pub has_key_of_entry : (shift : ℕ) (entry : CacheEntry) (pairs : List Pair)
     → CacheKeysHaveVersions shift pairs
@@ -78,20 +78,20 @@ has_key_of_entry shift entry (pair ∷ pairs) are =
 
 apart_from_all : (shift : ℕ) (pair : Pair) (pairs : List Pair) → HasVersion shift pair
     → CacheKeysHaveVersions shift pairs
-    → AllByRecursion (λ key. equal_keys pair.0 key ≡ false) (keys_of pairs)
+    → AllByRecursion (λ key. equal_cache_keys pair.0 key ≡ false) (keys_of pairs)
     → All (λ entry. same_key (kept_entry shift pair) entry ≡ false) (kept_entries shift pairs)
 apart_from_all shift pair [] is are apart = search rules
 apart_from_all shift pair (next ∷ pairs) is are apart =
     let here : same_key (kept_entry shift pair) (kept_entry shift next) ≡ false =
     sym (same_key_of shift (kept_entry shift pair) next (All-head (HasVersion shift) next pairs are))
-    ∙ ap (λ key. equal_keys key next.0) (key_of_entry shift pair is) ∙ apart.0 in
+    ∙ ap (λ key. equal_cache_keys key next.0) (key_of_entry shift pair is) ∙ apart.0 in
     All-cons (λ entry. same_key (kept_entry shift pair) entry ≡ false) (kept_entry shift next)
     (kept_entries shift pairs) here
     (apart_from_all shift pair pairs is (All-tail (HasVersion shift) next pairs are) apart.1)
 
 -- no two entries have one key where no two pairs do
 pub entries_distinct : (shift : ℕ) (pairs : List Pair) → CacheKeysHaveVersions shift pairs
-    → HaveOwnKeys pairs → HaveDistinctCacheKeys (kept_entries shift pairs)
+    → HaveOwnCacheKeys pairs → HaveDistinctCacheKeys (kept_entries shift pairs)
 unfolding IsDistinct
 entries_distinct shift [] are own = none_distinct
 entries_distinct shift (pair ∷ pairs) are own =

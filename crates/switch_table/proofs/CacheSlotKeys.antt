@@ -2,7 +2,7 @@
 use Rattle.std.proofs.Common.{[], ◌&&◌, ◌++◌, ◌+◌, ◌-◌, ◌<◌, ◌^◌, ◌∙◌, ◌∷◌, ◌≡◌, ◌≢◌, Bool, List, None, Some, ap, arith, cond, false, filter, inl, inr, ne_eqb, refl, set, slice_get, subst, suc, sym, true, zero, ℕ, rules}
 use Rattle.base.proofs.Exports.{false≢true, lookup, none-some}
 use Rattle.ternary.specs.Exports.{word_eq}
-use Rattle.switch_table.specs.Exports.{AreCacheSlotsNamed, IsCacheSlotNamed, SlotPair, equal_keys, is_live, killed_cache_slot}
+use Rattle.switch_table.specs.Exports.{AreCacheSlotsNamed, IsCacheSlotNamed, SlotPair, equal_cache_keys, is_live, killed_cache_slot}
 use Rattle.switch_table.specs.declared.key.CacheKey.{CacheKey}
 
 named_at : (n : ℕ) (slots : List SlotPair) (at : ℕ) (slot : SlotPair) → AreCacheSlotsNamed n slots →
@@ -57,11 +57,11 @@ named_kept keep lives n m (x ∷ xs) named = by_case (keep x) refl named.0
 pub named_absent : (key : CacheKey) (place n : ℕ) (slots : List SlotPair) →
     key.number + place ≡ 2 ^ 64 - 1 → place < 2 ^ 63 → AreCacheSlotsNamed n slots →
     ((at : ℕ) (slot : SlotPair) → slice_get slots at ≡ Some slot → n + at ≡ place →
-    slot.0.number < 2 ^ 33) → lookup (equal_keys key) slots ≡ None
-unfolding AreCacheSlotsNamed equal_keys
+    slot.0.number < 2 ^ 33) → lookup (equal_cache_keys key) slots ≡ None
+unfolding AreCacheSlotsNamed equal_cache_keys
 named_absent key place n [] is fits named old = refl
 named_absent key place n (x ∷ xs) is fits named old =
-    ap (λ b. cond b (Some x.1) (lookup (equal_keys key) xs)) apart ∙ named_absent key place (suc n)
+    ap (λ b. cond b (Some x.1) (lookup (equal_cache_keys key) xs)) apart ∙ named_absent key place (suc n)
     xs is fits named.1 (λ at slot there here. old (suc at) slot there (omega (arith, here)))
   where
     other : key.number ≢ x.0.number
@@ -71,5 +71,5 @@ named_absent key place n (x ∷ xs) is fits named old =
           let small = old 0 x refl here in absurd (omega (arith, same, small, is, fits))
     ]
 
-    apart : equal_keys key x.0 ≡ false
+    apart : equal_cache_keys key x.0 ≡ false
     apart = ap (λ b. b && word_eq key.word x.0.word) (ne_eqb key.number x.0.number other)

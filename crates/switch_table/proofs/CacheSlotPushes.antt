@@ -3,11 +3,11 @@ use Rattle.std.proofs.Common.{[], ◌++◌, ◌<◌, ◌^◌, ◌∙◌, ◌∷�
 use Rattle.base.proofs.Exports.{AllByRecursion, IsDistinct, cons_option, count_by-le-length, filter_map-append, get_or-map, get_or_append_left, get_or_from_slice_get, keys_of, length-filter, length-map, length_push, lookup, map_push, none-some, position_or_len, put_last, same_Some, slice_get-get_or, slice_get-map, slice_get_within, take-append-le, take-map, values_of}
 use Rattle.indexmap.proofs.MapLemmas.{Found-position}
 use Rattle.ternary.specs.Exports.{WordValue, word_eq}
-use Rattle.switch_table.specs.Exports.{AreCacheLiveCounts, AreCacheSlotsNamed, AreCacheSlots, CountLiveCachePlaces, HaveOwnKeys, Pair, SlotPair, cache_live_count_set, equal_keys, cache_live_flags_of, cache_has_key, is_live, live_cache_pair, live_cache_pairs}
+use Rattle.switch_table.specs.Exports.{AreCacheLiveCounts, AreCacheSlotsNamed, AreCacheSlots, CountLiveCachePlaces, HaveOwnCacheKeys, Pair, SlotPair, cache_live_count_set, equal_cache_keys, cache_live_flags_of, cache_has_key, is_live, live_cache_pair, live_cache_pairs}
 use Rattle.switch_table.specs.declared.key.CacheKey.{CacheKey}
 use Rattle.switch_table.specs.declared.key.LearntEntry.{LearntEntry}
 use Rattle.switch_table.specs.declared.key.Slot.{Slot}
-use Rattle.switch_table.specs.declared.live.LiveCounts.{LiveCounts}
+use Rattle.switch_table.specs.declared.live.LiveCacheCounts.{LiveCacheCounts}
 use Rattle.switch_table.proofs.CacheSlotKeys.{named_pushed}
 
 -- ---- keys
@@ -15,8 +15,8 @@ use Rattle.switch_table.proofs.CacheSlotKeys.{named_pushed}
 words_same : (a b : WordValue) → word_eq a b ≡ true → a ≡ b
 words_same a b is = search (rules, eqb-true)
 
-pub equal_keys_same : (a b : CacheKey) → equal_keys a b ≡ true → a ≡ b
-unfolding equal_keys
+pub equal_keys_same : (a b : CacheKey) → equal_cache_keys a b ≡ true → a ≡ b
+unfolding equal_cache_keys
 equal_keys_same a b is = search (rules, words_same, eqb-true)
 
 -- ---- counts and keys of live slots
@@ -42,50 +42,50 @@ pub live_fit : (slots : List SlotPair) → length (live_cache_pairs slots) ≤ l
 live_fit slots = omega (arith, count_live slots, count_by-le-length, length-map slots is_live)
 
 abbrev AreApart : CacheKey → List CacheKey → Type 0
-AreApart key keys = AllByRecursion (λ other. equal_keys key other ≡ false) keys
+AreApart key keys = AllByRecursion (λ other. equal_cache_keys key other ≡ false) keys
 
 apart_live : (key : CacheKey) (slots : List SlotPair) → AreApart key (keys_of slots) →
     AreApart key (keys_of (live_cache_pairs slots))
 apart_live key [] apart = apart
 apart_live key (slot ∷ slots) apart = search (rules, apart_live key slots apart.1)
 
-pub distinct_live : (slots : List SlotPair) → IsDistinct equal_keys (keys_of slots) →
-    HaveOwnKeys (live_cache_pairs slots)
+pub distinct_live : (slots : List SlotPair) → IsDistinct equal_cache_keys (keys_of slots) →
+    HaveOwnCacheKeys (live_cache_pairs slots)
 unfolding IsDistinct
 distinct_live [] distinct = distinct
 distinct_live (slot ∷ slots) distinct = by_case slot.1.is_live (distinct_live slots distinct.1)
   where
-    by_case : (live : Bool) → IsDistinct equal_keys (keys_of (live_cache_pairs slots)) →
-        IsDistinct equal_keys (keys_of (with_slot live slot (live_cache_pairs slots)))
+    by_case : (live : Bool) → IsDistinct equal_cache_keys (keys_of (live_cache_pairs slots)) →
+        IsDistinct equal_cache_keys (keys_of (with_slot live slot (live_cache_pairs slots)))
     by_case true rest = (apart_live slot.0 slots distinct.0, rest)
     by_case false rest = rest
 
 -- ---- the slot of a key
 
 pub absent_live : (key : CacheKey) (slots : List SlotPair) →
-    lookup (equal_keys key) slots ≡ None → cache_has_key key (live_cache_pairs slots) ≡ false
+    lookup (equal_cache_keys key) slots ≡ None → cache_has_key key (live_cache_pairs slots) ≡ false
 absent_live key [] none = refl
 absent_live key (slot ∷ slots) none = search (rules, none-some, absent_live key slots)
 
 apart_absent : (key : CacheKey) (slots : List SlotPair) → AreApart key (keys_of slots) →
-    lookup (equal_keys key) slots ≡ None
+    lookup (equal_cache_keys key) slots ≡ None
 apart_absent key [] apart = refl
 apart_absent key (slot ∷ slots) apart = cc (apart.0, apart_absent key slots apart.1)
 
 pub found_live : (key : CacheKey) (slots : List SlotPair) (found : Slot) →
-    IsDistinct equal_keys (keys_of slots) → lookup (equal_keys key) slots ≡ Some found →
+    IsDistinct equal_cache_keys (keys_of slots) → lookup (equal_cache_keys key) slots ≡ Some found →
     cache_has_key key (live_cache_pairs slots) ≡ found.is_live
 unfolding IsDistinct
 found_live key [] found distinct is = absurd (none-some found is)
-found_live key (slot ∷ slots) found distinct is = by_case (equal_keys key slot.0) slot.1.is_live
+found_live key (slot ∷ slots) found distinct is = by_case (equal_cache_keys key slot.0) slot.1.is_live
     refl refl is (found_live key slots found distinct.1)
   where
-    here_is : equal_keys key slot.0 ≡ true → lookup (equal_keys key) slots ≡ None
+    here_is : equal_cache_keys key slot.0 ≡ true → lookup (equal_cache_keys key) slots ≡ None
     here_is same = apart_absent key slots (rw (equal_keys_same key slot.0 same) distinct.0)
 
-    by_case : (here live : Bool) → equal_keys key slot.0 ≡ here → slot.1.is_live ≡ live
-        → cond here (Some slot.1) (lookup (equal_keys key) slots) ≡ Some found
-        → (lookup (equal_keys key) slots ≡ Some found → cache_has_key key (live_cache_pairs slots)
+    by_case : (here live : Bool) → equal_cache_keys key slot.0 ≡ here → slot.1.is_live ≡ live
+        → cond here (Some slot.1) (lookup (equal_cache_keys key) slots) ≡ Some found
+        → (lookup (equal_cache_keys key) slots ≡ Some found → cache_has_key key (live_cache_pairs slots)
         ≡ found.is_live) → cache_has_key key (with_slot live slot (live_cache_pairs slots)) ≡ found.is_live
     by_case true true same lives here rest = cc (same, lives, same_Some slot.1 found here)
     by_case true false same lives here rest = absent_live key slots (here_is same) ∙ sym lives
@@ -97,24 +97,24 @@ found_live key (slot ∷ slots) found distinct is = by_case (equal_keys key slot
 pub record IsFound (key : CacheKey) (place : ℕ) (slots : List SlotPair) : Type 0 where
   pub pair : SlotPair
   pub at : slice_get slots place ≡ Some pair
-  pub passes : equal_keys key pair.0 ≡ true
-  pub value : lookup (equal_keys key) slots ≡ Some pair.1
+  pub passes : equal_cache_keys key pair.0 ≡ true
+  pub value : lookup (equal_cache_keys key) slots ≡ Some pair.1
 
 first_found : (key : CacheKey) (slots : List SlotPair) →
-    position_or_len (equal_keys key) (keys_of slots) < length slots →
-    IsFound key (position_or_len (equal_keys key) (keys_of slots)) slots
+    position_or_len (equal_cache_keys key) (keys_of slots) < length slots →
+    IsFound key (position_or_len (equal_cache_keys key) (keys_of slots)) slots
 first_found key [] within = absurd (omega arith)
 first_found key (slot ∷ slots) within = search (rules, first_found key slots)
 
 pub found_at : (key : CacheKey) (place : ℕ) (slots : List SlotPair) →
-    position (equal_keys key) (keys_of slots) ≡ Some place → IsFound key place slots
-found_at key place slots is = let found = Found-position (equal_keys key) slots place is in
+    position (equal_cache_keys key) (keys_of slots) ≡ Some place → IsFound key place slots
+found_at key place slots is = let found = Found-position (equal_cache_keys key) slots place is in
     subst (λ n. IsFound key n slots) found.or_len
     (first_found key slots (omega (arith, found.or_len, found.within)))
 
 -- a slot of a key that no live one has is dead
 pub found_dead : (key : CacheKey) (place : ℕ) (slots : List SlotPair) →
-    IsFound key place slots → IsDistinct equal_keys (keys_of slots) →
+    IsFound key place slots → IsDistinct equal_cache_keys (keys_of slots) →
     cache_has_key key (live_cache_pairs slots) ≡ false → slice_get (cache_live_flags_of slots) place ≡ Some false
 found_dead key place slots found distinct absent = search (rules, slice_get-map, found_live)
 
@@ -176,7 +176,7 @@ rekeyed place key slot taken slots more new dead slot_is more_is taken_is new_is
         }
 
 -- slots of the same flags
-pub same_flags : (live : LiveCounts) (first : ℕ) (old new : List SlotPair) →
+pub same_flags : (live : LiveCacheCounts) (first : ℕ) (old new : List SlotPair) →
     cache_live_flags_of new ≡ cache_live_flags_of old → AreCacheSlotsNamed 0 new → AreCacheSlots live first old →
     AreCacheSlots live first new
 same_flags live first old new same named are =
@@ -199,7 +199,7 @@ same_flags live first old new same named are =
     }
 
 -- the same slots under other counts
-pub with_counts : (live more : LiveCounts) (first : ℕ) (slots : List SlotPair) →
+pub with_counts : (live more : LiveCacheCounts) (first : ℕ) (slots : List SlotPair) →
     AreCacheSlots live first slots → AreCacheLiveCounts more (cache_live_flags_of slots) → AreCacheSlots more first slots
 with_counts live more first slots are counts = search rules
 
@@ -214,11 +214,11 @@ pub swept_flags : (slots : List SlotPair) →
 swept_flags [] = refl
 swept_flags (slot ∷ slots) = search (rules, swept_flags slots)
 
-pub swept_slots : (live : LiveCounts) (slots : List SlotPair) → AreCacheLiveCounts live (cache_live_flags_of slots) →
+pub swept_slots : (live : LiveCacheCounts) (slots : List SlotPair) → AreCacheLiveCounts live (cache_live_flags_of slots) →
     AreCacheSlotsNamed 0 slots → AreCacheSlots live 0 slots
 swept_slots live slots are named = search (rules, length-take-le)
 
-pub room_of : (live : LiveCounts) (slots : List SlotPair) (places : ℕ) →
+pub room_of : (live : LiveCacheCounts) (slots : List SlotPair) (places : ℕ) →
     AreCacheLiveCounts live (cache_live_flags_of slots) → places ≤ length slots → CountLiveCachePlaces live places
 room_of live slots places are within =
     omega (arith, are.blocks.room, length-map slots is_live, within)
@@ -230,7 +230,7 @@ pub pushed_pairs : (slots : List SlotPair) (key : CacheKey) (learnt : LearntEntr
     ≡ live_cache_pairs slots ++ (key, learnt) ∷ []
 pushed_pairs slots key learnt = search (rules, filter_map-append)
 
-pub pushed_slots : (live more : LiveCounts) (first : ℕ) (slots : List SlotPair) (key : CacheKey)
+pub pushed_slots : (live more : LiveCacheCounts) (first : ℕ) (slots : List SlotPair) (key : CacheKey)
     (learnt : LearntEntry) → AreCacheSlots live first slots →
     AreCacheLiveCounts more (cache_live_flags_of slots ++ true ∷ []) → key.number < 2 ^ 33 →
     AreCacheSlots more first (slots ++ (key, record { learnt = learnt; is_live = true }) ∷ [])

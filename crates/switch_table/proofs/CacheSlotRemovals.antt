@@ -5,7 +5,7 @@ use Rattle.indexmap.specs.Layout.{set_value_at}
 use Rattle.switch_table.specs.Exports.{AreCacheLiveCounts, AreCacheSlotsNamed, AreCacheSlots, IsNthLiveCacheFlag, Pair, SlotPair, cache_live_count_set, cache_live_flags_of, is_live, killed_cache_slot, live_cache_pair, live_cache_pairs}
 use Rattle.switch_table.specs.declared.key.CacheKey.{CacheKey}
 use Rattle.switch_table.specs.declared.key.Slot.{Slot}
-use Rattle.switch_table.specs.declared.live.LiveCounts.{LiveCounts}
+use Rattle.switch_table.specs.declared.live.LiveCacheCounts.{LiveCacheCounts}
 use Rattle.switch_table.proofs.CacheSlotKeys.{named_kept, named_killed}
 use Rattle.switch_table.proofs.CacheLiveCounts.{count_both}
 use Rattle.switch_table.proofs.CacheSlotPushes.{count_live, live_fit}
@@ -78,7 +78,7 @@ dead_before (suc at) (slot ∷ slots) none =
         All-cons IsDead slot (take at slots) dead (rest (omega (arith, some)))
 
 -- the first one is sought from `first` on
-pub starts_first : (live : LiveCounts) (first before : ℕ) (slots : List SlotPair) →
+pub starts_first : (live : LiveCacheCounts) (first before : ℕ) (slots : List SlotPair) →
     AreCacheSlots live first slots → before < cache_live_count_set (cache_live_flags_of slots) → before ≡ 0 →
     IsStart first 0 before (cache_live_flags_of slots)
 starts_first live first before slots are some none =
@@ -193,7 +193,7 @@ module _ (test : CacheKey → Bool) where
   kept_flags (x ∷ xs) = search (rules, kept_flags xs)
 
   -- all of these are live
-  pub kept_slots : (live : LiveCounts) (slots new : List SlotPair) (count : ℕ) →
+  pub kept_slots : (live : LiveCacheCounts) (slots new : List SlotPair) (count : ℕ) →
       new ≡ filter is_kept slots → count ≡ length new → AreCacheLiveCounts live (replicate count true) →
       AreCacheSlotsNamed 0 slots → AreCacheSlots live 0 new
   kept_slots live slots new count made long counted named = search (rules, kept_flags, named_kept)
@@ -249,7 +249,7 @@ nth_killed slots new before at nth made = let (slot, there) = nth_slot slots bef
     ∙ ap (remove (live_cache_pairs slots)) nth.earlier
 
 -- the slots once it is dead: the first one is its place where none was before it
-pub slots_killed : (old live : LiveCounts) (first next before at : ℕ) (slots new : List SlotPair)
+pub slots_killed : (old live : LiveCacheCounts) (first next before at : ℕ) (slots new : List SlotPair)
     → AreCacheSlots old first slots → IsNthLiveCacheFlag before at (cache_live_flags_of slots) → IsKilled at slots new →
     ((flags : List Bool) → AreCacheLiveCounts old flags → slice_get flags at ≡ Some true →
     AreCacheLiveCounts live (set flags at false)) → ((before ≡ 0) × (next ≡ at)) ⊎ (next ≡ first) →
@@ -277,6 +277,6 @@ slots_killed old live first next before at slots new are nth kills takes begins 
     }
 
 -- no more are live than there are
-pub all_fit : (live : LiveCounts) (slots : List SlotPair) → AreCacheLiveCounts live (cache_live_flags_of slots) →
+pub all_fit : (live : LiveCacheCounts) (slots : List SlotPair) → AreCacheLiveCounts live (cache_live_flags_of slots) →
     live.all ≤ length slots
 all_fit live slots are = omega (arith, are.all, count_live slots, live_fit slots)

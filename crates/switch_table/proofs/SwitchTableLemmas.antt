@@ -4,10 +4,10 @@ use Rattle.base.proofs.Exports.{All-contains, All-contains_itself, All-filter, A
 use Rattle.five_tuple.specs.Exports.{IsHeader, number_of}
 use Rattle.five_tuple.specs.declared.header.Header.{Header}
 use Rattle.ternary.proofs.TernaryCallerLemmas.{covers_held}
-use Rattle.policy_rules.specs.Exports.{ArePartsNumbered, AreSoundPolicyPartitions, LastRuleCovers, first_rule, policy_hit_of_rule, is_held, is_in_policy_partition, scan}
+use Rattle.policy_rules.specs.Exports.{ArePolicyPartitionsNumbered, AreSoundPolicyPartitions, LastRuleCovers, first_rule, policy_hit_of_rule, is_held, is_in_policy_partition, scan}
 use Rattle.policy_rules.specs.declared.policy.Row.{Row}
 use Rattle.policy_rules.specs.declared.rules.Partition.{Partition}
-use Rattle.switch_table.specs.Exports.{AllTableLookupsDecide, AreSoundSwitchTables, TablePartitionDecidesAll, TableFindsFirstMatch, Hosted, TablesLeadToFirstMatch, table_authority_of, has_target, lookup_in, part_of, table_lookup_in_plan, table_redirect_of, table_part_row_has, row_of, table_lookup, tables_of}
+use Rattle.switch_table.specs.Exports.{AllTableLookupsDecide, AreSoundSwitchTables, TablePartitionDecidesAll, TableFindsFirstMatch, Hosted, SwitchTablesReachFirstMatch, table_authority_of, has_target, lookup_in, part_of, table_lookup_in_plan, table_redirect_of, table_part_row_has, row_of, table_lookup, tables_of}
 use Rattle.switch_table.specs.declared.tables.PartRow.{PartRow}
 use Rattle.switch_table.specs.declared.tables.Tables.{Tables}
 use Rattle.switch_table.specs.declared.search.Found.{Found}
@@ -41,7 +41,7 @@ at_header rows plan header sound is =
     )
 
 -- a partition of a plan is at the place of its number
-numbered_at : (plan : List Hosted) (hosted : Hosted) → ArePartsNumbered (map part_of plan)
+numbered_at : (plan : List Hosted) (hosted : Hosted) → ArePolicyPartitionsNumbered (map part_of plan)
     → Contains plan hosted → slice_get plan hosted.0.number ≡ Some hosted
 numbered_at plan hosted numbers (k, within, is) =
     let len : length (map part_of plan) ≡ length plan = length-map _ _ in
@@ -52,7 +52,7 @@ numbered_at plan hosted numbers (k, within, is) =
 
 -- the place of the first rule leads to that rule
 place_leads : (rows : List Row) (plan : List Hosted) (header : Header) (hosted : Hosted)
-    → ArePartsNumbered (map part_of plan) → IsAt rows plan header hosted
+    → ArePolicyPartitionsNumbered (map part_of plan) → IsAt rows plan header hosted
     → TableFindsFirstMatch rows (map part_of plan) header (table_authority_of header (part_of hosted))
 place_leads rows plan header hosted numbers at =
     let leads = find-position (is_held (number_of header)) hosted.0.rules in
@@ -97,7 +97,7 @@ row_targets rows plan header hosted at = search (rules, find-map)
 pub tables_lead : (rows : List Row) (plan : List Hosted) (version switch : ℕ) (header : Header)
     → AreSoundPolicyPartitions rows (map part_of plan) → All (λ hosted. 0 < length hosted.1) plan
     → IsHeader header
-    → TablesLeadToFirstMatch rows plan version header (table_lookup (tables_of plan version switch) header)
+    → SwitchTablesReachFirstMatch rows plan version header (table_lookup (tables_of plan version switch) header)
 tables_lead rows plan version switch header sound some is =
     let here = at_header rows plan header sound is in
     let hosted = here.0 in
@@ -108,7 +108,7 @@ tables_lead rows plan version switch header sound some is =
     λ s target. subst (TableFindsFirstMatch rows (map part_of plan) header)
     (sym (lookup_at rows plan version s header hosted sound is at ∙ ap (λ b. cond b (table_authority_of
     header (part_of hosted)) (table_redirect_of header (map row_of plan))) target)) decides in
-    subst (TablesLeadToFirstMatch rows plan version header)
+    subst (SwitchTablesReachFirstMatch rows plan version header)
     (sym (lookup_at rows plan version switch header hosted sound is at))
     (by_case hosted (has_target switch hosted) decides (subst (AllTableLookupsDecide rows plan version header)
     (sym (row_targets rows plan header hosted at)) (record {
@@ -131,15 +131,15 @@ tables_lead rows plan version switch header sound some is =
 
     by_case : (hosted : Hosted) (b : Bool) → TableFindsFirstMatch rows (map part_of plan) header
         (table_authority_of header (part_of hosted))
-        → TablesLeadToFirstMatch rows plan version header (table_redirect_of header (map row_of plan))
-        → TablesLeadToFirstMatch rows plan version header
+        → SwitchTablesReachFirstMatch rows plan version header (table_redirect_of header (map row_of plan))
+        → SwitchTablesReachFirstMatch rows plan version header
         (cond b (table_authority_of header (part_of hosted)) (table_redirect_of header (map row_of plan)))
     by_case hosted true own others = own
     by_case hosted false own others = others
 
 -- the row that holds a header is at the number of the partition that does, and has its targets
 redirect_there : (rows : List Row) (plan : List Hosted) (header : Header) (hosted : Hosted) →
-    ArePartsNumbered (map part_of plan) → IsAt rows plan header hosted →
+    ArePolicyPartitionsNumbered (map part_of plan) → IsAt rows plan header hosted →
     table_redirect_of header (map row_of plan) ≡ Redirect hosted.0.number hosted.1
 redirect_there rows plan header hosted numbers at =
     let place = ap (λ k. unwrap_or k 0) (position-map (table_part_row_has header) row_of plan)
@@ -184,7 +184,7 @@ own_all P plan kept each = All-map P part_of (filter kept plan)
     (All-filter kept (λ hosted. P (part_of hosted)) plan (All-weaker (Contains plan)
     (λ hosted. P (part_of hosted)) each plan (All-contains_itself plan)))
 
-numbers_differ : (plan : List Hosted) → ArePartsNumbered (map part_of plan)
+numbers_differ : (plan : List Hosted) → ArePolicyPartitionsNumbered (map part_of plan)
     → AllPairs (λ a b. a.0.number ≢ b.0.number) plan
 numbers_differ plan numbers = λ i j d less within same.
     let len : length (map part_of plan) ≡ length plan = length-map _ _ in

@@ -1,4 +1,5 @@
--- The laws of caches: `cache_laws` and `carry_laws` of the crate ensure the records.
+-- The laws of caches: `learnt_cache_laws` and `learnt_cache_carry_laws` of the crate ensure the
+-- records.
 use Rattle.std.specs.Prelude.{[], ◌+◌, ◌≡◌, ◌≤◌, ◌⊎◌, All, Any, Contains, IsFalse, List, ℕ}
 use Rattle.ternary.specs.Exports.{WordValue}
 use Rattle.switch_table.specs.Cache.{CacheValue, IsCache, cache_after_accept, after_expire, cache_after_raise, cache_after_clear}

@@ -33,15 +33,15 @@ kept_entry shift pair = record {
 abbrev pub kept_entries : ℕ → List Pair → List CacheEntry
 kept_entries shift pairs = map (kept_entry shift) pairs
 
-unfoldable pub equal_keys : CacheKey → CacheKey → Bool
-equal_keys a b = (a.number == b.number) && word_eq a.word b.word
+unfoldable pub equal_cache_keys : CacheKey → CacheKey → Bool
+equal_cache_keys a b = (a.number == b.number) && word_eq a.word b.word
 
 -- no two pairs have the same key
-abbrev pub HaveOwnKeys : List Pair → Type 0
-HaveOwnKeys pairs = IsDistinct equal_keys (keys_of pairs)
+abbrev pub HaveOwnCacheKeys : List Pair → Type 0
+HaveOwnCacheKeys pairs = IsDistinct equal_cache_keys (keys_of pairs)
 
 abbrev pub cache_has_key : CacheKey → List Pair → Bool
-cache_has_key key pairs = list_any (λ pair. equal_keys key pair.0) pairs
+cache_has_key key pairs = list_any (λ pair. equal_cache_keys key pair.0) pairs
 
 -- the key of this number whose word has this one's mask and holds the header
 abbrev pub cache_key_under : ℕ → ℕ → WordValue → CacheKey
@@ -51,9 +51,9 @@ cache_key_under number header mask = record {
 }
 
 -- the key is that of this number and header under one of these masks
-abbrev pub is_cache_hit : ℕ → ℕ → List WordValue → CacheKey → Bool
-is_cache_hit number header masks key =
-    list_any (λ mask. equal_keys (cache_key_under number header mask) key) masks
+abbrev pub is_cache_key_hit : ℕ → ℕ → List WordValue → CacheKey → Bool
+is_cache_key_hit number header masks key =
+    list_any (λ mask. equal_cache_keys (cache_key_under number header mask) key) masks
 
 -- the key has this number, and its word meets no touched word
 abbrev pub is_carried_cache_key : ℕ → List WordValue → CacheKey → Bool

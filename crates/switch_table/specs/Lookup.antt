@@ -72,10 +72,10 @@ pub record AllTableLookupsDecide (rows : List Row) (plan : List Hosted) (version
       (table_lookup (tables_of plan version switch) header)) targets
 
 -- the tables decide the header, or send it to targets that all do
-abbrev pub TablesLeadToFirstMatch : List Row → List Hosted → ℕ → Header → Found → Type 0
-TablesLeadToFirstMatch rows plan version header (Redirect partition targets) =
+abbrev pub SwitchTablesReachFirstMatch : List Row → List Hosted → ℕ → Header → Found → Type 0
+SwitchTablesReachFirstMatch rows plan version header (Redirect partition targets) =
     AllTableLookupsDecide rows plan version header targets
-TablesLeadToFirstMatch rows plan version header found = TableFindsFirstMatch rows (map part_of plan) header found
+SwitchTablesReachFirstMatch rows plan version header found = TableFindsFirstMatch rows (map part_of plan) header found
 
 pub record SwitchTablesLaws : Type 0 where
   -- the authority rules of sound tables decide each header of their regions
@@ -89,7 +89,7 @@ pub record SwitchTablesLaws : Type 0 where
   pub leads : (rows : List Row) (plan : List Hosted) (version switch : ℕ) (header : Header)
       → AreSoundPolicyPartitions rows (map part_of plan) → All (λ hosted. 0 < length hosted.1) plan
       → IsHeader header
-      → TablesLeadToFirstMatch rows plan version header (table_lookup (tables_of plan version switch) header)
+      → SwitchTablesReachFirstMatch rows plan version header (table_lookup (tables_of plan version switch) header)
   -- .. and say what the plan says: the number of the partition that holds the header, and its rule
   -- or its targets
   pub planned : (rows : List Row) (plan : List Hosted) (version switch : ℕ) (header : Header) →

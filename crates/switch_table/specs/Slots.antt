@@ -4,7 +4,7 @@ use Rattle.switch_table.specs.Keys.{Pair}
 use Rattle.switch_table.specs.Live.{AreCacheLiveCounts}
 use Rattle.switch_table.specs.declared.key.CacheKey.{CacheKey}
 use Rattle.switch_table.specs.declared.key.Slot.{Slot}
-use Rattle.switch_table.specs.declared.live.LiveCounts.{LiveCounts}
+use Rattle.switch_table.specs.declared.live.LiveCacheCounts.{LiveCacheCounts}
 
 abbrev pub SlotPair : Type 0
 SlotPair = CacheKey × Slot
@@ -37,7 +37,7 @@ AreCacheSlotsNamed place [] = ⊤
 AreCacheSlotsNamed place (slot ∷ slots) = IsCacheSlotNamed place slot × AreCacheSlotsNamed (suc place) slots
 
 -- the slots before `first` are dead, and the live ones are counted
-pub record AreCacheSlots (live : LiveCounts) (first : ℕ) (slots : List SlotPair) : Type 0 where
+pub record AreCacheSlots (live : LiveCacheCounts) (first : ℕ) (slots : List SlotPair) : Type 0 where
   pub within : first ≤ length slots
   pub dead : All (λ slot. IsFalse (is_live slot)) (take first slots)
   pub counted : AreCacheLiveCounts live (cache_live_flags_of slots)

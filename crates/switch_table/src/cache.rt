@@ -7,8 +7,8 @@ ghost use Rattle.switch_table.specs.Keys.{kept_entry, cache_key_of, cache_learnt
 
 use crate::items::CacheItems;
 use crate::key::{CacheKey, LearntEntry};
-use crate::masks::Masks;
-use crate::slots::Slots;
+use crate::masks::CacheMasks;
+use crate::slots::CacheSlots;
 use crate::touched::Touched;
 use policy_rules::Action;
 use std::alloc::{AllocError, Global};
@@ -74,10 +74,10 @@ impl CacheEntry {
 // `newest`, so that a carry need not look at all of them to know that none is of its version.
 #[derive(Drop)]
 pub struct Cache {
-    slots: Slots,
+    slots: CacheSlots,
     shift: u64,
     newest: u32,
-    masks: Masks,
+    masks: CacheMasks,
     capacity: u32,
 }
 
@@ -102,10 +102,10 @@ impl Cache {
         ensures { result ≡ record { entries = []; capacity = capacity } }
     {
         Cache {
-            slots: Slots::new(alloc),
+            slots: CacheSlots::new(alloc),
             shift: MAX_SHIFT,
             newest: 0,
-            masks: Masks::new(alloc),
+            masks: CacheMasks::new(alloc),
             capacity,
         }
     }
@@ -223,7 +223,11 @@ impl Cache {
         ensures { self.new ≡ self.old }
     {
         if self.masks.are_due() {
-            self.masks = Masks::gather(self.slots.allocator(), self.entries(), self.slots.len())?;
+            self.masks = CacheMasks::gather(
+                self.slots.allocator(),
+                self.entries(),
+                self.slots.len(),
+            )?;
         }
         Ok(())
     }
@@ -263,12 +267,12 @@ impl Cache {
 
 /// No call leaves a cache with two entries of one version and word, or with more entries than its
 /// capacity: a law about the definitions only.
-pub fn cache_laws()
+pub fn learnt_cache_laws()
     ensures { CacheLaws }
 {}
 
 /// What is carried to a version: no rule of the version before is lost that the change doesn't
 /// touch; each carried rule was in the cache, untouched. A law about the definitions only.
-pub fn carry_laws()
+pub fn learnt_cache_carry_laws()
     ensures { CacheCarryLaws }
 {}

@@ -8,19 +8,20 @@ pub const BLOCK: usize = 64;
 
 /// How many places of a list are live: in all, and of each block.
 ///
-/// Contracts are about the flags of the places: `AreCacheLiveCounts` says that these are their counts.
+/// Contracts are about the flags of the places: `AreCacheLiveCounts` says that these are their
+/// counts.
 #[derive(Drop)]
-pub struct LiveCounts {
+pub struct LiveCacheCounts {
     all: usize,
     blocks: Vec<u32>,
 }
 
-impl LiveCounts {
+impl LiveCacheCounts {
     /// The counts of no places.
-    pub fn new(alloc: Global) -> LiveCounts
+    pub fn new(alloc: Global) -> LiveCacheCounts
         ensures { AreCacheLiveCounts result [] }
     {
-        LiveCounts {
+        LiveCacheCounts {
             all: 0,
             blocks: Vec::new(alloc),
         }
@@ -68,11 +69,11 @@ impl LiveCounts {
     }
 
     /// Sets the counts to those of this many places, all of them live.
-    pub fn fill(&mut self, places: usize)
+    pub fn fill_cache_blocks(&mut self, places: usize)
         requires { CountLiveCachePlaces self.old places }
         ensures { AreCacheLiveCounts self.new (replicate places true) }
     {
-        fill(&mut self.blocks, places);
+        fill_cache_blocks(&mut self.blocks, places);
         self.all = places;
     }
 
@@ -83,7 +84,7 @@ impl LiveCounts {
             (cache_live_count_set (take (64 * result.0) flags) + result.1 ≡ before)
             × (result.1 < cache_live_count_set (take 64 (drop (64 * result.0) flags))) }
     {
-        block_at(&self.blocks, before)
+        switch_cache_block_at(&self.blocks, before)
     }
 }
 
@@ -100,7 +101,7 @@ fn reach(counts: &mut Vec<u32>, len: usize) -> Result<(), AllocError>
 }
 
 // Sets the counts to those of this many live places.
-fn fill(counts: &mut [u32], places: usize)
+fn fill_cache_blocks(counts: &mut [u32], places: usize)
     requires { places ≤ 64 * length counts.old }
     ensures { AreCacheLiveBlocks counts.new (replicate places true) }
 {
@@ -113,7 +114,7 @@ fn fill(counts: &mut [u32], places: usize)
 }
 
 // The first place where the sum of the counts exceeds `before`, and how many are left there.
-fn block_at(counts: &[u32], before: usize) -> (usize, usize)
+fn switch_cache_block_at(counts: &[u32], before: usize) -> (usize, usize)
     ensures within { result.0 ≤ length counts.now }
     ensures before { sum (take result.0 counts.now) + result.1 ≡ before }
     ensures found { result.0 < length counts.now → result.1 < slice_index counts.now result.0 }

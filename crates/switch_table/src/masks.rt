@@ -19,13 +19,13 @@ const MAX_FEW: usize = 256;
 ///
 /// Contracts see the words, or `None` if the masks aren't known. A mask may outlast its entries.
 #[derive(Drop)]
-pub struct Masks {
+pub struct CacheMasks {
     words: Vec<Word>,
     are_known: bool,
     wait: usize,
 }
 
-impl Model for Masks {
+impl Model for CacheMasks {
     ghost use Rattle.std.specs.Prelude.{List, Option, Some, None, if◌then◌else◌};
     ghost use Rattle.ternary.specs.Word.{WordValue};
 
@@ -34,17 +34,17 @@ impl Model for Masks {
     ghost view = { λ m. if m.are_known then Some m.words.items else None };
 }
 
-impl Masks {
+impl CacheMasks {
     /// Unknown masks, to be collected after some new entries.
-    pub fn new(alloc: Global) -> Masks {
-        Masks::unknown(alloc, 0)
+    pub fn new(alloc: Global) -> CacheMasks {
+        CacheMasks::unknown(alloc, 0)
     }
 
     // Unknown masks, to be collected after this many new entries, at least 1,024.
-    fn unknown(alloc: Global, entries: usize) -> Masks
+    fn unknown(alloc: Global, entries: usize) -> CacheMasks
         ensures { (word : WordValue) → HasCacheMaskOf result word }
     {
-        Masks {
+        CacheMasks {
             words: Vec::new(alloc),
             are_known: false,
             wait: entries.max(LEAST_WAIT),
@@ -55,18 +55,22 @@ impl Masks {
     ///
     /// # Errors
     /// Only out of memory.
-    pub fn gather(alloc: Global, entries: CacheItems<'_>, count: usize) -> Result<Masks, AllocError>
+    pub fn gather(
+        alloc: Global,
+        entries: CacheItems<'_>,
+        count: usize,
+    ) -> Result<CacheMasks, AllocError>
         ensures { IfOk result
             (λ masks. All (λ entry. HasCacheMaskOf masks entry.word) entries.entry) }
     {
         let mut words = Vec::new(alloc);
         for entry in entries {
             note(&mut words, &entry.word)?;
-            if !are_few_masks(words.len(), count) {
-                return Ok(Masks::unknown(alloc, count));
+            if !are_learnt_masks_few(words.len(), count) {
+                return Ok(CacheMasks::unknown(alloc, count));
             }
         }
-        Ok(Masks {
+        Ok(CacheMasks {
             words,
             are_known: true,
             wait: 0,
@@ -98,7 +102,7 @@ impl Masks {
             return Ok(());
         }
         note(&mut self.words, word)?;
-        if !are_few_masks(self.words.len(), count) {
+        if !are_learnt_masks_few(self.words.len(), count) {
             self.are_known = false;
             self.wait = count.max(LEAST_WAIT);
         }
@@ -109,7 +113,7 @@ impl Masks {
     pub fn few(&self, count: usize) -> Option<&[Word]>
         ensures { IfSome result (λ words. self.now ≡ Some words.now) }
     {
-        if self.are_known && are_few_masks(self.words.len(), count) {
+        if self.are_known && are_learnt_masks_few(self.words.len(), count) {
             Some(&self.words)
         } else {
             None
@@ -118,7 +122,7 @@ impl Masks {
 }
 
 // Whether one lookup for each mask is less work than a test of each entry, if there are this many.
-fn are_few_masks(masks: usize, entries: usize) -> bool {
+fn are_learnt_masks_few(masks: usize, entries: usize) -> bool {
     masks <= MAX_FEW.min(entries / 64)
 }
 
@@ -128,13 +132,13 @@ fn note(words: &mut Vec<Word>, word: &Word) -> Result<(), AllocError>
     ensures added { OnOk result (HasMaskIn words.new.items word.now) }
 {
     let mask = word.mask();
-    if !has_mask(words, mask) {
+    if !has_switch_cache_mask(words, mask) {
         words.push(*word)?;
     }
     Ok(())
 }
 
-fn has_mask(words: &[Word], mask: u128) -> bool
+fn has_switch_cache_mask(words: &[Word], mask: u128) -> bool
     ensures { result ≡ list_any (λ word. word.mask == mask) words.now }
 {
     words.iter().any(|word| word.mask() == mask)

@@ -33,7 +33,7 @@ pub fn lookup(cache: &Cache, tables: &Tables, header: &Header) -> Found
     }
     match own_part(tables.auth.items(), number) {
         Some(part) => authority(part, header),
-        None => redirect(tables.parts.items(), header),
+        None => switch_table_redirect(tables.parts.items(), header),
     }
 }
 
@@ -57,19 +57,19 @@ fn authority(part: &Partition, header: &Header) -> Found
 }
 
 // Redirects to the targets of the row whose region holds the header.
-fn redirect(rows: &[PartRow], header: &Header) -> Found
+fn switch_table_redirect(rows: &[PartRow], header: &Header) -> Found
     requires one { count_by (table_part_row_has header.now) rows.now ≡ 1 }
     requires few { length rows.now < 2 ^ 32 }
     ensures { result ≡ table_redirect_of header.now rows.now }
 {
-    let place = part_row_place(rows, header.number()).unwrap();
+    let place = switch_part_row_place(rows, header.number()).unwrap();
     Found::Redirect {
         partition: place as u32,
         targets: rows[place].targets,
     }
 }
 
-fn part_row_place(rows: &[PartRow], number: u128) -> Option<usize>
+fn switch_part_row_place(rows: &[PartRow], number: u128) -> Option<usize>
     ensures { result ≡ position (λ row. holds row.region number) rows.now }
 {
     rows.iter().position(|row| row.region.holds(number))

@@ -1,14 +1,14 @@
 ghost use Rattle.std.specs.Prelude.{ℕ, ◌≡◌, ◌<◌, ◌≤◌, ◌^◌, ◌++◌, ◌∷◌, ◌&&◌, [], false, List, None, Some, OnOk, OnErr, IsFalse, drop, length, find, filter, map, option_map, set, remove, nat_le, slice_get};
 ghost use Rattle.indexmap.specs.IndexMap.{IsUnique, get};
 ghost use Rattle.std.specs.List.{position_or_len};
-ghost use Rattle.switch_table.specs.Keys.{HaveOwnKeys, equal_keys, cache_has_key, is_cache_hit, is_carried_cache_key, cache_key_under};
-ghost use Rattle.switch_table.specs.declared.live.LiveCounts.{LiveCounts};
+ghost use Rattle.switch_table.specs.Keys.{HaveOwnCacheKeys, equal_cache_keys, cache_has_key, is_cache_key_hit, is_carried_cache_key, cache_key_under};
+ghost use Rattle.switch_table.specs.declared.live.LiveCacheCounts.{LiveCacheCounts};
 ghost use Rattle.switch_table.specs.Live.{AreCacheLiveCounts, IsNthLiveCacheFlag, cache_live_count_set};
 ghost use Rattle.switch_table.specs.Slots.{AreCacheSlotsNamed, AreCacheSlots, SlotPair, cache_live_flags_of, is_live, killed_cache_slot, live_cache_pairs};
 
 use crate::items::SlotItems;
 use crate::key::{CacheKey, LearntEntry, Slot};
-use crate::live::{BLOCK, LiveCounts};
+use crate::live::{BLOCK, LiveCacheCounts};
 use crate::touched::Touched;
 use indexmap::IndexMap;
 use indexmap::map::Slice;
@@ -23,9 +23,9 @@ use ternary::Word;
 /// So each call takes constant amortized time, except those that go over all slots, and `remove`,
 /// which goes over the counts.
 #[derive(Drop)]
-pub struct Slots {
+pub struct CacheSlots {
     map: IndexMap<CacheKey, Slot>,
-    live: LiveCounts,
+    live: LiveCacheCounts,
     // All slots before this one are dead.
     first: usize,
 }
@@ -33,7 +33,7 @@ pub struct Slots {
 // There may be this many more dead than live slots.
 const MAX_DEAD: usize = 64;
 
-impl Model for Slots {
+impl Model for CacheSlots {
     ghost use Rattle.std.specs.Prelude.{List};
     ghost use Rattle.switch_table.specs.Keys.{Pair};
     ghost use Rattle.switch_table.specs.Slots.{AreCacheSlots, live_cache_pairs};
@@ -45,14 +45,14 @@ impl Model for Slots {
     ghost invariant = { λ s. AreCacheSlots s.live s.first s.map.entries };
 }
 
-impl Slots {
+impl CacheSlots {
     #[tactic(auto, unfolding(crate::specs::Slots::AreCacheSlotsNamed))]
-    pub fn new(alloc: Global) -> Slots
+    pub fn new(alloc: Global) -> CacheSlots
         ensures { result ≡ [] }
     {
-        Slots {
+        CacheSlots {
             map: IndexMap::new(alloc),
-            live: LiveCounts::new(alloc),
+            live: LiveCacheCounts::new(alloc),
             first: 0,
         }
     }
@@ -63,7 +63,7 @@ impl Slots {
 
     pub fn len(&self) -> usize
         ensures len { result ≡ length self.now }
-        ensures distinct { HaveOwnKeys self.now }
+        ensures distinct { HaveOwnCacheKeys self.now }
     {
         // For the proof: the contract of the map's `len` says that its keys are distinct.
         let slots = self.map.len();
@@ -91,7 +91,7 @@ impl Slots {
         ensures err { OnErr result (self.new ≡ self.old) }
     {
         let place = self.map.len();
-        release_slot_key(&mut self.map, &key)?;
+        release_switch_cache_key(&mut self.map, &key)?;
         self.live.make_room(place + 1)?;
         let slot = Slot {
             learnt,
@@ -110,16 +110,16 @@ impl Slots {
         if place >= self.len() {
             return None;
         }
-        let at = place_of_live_slot(&self.map, &self.live, self.first, place);
-        let pair = pair_at(&self.map, at);
-        kill(&mut self.map, at);
+        let at = live_cache_slot_place(&self.map, &self.live, self.first, place);
+        let pair = switch_cache_pair_at(&self.map, at);
+        kill_switch_cache_slot(&mut self.map, at);
         self.live.take(at);
         if place == 0 {
             self.first = at;
         }
         if self.map.len() - self.live.all() > self.live.all() + MAX_DEAD {
             self.first = 0;
-            sweep_dead_slots(&mut self.map, &mut self.live);
+            sweep_dead_cache_slots(&mut self.map, &mut self.live);
         }
         pair
     }
@@ -130,7 +130,7 @@ impl Slots {
     {
         self.map
             .retain(|key, slot| slot.is_live && number <= key.number);
-        self.live.fill(self.map.len());
+        self.live.fill_cache_blocks(self.map.len());
         self.first = 0;
     }
 
@@ -141,16 +141,16 @@ impl Slots {
         self.map.retain(|key, slot| {
             slot.is_live && key.number == number && !touched.meets(&key.word)
         });
-        self.live.fill(self.map.len());
+        self.live.fill_cache_blocks(self.map.len());
         self.first = 0;
     }
 
     /// An iterator over copies of the pairs, in order.
     pub fn iter(&self) -> SlotItems<'_>
         ensures pairs { result ≡ self.now }
-        ensures distinct { HaveOwnKeys self.now }
+        ensures distinct { HaveOwnCacheKeys self.now }
     {
-        SlotItems::new(from_first(&self.map, self.first).iter())
+        SlotItems::new(switch_cache_slots_from(&self.map, self.first).iter())
     }
 
     /// The first pair whose key has this number and, under one of the masks, the header's bits.
@@ -160,28 +160,34 @@ impl Slots {
         header: u128,
         masks: &[Word],
     ) -> Option<(CacheKey, LearntEntry)>
-        ensures { result ≡ find (λ pair. is_cache_hit number header masks.now pair.0) self.now }
+        ensures { result ≡ find (λ pair. is_cache_key_hit number header masks.now pair.0) self.now }
     {
         let mut least = self.map.len();
         for mask in masks {
-            least = least.min(slot_place_under(&self.map, number, header, mask));
+            least = least.min(cache_slot_place_under(&self.map, number, header, mask));
         }
-        pair_at(&self.map, least)
+        switch_cache_pair_at(&self.map, least)
     }
 }
 
 // The slots from this place on. For the proof: the contract of `len` is about the keys.
-fn from_first(map: &IndexMap<CacheKey, Slot>, first: usize) -> Slice<'_, CacheKey, Slot>
+fn switch_cache_slots_from(
+    map: &IndexMap<CacheKey, Slot>,
+    first: usize,
+) -> Slice<'_, CacheKey, Slot>
     requires { first ≤ length map.now.entries }
     ensures slots { result ≡ drop first map.now.entries }
-    ensures unique { IsUnique equal_keys map.now }
+    ensures unique { IsUnique equal_cache_keys map.now }
 {
     let (_, rest) = map.as_slice().split_at(first.min(map.len()));
     rest
 }
 
 // The key of the slot at this place, and what is in it.
-fn pair_at(map: &IndexMap<CacheKey, Slot>, place: usize) -> Option<(CacheKey, LearntEntry)>
+fn switch_cache_pair_at(
+    map: &IndexMap<CacheKey, Slot>,
+    place: usize,
+) -> Option<(CacheKey, LearntEntry)>
     ensures { result ≡ option_map (λ slot. (slot.0, slot.1.learnt))
         (slice_get map.now.entries place) }
 {
@@ -191,8 +197,13 @@ fn pair_at(map: &IndexMap<CacheKey, Slot>, place: usize) -> Option<(CacheKey, Le
 
 // The place of the live slot whose key has this number and the bits of the header under this mask,
 // or the number of slots.
-fn slot_place_under(map: &IndexMap<CacheKey, Slot>, number: u64, header: u128, mask: &Word) -> usize
-    ensures { result ≡ position_or_len (λ slot. equal_keys (cache_key_under number header mask.now) slot.0
+fn cache_slot_place_under(
+    map: &IndexMap<CacheKey, Slot>,
+    number: u64,
+    header: u128,
+    mask: &Word,
+) -> usize
+    ensures { result ≡ position_or_len (λ slot. equal_cache_keys (cache_key_under number header mask.now) slot.0
         && is_live slot) map.now.entries }
 {
     let bits = mask.mask();
@@ -205,9 +216,9 @@ fn slot_place_under(map: &IndexMap<CacheKey, Slot>, number: u64, header: u128, m
 }
 
 // The place of the live slot with this many live ones before it. All slots before `first` are dead.
-fn place_of_live_slot(
+fn live_cache_slot_place(
     map: &IndexMap<CacheKey, Slot>,
-    live: &LiveCounts,
+    live: &LiveCacheCounts,
     first: usize,
     before: usize,
 ) -> usize
@@ -223,11 +234,11 @@ fn place_of_live_slot(
         (block * BLOCK, left)
     };
     let (_, rest) = slots.split_at(start);
-    start + nth_live_slot(rest.values().as_slice(), left)
+    start + nth_live_cache_slot(rest.values().as_slice(), left)
 }
 
 // The same in a list of slots; the length of the list if there is none.
-fn nth_live_slot(slots: &[Slot], before: usize) -> usize
+fn nth_live_cache_slot(slots: &[Slot], before: usize) -> usize
     ensures within { result ≤ length slots.now }
     ensures found { let flags = map (λ slot. slot.is_live) slots.now in
         before < cache_live_count_set flags → IsNthLiveCacheFlag before result flags }
@@ -245,7 +256,7 @@ fn nth_live_slot(slots: &[Slot], before: usize) -> usize
 }
 
 // Makes the slot at this place dead.
-fn kill(map: &mut IndexMap<CacheKey, Slot>, place: usize)
+fn kill_switch_cache_slot(map: &mut IndexMap<CacheKey, Slot>, place: usize)
     ensures { (slot : SlotPair) → slice_get map.old.entries place ≡ Some slot →
         map.new.entries ≡ set map.old.entries place (killed_cache_slot slot) }
 {
@@ -255,25 +266,28 @@ fn kill(map: &mut IndexMap<CacheKey, Slot>, place: usize)
 }
 
 // Makes sure that no slot has this key, which no live one has.
-fn release_slot_key(map: &mut IndexMap<CacheKey, Slot>, key: &CacheKey) -> Result<(), AllocError>
+fn release_switch_cache_key(
+    map: &mut IndexMap<CacheKey, Slot>,
+    key: &CacheKey,
+) -> Result<(), AllocError>
     requires named { AreCacheSlotsNamed 0 map.old.entries }
     requires few { length map.old.entries < 2 ^ 63 }
     requires fits { key.now.number < 2 ^ 33 }
     requires absent { IsFalse (cache_has_key key.now (live_cache_pairs map.old.entries)) }
-    ensures slots { (live : LiveCounts) (first : ℕ) → AreCacheSlots live first map.old.entries →
+    ensures slots { (live : LiveCacheCounts) (first : ℕ) → AreCacheSlots live first map.old.entries →
         AreCacheSlots live first map.new.entries }
     ensures pairs { live_cache_pairs map.new.entries ≡ live_cache_pairs map.old.entries }
     ensures flags { cache_live_flags_of map.new.entries ≡ cache_live_flags_of map.old.entries }
-    ensures gone { OnOk result (get equal_keys map.new key.now ≡ None) }
+    ensures gone { OnOk result (get equal_cache_keys map.new key.now ≡ None) }
 {
     let Some(dead) = map.get_index_of(key) else {
         return Ok(());
     };
-    vacate_slot(map, dead)
+    vacate_cache_slot(map, dead)
 }
 
 // Gives the dead slot at this place a key made of the place, which no version and shift make.
-fn vacate_slot(map: &mut IndexMap<CacheKey, Slot>, place: usize) -> Result<(), AllocError>
+fn vacate_cache_slot(map: &mut IndexMap<CacheKey, Slot>, place: usize) -> Result<(), AllocError>
     requires dead { slice_get (cache_live_flags_of map.old.entries) place ≡ Some false }
     requires named { AreCacheSlotsNamed 0 map.old.entries }
     requires few { length map.old.entries < 2 ^ 63 }
@@ -283,7 +297,7 @@ fn vacate_slot(map: &mut IndexMap<CacheKey, Slot>, place: usize) -> Result<(), A
     ensures flags { cache_live_flags_of map.new.entries ≡ cache_live_flags_of map.old.entries }
     ensures named { AreCacheSlotsNamed 0 map.new.entries }
     ensures gone { OnOk result ((pair : SlotPair) →
-        slice_get map.old.entries place ≡ Some pair → get equal_keys map.new pair.0 ≡ None) }
+        slice_get map.old.entries place ≡ Some pair → get equal_cache_keys map.new pair.0 ≡ None) }
 {
     let key = CacheKey {
         number: u64::MAX - place as u64,
@@ -296,11 +310,11 @@ fn vacate_slot(map: &mut IndexMap<CacheKey, Slot>, place: usize) -> Result<(), A
 }
 
 // Removes the dead slots.
-fn sweep_dead_slots(map: &mut IndexMap<CacheKey, Slot>, live: &mut LiveCounts)
+fn sweep_dead_cache_slots(map: &mut IndexMap<CacheKey, Slot>, live: &mut LiveCacheCounts)
     requires { AreCacheLiveCounts live.old (cache_live_flags_of map.old.entries) }
     ensures slots { map.new.entries ≡ filter is_live map.old.entries }
     ensures counts { AreCacheLiveCounts live.new (cache_live_flags_of map.new.entries) }
 {
     map.retain(|_, slot| slot.is_live);
-    live.fill(map.len());
+    live.fill_cache_blocks(map.len());
 }

@@ -22,12 +22,12 @@ use Rattle.switch_table.specs.declared.tables.PartRow.{PartRow}
 use Rattle.switch_table.specs.declared.tables.Tables.{Tables}
 use Rattle.switch_table.proofs.SwitchTableLemmas.{row_at}
 use Rattle.table_tree.specs.Regions.{AreTableTreeCandidates, table_tree_candidate_holds, table_tree_side_candidates, lookup_candidates_from, lookup_candidates_of}
-use Rattle.table_tree.specs.Ruling.{RegionTree, part_lookup_tree, rule_shape, rule_tree, seen_tree}
+use Rattle.table_tree.specs.Ruling.{RegionTree, part_lookup_tree, table_tree_rule_shape, rule_tree, seen_tree}
 use Rattle.table_tree.specs.declared.rule_tree.RuleTree.{RuleTree}
-use Rattle.table_tree.specs.Finding.{AreTreesOf, IsTreeEnd, IsFinderTree, IsGrownShape, IsLookupTreeOfCandidates, table_tree_candidate_shape}
-use Rattle.table_tree.specs.LookupTrees.{LookupTree, Leaf, Sides, tree_leaf_at}
+use Rattle.table_tree.specs.Finding.{AreTableTreesOf, IsTreeEnd, IsFinderTree, IsGrownTableTree, IsLookupTreeOfCandidates, table_tree_candidate_shape}
+use Rattle.table_tree.specs.LookupTrees.{LookupTree, Leaf, Sides, table_tree_leaf_at}
 use Rattle.table_tree.specs.declared.node.Candidate.{Candidate}
-use Rattle.table_tree.specs.declared.trees.Trees.{Trees}
+use Rattle.table_tree.specs.declared.trees.TableTrees.{TableTrees}
 use Rattle.table_tree.proofs.TableTreeLookup.{down}
 use Rattle.table_tree.proofs.TableTreeNodes.{cut_is_free, half_node, never_stuck, root_node, several_candidates, side_finds, candidates_count}
 
@@ -42,7 +42,7 @@ end_is (first ∷ second ∷ rest) candidate place one is same = absurd (omega (
 
 -- a tree that is grown of regions that meet a region of the header space is theirs
 pub grown_tree : WordHoldsLaws → MeetLaws → (tree : LookupTree ℕ) (candidates : List Candidate)
-    (region : WordValue) → AreTableTreeCandidates candidates region → IsGrownShape candidates region tree
+    (region : WordValue) → AreTableTreeCandidates candidates region → IsGrownTableTree candidates region tree
     → IsLookupTreeOfCandidates candidates region tree
 grown_tree holds_laws meet_laws (Leaf place) candidates region node (inl end) = end
 grown_tree holds_laws meet_laws (Leaf place) candidates region node (inr stuck) =
@@ -58,8 +58,8 @@ grown_tree holds_laws meet_laws (Sides bit low high) candidates region node is =
     )
 
 -- that of the rows of sound tables is a finder's
-pub finder_tree : HeaderLaws → WordHoldsLaws → MeetLaws → (tables : Tables) (trees : Trees)
-    → AreSoundSwitchTables tables → AreTreesOf tables.parts tables.auth trees
+pub finder_tree : HeaderLaws → WordHoldsLaws → MeetLaws → (tables : Tables) (trees : TableTrees)
+    → AreSoundSwitchTables tables → AreTableTreesOf tables.parts tables.auth trees
     → IsFinderTree tables.parts (table_tree_candidate_shape trees.tree)
 finder_tree header_laws holds_laws meet_laws tables trees sound are =
     search (rules, grown_tree, root_node)
@@ -70,7 +70,7 @@ finder_tree header_laws holds_laws meet_laws tables trees sound are =
 pub leads : (tree : LookupTree ℕ) (candidates : List Candidate) (region : WordValue) (number : ℕ)
     (candidate : Candidate)
     → IsLookupTreeOfCandidates candidates region tree → IsTrue (holds region number)
-    → find (table_tree_candidate_holds number) candidates ≡ Some candidate → tree_leaf_at number tree ≡ candidate.place
+    → find (table_tree_candidate_holds number) candidates ≡ Some candidate → table_tree_leaf_at number tree ≡ candidate.place
 leads (Leaf place) candidates region number candidate is held found = search (rules, find-there)
 leads (Sides bit low high) candidates region number candidate is held found =
     down (λ place. place ≡ candidate.place) region bit number low high
@@ -93,7 +93,7 @@ found_place number place (row ∷ rows) =
 -- the tree of the rows leads each header to the first row that holds it
 pub leads_to_row : (rows : List PartRow) (tree : LookupTree ℕ) (header : Header)
     → IsLookupTreeOfCandidates (lookup_candidates_of rows) any_word tree → count_by (table_part_row_has header) rows ≡ 1
-    → position (table_part_row_has header) rows ≡ Some (tree_leaf_at (number_of header) tree)
+    → position (table_part_row_has header) rows ≡ Some (table_tree_leaf_at (number_of header) tree)
 leads_to_row rows tree header is one =
     by_case (find (table_tree_candidate_holds (number_of header)) (lookup_candidates_of rows)) refl
     (found_from_count (table_tree_candidate_holds (number_of header)) (lookup_candidates_of rows)
@@ -101,7 +101,7 @@ leads_to_row rows tree header is one =
   where
     by_case : (found : Option Candidate)
         → find (table_tree_candidate_holds (number_of header)) (lookup_candidates_of rows) ≡ found → IsSome found
-        → position (table_part_row_has header) rows ≡ Some (tree_leaf_at (number_of header) tree)
+        → position (table_part_row_has header) rows ≡ Some (table_tree_leaf_at (number_of header) tree)
     by_case None none some = absurd (both_ways false refl some)
     by_case (Some candidate) found some = position_from-zero (table_part_row_has header) rows
         ∙ sym (found_place (number_of header) 0 rows)
@@ -187,7 +187,7 @@ trees_reach auth trees own all within =
 pub record IsThere (tables : Tables) (header : Header) (own : ℕ) (part : Partition)
     (tree : RuleTree) : Type 0 where
   pub at : slice_get tables.auth own ≡ Some part
-  pub shape : rule_shape tree.root ≡ rule_tree part.rules tree.region
+  pub shape : table_tree_rule_shape tree.root ≡ rule_tree part.rules tree.region
   pub region : IsTrue (holds tree.region (number_of header))
 
 pub is_there : (tables : Tables) (value : Tables) (header : Header) (own : ℕ) (part : Partition)
@@ -273,10 +273,10 @@ row_decides tables header place d sound is at none = let rows = tables.parts in
 
 -- ---- as the lookup reads them
 
-pub place_is : (tables : Tables) (trees read : Trees) (header : Header) (number place : ℕ)
+pub place_is : (tables : Tables) (trees read : TableTrees) (header : Header) (number place : ℕ)
     → AreSoundSwitchTables tables → IsFinderTree tables.parts (table_tree_candidate_shape trees.tree)
     → read ≡ trees → IsHeader header → number ≡ number_of header
-    → place ≡ tree_leaf_at number (table_tree_candidate_shape read.tree)
+    → place ≡ table_tree_leaf_at number (table_tree_candidate_shape read.tree)
     → position (table_part_row_has header) tables.parts ≡ Some place
 place_is tables trees read header number place sound is there header_is same at =
     search (rules, leads_to_row)

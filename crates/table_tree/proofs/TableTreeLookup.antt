@@ -6,7 +6,7 @@ use Rattle.std.proofs.lemmas.Bool.Decides.{nat_tests}
 use Rattle.std.proofs.lemmas.Nat.Bits.{bit_at-lt}
 use Rattle.ternary.specs.Exports.{WordValue, word_fix_of, holds, is_fixed_of}
 use Rattle.ternary.proofs.TernaryCallerLemmas.{fix_holds}
-use Rattle.table_tree.specs.LookupTrees.{LookupTree, Sides, tree_leaf_at, lookup_tree_of}
+use Rattle.table_tree.specs.LookupTrees.{LookupTree, Sides, table_tree_leaf_at, lookup_tree_of}
 use Rattle.table_tree.specs.declared.bit_tree.BitTree.{BitTree, End, Cut'}
 
 -- a header with this bit is in the half that has it
@@ -19,9 +19,9 @@ in_half region bit number one free held is = search (rules, fix_holds, eq-eqb)
 pub down : {A : Type 0} (P : A → Type 0) (region : WordValue) (bit number : ℕ)
     (low high : LookupTree A)
     → IsFalse (is_fixed_of region bit) → IsTrue (holds region number)
-    → (IsTrue (holds (word_fix_of region bit false) number) → P (tree_leaf_at number low))
-    → (IsTrue (holds (word_fix_of region bit true) number) → P (tree_leaf_at number high))
-    → P (tree_leaf_at number (Sides bit low high))
+    → (IsTrue (holds (word_fix_of region bit false) number) → P (table_tree_leaf_at number low))
+    → (IsTrue (holds (word_fix_of region bit true) number) → P (table_tree_leaf_at number high))
+    → P (table_tree_leaf_at number (Sides bit low high))
 down P region bit number low high free held lower upper =
     elim (cases_Bool (bit_at number bit == 1)) [
       | inl set ↦ rw set (upper (in_half region bit number true free held (eqb-true _ _ set)))
@@ -32,7 +32,7 @@ down P region bit number low high free held lower upper =
 
 -- the end to which the bits lead is where they lead in what is seen
 pub seen_at : {L A : Type 0} (seen : L → A) (number : ℕ) (tree : BitTree L)
-    → seen (tree_leaf_at number (lookup_tree_of (λ x. x) tree)) ≡ tree_leaf_at number (lookup_tree_of seen tree)
+    → seen (table_tree_leaf_at number (lookup_tree_of (λ x. x) tree)) ≡ table_tree_leaf_at number (lookup_tree_of seen tree)
 seen_at seen number (End end) = refl
 seen_at seen number (Cut' bit p low q high) =
     search (rules, cases_Bool, seen_at seen number high, seen_at seen number low)

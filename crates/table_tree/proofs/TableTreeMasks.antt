@@ -8,7 +8,7 @@ use Rattle.std.proofs.lemmas.Nat.Bits.{bit_at-lt, bit_at-zero, bit_at_and, bit_a
 use Rattle.ternary.specs.Exports.{WordValue, is_fixed_of}
 use Rattle.ternary.proofs.TernaryCallerLemmas.{both_set}
 use Rattle.cut_tree.specs.Exports.{IsCuttableBit}
-use Rattle.table_tree.specs.Cutting.{IsLowestBit, IsLeastFreeLookupBit, LookupPassesNoFreeBit}
+use Rattle.table_tree.specs.Cutting.{IsLowestLookupBit, IsLeastFreeLookupBit, LookupPassesNoFreeBit}
 use Rattle.table_tree.specs.Regions.{table_tree_all_fix, table_tree_some_fixes}
 use Rattle.table_tree.specs.declared.node.Candidate.{Candidate}
 
@@ -61,14 +61,14 @@ some_none bit = ap (λ n. n == 1) (bit_at-zero bit)
 
 -- ---- the least bit
 
-pub lowest_of : (n : ℕ) → 0 < n → n < 2 ^ 128 → IsLowestBit n (trailing_zeros w128 n)
+pub lowest_of : (n : ℕ) → 0 < n → n < 2 ^ 128 → IsLowestLookupBit n (trailing_zeros w128 n)
 lowest_of n some small = let lowest = bit_at-trailing_zeros w128 n some small in
     record { set = lowest.1; below = lowest.2 }
 
 -- a mask of the bits that pass, and one of the bits that are free
 pub least_free : (region : WordValue) (passes : ℕ → Bool) (bits free bit : ℕ)
     → ((k : ℕ) → k < 104 → (bit_at bits k == 1) ≡ passes k)
-    → ((k : ℕ) → (bit_at free k ≡ 1) ↔ IsCuttableBit region k) → IsLowestBit (bit_and bits free) bit
+    → ((k : ℕ) → (bit_at free k ≡ 1) ↔ IsCuttableBit region k) → IsLowestLookupBit (bit_and bits free) bit
     → IsLeastFreeLookupBit region passes bit
 least_free region passes bits free bit tests frees low =
     let left : bit_at bits bit ≡ 1 = omega

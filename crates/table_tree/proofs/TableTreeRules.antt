@@ -17,8 +17,8 @@ use Rattle.cut_tree.specs.declared.choice.Cost.{Cost}
 use Rattle.cut_tree.proofs.CutTreeCallerLemmas.{narrow_first}
 use Rattle.cut_tree.proofs.CutLemmas.{least_cuts}
 use Rattle.cut_tree.proofs.CutNarrowing.{narrow_apart, narrow_covered, narrow_more, narrow_none}
-use Rattle.table_tree.specs.Ruling.{is_held_by_lookup_rule, table_tree_if_pays, tree_by_cut, table_tree_paying_cut, table_tree_worth_cutting, table_tree_ranked_rules, rule_shape, rule_tree, rule_tree_within}
-use Rattle.table_tree.specs.LookupTrees.{LookupTree, Leaf, Sides, tree_leaf_at, lookup_tree_of}
+use Rattle.table_tree.specs.Ruling.{is_held_by_lookup_rule, table_tree_if_pays, table_tree_by_cut, table_tree_paying_cut, table_tree_worth_cutting, table_tree_ranked_rules, table_tree_rule_shape, rule_tree, table_rule_tree_within}
+use Rattle.table_tree.specs.LookupTrees.{LookupTree, Leaf, Sides, table_tree_leaf_at, lookup_tree_of}
 use Rattle.table_tree.specs.declared.bit_tree.BitTree.{BitTree}
 use Rattle.table_tree.proofs.TableTreeLookup.{down, seen_at}
 
@@ -29,23 +29,23 @@ rank_of rule = rule.rank
 
 pub within_end : (cuts : ℕ) (rules : List Rule) (region : WordValue)
     → None ≡ table_tree_paying_cut cuts rules region
-    → Leaf (map rank_of rules) ≡ rule_tree_within cuts rules region
-unfolding rule_tree_within
+    → Leaf (map rank_of rules) ≡ table_rule_tree_within cuts rules region
+unfolding table_rule_tree_within
 within_end zero rules region none = refl
-within_end (suc cuts) rules region none = ap (tree_by_cut (rule_tree_within cuts) rules region) none
+within_end (suc cuts) rules region none = ap (table_tree_by_cut (table_rule_tree_within cuts) rules region) none
 
 pub within_cut : (cuts : ℕ) (rules : List Rule) (region : WordValue) (cost : Cost)
     (low high : List Rule) (lower higher : WordValue) (a b : LookupTree (List ℕ)) → 0 < cuts
     → Some cost ≡ table_tree_paying_cut cuts rules region → low ≡ side_of_cut rules region cost.bit false
     → lower ≡ word_fix_of region cost.bit false → high ≡ side_of_cut rules region cost.bit true
-    → higher ≡ word_fix_of region cost.bit true → a ≡ rule_tree_within (cuts - 1) low lower
-    → b ≡ rule_tree_within (cuts - 1) high higher
-    → Sides cost.bit a b ≡ rule_tree_within cuts rules region
-unfolding rule_tree_within
+    → higher ≡ word_fix_of region cost.bit true → a ≡ table_rule_tree_within (cuts - 1) low lower
+    → b ≡ table_rule_tree_within (cuts - 1) high higher
+    → Sides cost.bit a b ≡ table_rule_tree_within cuts rules region
+unfolding table_rule_tree_within
 within_cut zero rules region cost low high lower higher a b some is l lr h hr p q = search rules
 within_cut (suc cuts) rules region cost low high lower higher a b some is l lr h hr p q =
     let less : suc cuts - 1 ≡ cuts = omega arith in
-    rw (p, q, less, l, lr, h, hr) (ap (tree_by_cut (rule_tree_within cuts) rules region) is)
+    rw (p, q, less, l, lr, h, hr) (ap (table_tree_by_cut (table_rule_tree_within cuts) rules region) is)
 
 -- ---- the cut of a node
 
@@ -162,8 +162,8 @@ end_finds list rules number all = find-map (is_held_by_lookup_rule list number) 
 -- the bits of a header lead to the place of the first rule that holds it
 leads : (cuts : ℕ) (list rules : List Rule) (region : WordValue) (number : ℕ)
     → IsTrue (holds region number) → All (Agrees list number) rules
-    → Finds list rules number (tree_leaf_at number (rule_tree_within cuts rules region))
-unfolding rule_tree_within
+    → Finds list rules number (table_tree_leaf_at number (table_rule_tree_within cuts rules region))
+unfolding table_rule_tree_within
 leads zero list rules region number inside all = end_finds list rules number all
 leads (suc cuts) list rules region number inside all = by_cut (table_tree_paying_cut (suc cuts) rules region)
     refl (λ bit one within. leads cuts list (side_of_cut rules region bit one) (word_fix_of region bit one)
@@ -172,14 +172,14 @@ leads (suc cuts) list rules region number inside all = by_cut (table_tree_paying
   where
     by_cut : (cut : Option Cost) → table_tree_paying_cut (suc cuts) rules region ≡ cut
         → ((bit : ℕ) (one : Bool) → IsTrue (holds (word_fix_of region bit one) number)
-        → Finds list rules number (tree_leaf_at number
-        (rule_tree_within cuts (side_of_cut rules region bit one) (word_fix_of region bit one))))
-        → Finds list rules number (tree_leaf_at number
-        (tree_by_cut (rule_tree_within cuts) rules region cut))
+        → Finds list rules number (table_tree_leaf_at number
+        (table_rule_tree_within cuts (side_of_cut rules region bit one) (word_fix_of region bit one))))
+        → Finds list rules number (table_tree_leaf_at number
+        (table_tree_by_cut (table_rule_tree_within cuts) rules region cut))
     by_cut None none sides = end_finds list rules number all
     by_cut (Some cost) is sides = down (Finds list rules number) region cost.bit number
-        (rule_tree_within cuts (side_of_cut rules region cost.bit false) (word_fix_of region cost.bit false))
-        (rule_tree_within cuts (side_of_cut rules region cost.bit true) (word_fix_of region cost.bit true))
+        (table_rule_tree_within cuts (side_of_cut rules region cost.bit false) (word_fix_of region cost.bit false))
+        (table_rule_tree_within cuts (side_of_cut rules region cost.bit true) (word_fix_of region cost.bit true))
         (paying_free rules region (length rules) cost is).free inside (sides cost.bit false)
         (sides cost.bit true)
 
@@ -213,7 +213,7 @@ ranked_position number place (rule ∷ rules) = elim (cases_Bool (holds rule.wor
 
 -- the tree of a list leads each header of the region to the first of its rules that holds it
 pub tree_first : (list : List Rule) (region : WordValue) (number : ℕ) → IsTrue (holds region number)
-    → find (is_held_by_lookup_rule list number) (tree_leaf_at number (rule_tree list region))
+    → find (is_held_by_lookup_rule list number) (table_tree_leaf_at number (rule_tree list region))
     ≡ position (is_held number) list
 unfolding rule_tree
 tree_first list region number inside =
@@ -230,11 +230,11 @@ tree_first list region number inside =
 
 -- as `first` reads it
 pub first_is : (list : List Rule) (region : WordValue) (tree : BitTree (Vec ℕ Global)) (number h : ℕ)
-    (end : Vec ℕ Global) (places : List ℕ) (found : Option ℕ) → rule_shape tree ≡ rule_tree list region
-    → IsTrue (holds region h) → number ≡ h → end ≡ tree_leaf_at number (lookup_tree_of (λ x. x) tree)
+    (end : Vec ℕ Global) (places : List ℕ) (found : Option ℕ) → table_tree_rule_shape tree ≡ rule_tree list region
+    → IsTrue (holds region h) → number ≡ h → end ≡ table_tree_leaf_at number (lookup_tree_of (λ x. x) tree)
     → places ≡ end.items
     → found ≡ find (is_held_by_lookup_rule list number) places → found ≡ position (is_held h) list
 first_is list region tree number h end places found built inside same at read is =
     is ∙ ap (find (is_held_by_lookup_rule list number)) (read ∙ ap (λ (v : Vec ℕ Global). v.items) at
-    ∙ seen_at (λ (v : Vec ℕ Global). v.items) number tree ∙ ap (tree_leaf_at number) built)
+    ∙ seen_at (λ (v : Vec ℕ Global). v.items) number tree ∙ ap (table_tree_leaf_at number) built)
     ∙ tree_first list region number (rw same inside) ∙ ap (λ n. position (is_held n) list) same

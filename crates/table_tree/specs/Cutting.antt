@@ -5,7 +5,7 @@ use Rattle.ternary.specs.Exports.{WordValue}
 use Rattle.cut_tree.specs.Exports.{IsCuttableBit}
 
 -- of the bits of n, k is the lowest
-pub record IsLowestBit (n k : ℕ) : Type 0 where
+pub record IsLowestLookupBit (n k : ℕ) : Type 0 where
   pub set : bit_at n k ≡ 1
   pub below : (j : ℕ) → j < k → bit_at n j ≡ 0
 

@@ -14,7 +14,7 @@ use Rattle.table_tree.specs.LookupTrees.{LookupTree, Leaf, Sides, lookup_tree_of
 use Rattle.table_tree.specs.declared.rule_tree.RuleTree.{RuleTree}
 use Rattle.table_tree.specs.declared.node.Candidate.{Candidate}
 use Rattle.table_tree.specs.declared.bit_tree.BitTree.{BitTree}
-use Rattle.table_tree.specs.declared.trees.Trees.{Trees}
+use Rattle.table_tree.specs.declared.trees.TableTrees.{TableTrees}
 
 -- the shape of a tree, which leads to places of the partition rules
 abbrev pub table_tree_candidate_shape : BitTree ℕ → LookupTree ℕ
@@ -36,26 +36,26 @@ IsLookupTreeOfCandidates candidates region (Sides bit low high) =
     high
 
 -- none or several regions are left, and none of them fixes a free bit
-pub record IsTreeStuck (candidates : List Candidate) (region : WordValue) : Type 0 where
+pub record IsTableTreeStuck (candidates : List Candidate) (region : WordValue) : Type 0 where
   pub not_one : length candidates ≢ 1
   pub none : LookupPassesNoFreeBit region (table_tree_some_fixes candidates)
 
 -- a tree that is built in the same way from regions of any kind, some of which can't be separated
-abbrev pub IsGrownShape : List Candidate → WordValue → LookupTree ℕ → Type 0
-IsGrownShape candidates region (Leaf place) = IsTreeEnd candidates place ⊎ IsTreeStuck candidates region
-IsGrownShape candidates region (Sides bit low high) =
+abbrev pub IsGrownTableTree : List Candidate → WordValue → LookupTree ℕ → Type 0
+IsGrownTableTree candidates region (Leaf place) = IsTreeEnd candidates place ⊎ IsTableTreeStuck candidates region
+IsGrownTableTree candidates region (Sides bit low high) =
     (length candidates ≢ 1) × IsTableTreeCutBit candidates region bit
-    × IsGrownShape (table_tree_side_candidates candidates region bit false) (word_fix_of region bit false) low
-    × IsGrownShape (table_tree_side_candidates candidates region bit true) (word_fix_of region bit true) high
+    × IsGrownTableTree (table_tree_side_candidates candidates region bit false) (word_fix_of region bit false) low
+    × IsGrownTableTree (table_tree_side_candidates candidates region bit true) (word_fix_of region bit true) high
 
 -- the tree of the partition rules
 abbrev pub IsFinderTree : List PartRow → LookupTree ℕ → Type 0
 IsFinderTree rows tree = IsLookupTreeOfCandidates (lookup_candidates_of rows) any_word tree
 
 -- the trees that are built from these partition rules and authority partitions
-pub record AreTreesOf (rows : List PartRow) (parts : List Partition) (trees : Trees) : Type 0 where
+pub record AreTableTreesOf (rows : List PartRow) (parts : List Partition) (trees : TableTrees) : Type 0 where
   pub words : AreTableTreeRegions (lookup_candidates_of rows)
-  pub tree : IsGrownShape (lookup_candidates_of rows) any_word (table_tree_candidate_shape trees.tree)
+  pub tree : IsGrownTableTree (lookup_candidates_of rows) any_word (table_tree_candidate_shape trees.tree)
   pub rules : map seen_tree trees.rule_trees.items ≡ map part_lookup_tree parts
 
 -- the tables of a finder, and its tree

@@ -15,7 +15,7 @@ lookup_tree_of seen (Cut' bit p low q high) =
     Sides bit (lookup_tree_of seen low) (lookup_tree_of seen high)
 
 -- where the bits of a header number lead
-abbrev pub tree_leaf_at : {A : Type 0} → ℕ → LookupTree A → A
-tree_leaf_at number (Leaf x) = x
-tree_leaf_at number (Sides bit low high) =
-    if bit_at number bit == 1 then tree_leaf_at number high else tree_leaf_at number low
+abbrev pub table_tree_leaf_at : {A : Type 0} → ℕ → LookupTree A → A
+table_tree_leaf_at number (Leaf x) = x
+table_tree_leaf_at number (Sides bit low high) =
+    if bit_at number bit == 1 then table_tree_leaf_at number high else table_tree_leaf_at number low

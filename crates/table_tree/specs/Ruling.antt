@@ -14,8 +14,8 @@ use Rattle.table_tree.specs.declared.bit_tree.BitTree.{BitTree}
 use Rattle.table_tree.specs.declared.rule_tree.RuleTree.{RuleTree}
 
 -- the shape of a tree, which leads to the places of the rules that are left, in order
-abbrev pub rule_shape : BitTree (Vec ℕ Global) → LookupTree (List ℕ)
-rule_shape tree = lookup_tree_of (λ places. places.items) tree
+abbrev pub table_tree_rule_shape : BitTree (Vec ℕ Global) → LookupTree (List ℕ)
+table_tree_rule_shape tree = lookup_tree_of (λ places. places.items) tree
 
 -- there is a rule at the place that holds the number
 abbrev pub is_held_by_lookup_rule : List Rule → ℕ → ℕ → Bool
@@ -45,23 +45,23 @@ table_tree_paying_cut zero rules region = None
 table_tree_paying_cut (suc cuts) rules region = table_tree_if_pays (length rules) (least_below 104 rules region)
 
 -- the places of these rules, if there is no cut; otherwise both sides, built by this function
-abbrev pub tree_by_cut : (List Rule → WordValue → LookupTree (List ℕ)) → List Rule → WordValue
+abbrev pub table_tree_by_cut : (List Rule → WordValue → LookupTree (List ℕ)) → List Rule → WordValue
     → Option Cost → LookupTree (List ℕ)
-tree_by_cut grow rules region None = Leaf (map (λ (rule : Rule). rule.rank) rules)
-tree_by_cut grow rules region (Some cost) =
+table_tree_by_cut grow rules region None = Leaf (map (λ (rule : Rule). rule.rank) rules)
+table_tree_by_cut grow rules region (Some cost) =
     Sides cost.bit
     (grow (side_of_cut rules region cost.bit false) (word_fix_of region cost.bit false))
     (grow (side_of_cut rules region cost.bit true) (word_fix_of region cost.bit true))
 
 -- the tree of the rules of a region, with at most this many cuts on a path
-unfoldable pub rule_tree_within : ℕ → List Rule → WordValue → LookupTree (List ℕ)
-rule_tree_within zero rules region = tree_by_cut (λ rs r. Leaf []) rules region None
-rule_tree_within (suc cuts) rules region =
-    tree_by_cut (rule_tree_within cuts) rules region (table_tree_paying_cut (suc cuts) rules region)
+unfoldable pub table_rule_tree_within : ℕ → List Rule → WordValue → LookupTree (List ℕ)
+table_rule_tree_within zero rules region = table_tree_by_cut (λ rs r. Leaf []) rules region None
+table_rule_tree_within (suc cuts) rules region =
+    table_tree_by_cut (table_rule_tree_within cuts) rules region (table_tree_paying_cut (suc cuts) rules region)
 
 -- the tree of a list of rules in a region: at most 12 cuts on a path
 unfoldable pub rule_tree : List Rule → WordValue → LookupTree (List ℕ)
-rule_tree rules region = rule_tree_within 12 (narrow (table_tree_ranked_rules 0 rules) region) region
+rule_tree rules region = table_rule_tree_within 12 (narrow (table_tree_ranked_rules 0 rules) region) region
 
 -- a region with its tree
 pub record RegionTree : Type 0 where
@@ -69,7 +69,7 @@ pub record RegionTree : Type 0 where
   pub shape : LookupTree (List ℕ)
 
 abbrev pub seen_tree : RuleTree → RegionTree
-seen_tree tree = record { region = tree.region; shape = rule_shape tree.root }
+seen_tree tree = record { region = tree.region; shape = table_tree_rule_shape tree.root }
 
 -- the tree of a partition's rules
 abbrev pub part_lookup_tree : Partition → RegionTree

@@ -1,6 +1,6 @@
 ghost use Rattle.std.specs.Prelude.{◌≡◌, ◌<◌, ◌==◌};
 ghost use Rattle.std.specs.Int.{bit_at};
-ghost use Rattle.table_tree.specs.LookupTrees.{tree_leaf_at, lookup_tree_of};
+ghost use Rattle.table_tree.specs.LookupTrees.{table_tree_leaf_at, lookup_tree_of};
 
 use std::marker::Model;
 
@@ -55,7 +55,7 @@ pub enum BitTree<L> {
 impl<L> BitTree<L> {
     /// The end to which the bits of the number lead.
     pub fn end_of(&self, number: u128) -> &L
-        ensures { result.now ≡ tree_leaf_at number (lookup_tree_of (λ x. x) self.now) }
+        ensures { result.now ≡ table_tree_leaf_at number (lookup_tree_of (λ x. x) self.now) }
     {
         match self {
             BitTree::End(end) => end,

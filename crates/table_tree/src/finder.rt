@@ -4,10 +4,10 @@ ghost use Rattle.five_tuple.specs.Header.{IsHeader, number_of};
 ghost use Rattle.policy_rules.specs.Exports.{is_held, is_in_policy_partition};
 ghost use Rattle.switch_table.specs.Lookup.{lookup_of, table_lookup};
 ghost use Rattle.switch_table.specs.Tables.{AreSoundSwitchTables};
-ghost use Rattle.table_tree.specs.Finding.{AreTreesOf, IsFinderTree, table_tree_candidate_shape};
+ghost use Rattle.table_tree.specs.Finding.{AreTableTreesOf, IsFinderTree, table_tree_candidate_shape};
 
 use crate::bit_tree::BitTree;
-use crate::trees::Trees;
+use crate::trees::TableTrees;
 use five_tuple::{Header, header_laws};
 use policy_rules::Partition;
 use std::alloc::{AllocError, Global};
@@ -21,7 +21,7 @@ use ternary::{holds_laws, meet_laws};
 #[derive(Drop)]
 pub struct Finder {
     tables: Rc<Tables>,
-    trees: Rc<Trees>,
+    trees: Rc<TableTrees>,
 }
 
 impl Model for Finder {
@@ -53,15 +53,15 @@ impl Finder {
         ensures tree { IfOk result (λ finder. IsFinderTree tables.value.parts
             (table_tree_candidate_shape finder.tree)) }
     {
-        let trees = Trees::grow(alloc, tables.parts.items(), tables.auth.items())?;
+        let trees = TableTrees::grow(alloc, tables.parts.items(), tables.auth.items())?;
         let trees = Rc::new(alloc, trees)?;
         Ok(Finder::of(tables, trees))
     }
 
     /// The finder of these tables, with trees that were built for the same rows and partitions.
-    pub fn of(tables: Rc<Tables>, trees: Rc<Trees>) -> Finder
+    pub fn of(tables: Rc<Tables>, trees: Rc<TableTrees>) -> Finder
         requires sound { AreSoundSwitchTables tables.value }
-        requires trees { AreTreesOf tables.value.parts tables.value.auth trees.value }
+        requires trees { AreTableTreesOf tables.value.parts tables.value.auth trees.value }
         ensures tables { result.tables ≡ tables.value }
         ensures tree { IsFinderTree tables.value.parts (table_tree_candidate_shape result.tree) }
     {
@@ -111,7 +111,7 @@ impl Finder {
     {
         // For the proof: the contract of `number` says that it is a header.
         let _ = header.number();
-        match own_part_place(self.tables.auth.items(), partition) {
+        match table_tree_part_place(self.tables.auth.items(), partition) {
             Some(own) => self.first_at(own, header),
             None => None,
         }
@@ -135,7 +135,7 @@ impl Finder {
         ensures { result ≡ table_lookup self.now.tables header.now }
     {
         let place = *self.trees.tree.end_of(header.number());
-        match own_part_place(self.tables.auth.items(), place) {
+        match table_tree_part_place(self.tables.auth.items(), place) {
             Some(own) => Found::Authority {
                 partition: place,
                 rule: self.first_at(own, header).unwrap_or(0) as u32,
@@ -149,7 +149,7 @@ impl Finder {
 }
 
 // The place of the partition of this number; `None` if there is none.
-fn own_part_place(parts: &[Partition], number: u32) -> Option<usize>
+fn table_tree_part_place(parts: &[Partition], number: u32) -> Option<usize>
     ensures { result ≡ position (λ part. part.number == number) parts.now }
 {
     parts.iter().position(|part| part.number == number)

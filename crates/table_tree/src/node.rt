@@ -51,7 +51,7 @@ impl PartNode {
         ensures region { IfOk result (λ half. half.region ≡ word_fix_of self.now.region bit one) }
     {
         let region = self.region.fix(bit, one);
-        let candidates = meeting(alloc, &self.candidates, &region)?;
+        let candidates = table_tree_candidates_meeting(alloc, &self.candidates, &region)?;
         Ok(PartNode { candidates, region })
     }
 }
@@ -77,7 +77,7 @@ fn numbered(alloc: Global, rows: &[PartRow]) -> Result<Vec<Candidate>, AllocErro
 
 // The candidates whose regions meet this one.
 #[tactic(auto, using(crate::proofs::TableTreeNodes::kept_same))]
-fn meeting(
+fn table_tree_candidates_meeting(
     alloc: Global,
     candidates: &[Candidate],
     region: &Word,

@@ -1,7 +1,7 @@
 ghost use Rattle.std.specs.Prelude.{◌≡◌, ◌<◌, IfOk, IfSome, map};
 ghost use Rattle.policy_rules.specs.declared.rules.Rule.{Rule};
 ghost use Rattle.cut_tree.specs.Cuts.{IsCuttableBit};
-ghost use Rattle.table_tree.specs.Ruling.{table_tree_paying_cut, rule_shape, rule_tree_within};
+ghost use Rattle.table_tree.specs.Ruling.{table_tree_paying_cut, table_tree_rule_shape, table_rule_tree_within};
 
 use crate::bit_tree::{BitTree, HeaderBit};
 use cut_tree::{Cost, Node};
@@ -17,10 +17,10 @@ const FEW_RULES: usize = 16;
 /// Only out of memory.
 pub fn grow(alloc: Global, node: Node, cuts: u32) -> Result<BitTree<Vec<u32>>, AllocError>
     ensures { IfOk result (λ tree.
-        rule_shape tree ≡ rule_tree_within cuts node.rules.items node.region) }
+        table_tree_rule_shape tree ≡ table_rule_tree_within cuts node.rules.items node.region) }
 {
     let Some(cost) = table_tree_paying_cut(&node, cuts) else {
-        let places = rule_places_of(alloc, &node.rules)?;
+        let places = table_tree_rule_places(alloc, &node.rules)?;
         return Ok(BitTree::End(places));
     };
     let low = node.half(alloc, cost.bit, false)?;
@@ -61,7 +61,7 @@ fn table_tree_paying_cut(node: &Node, cuts: u32) -> Option<Cost>
 }
 
 // The places that the rules have as their ranks.
-fn rule_places_of(alloc: Global, rules: &[Rule]) -> Result<Vec<u32>, AllocError>
+fn table_tree_rule_places(alloc: Global, rules: &[Rule]) -> Result<Vec<u32>, AllocError>
     ensures { IfOk result (λ places. places.items ≡ map (λ (rule : Rule). rule.rank) rules.now) }
 {
     let mut places = Vec::with_capacity(alloc, rules.len())?;

@@ -4,7 +4,7 @@ ghost use Rattle.five_tuple.specs.Header.{number_of};
 ghost use Rattle.ternary.specs.Word.{holds};
 ghost use Rattle.policy_rules.specs.Rules.{is_held};
 ghost use Rattle.cut_tree.specs.Nodes.{AreCutRuleWords};
-ghost use Rattle.table_tree.specs.Ruling.{is_held_by_lookup_rule, table_tree_ranked_rules, rule_shape, rule_tree};
+ghost use Rattle.table_tree.specs.Ruling.{is_held_by_lookup_rule, table_tree_ranked_rules, table_tree_rule_shape, rule_tree};
 
 use crate::bit_tree::BitTree;
 use crate::rule_node::grow;
@@ -39,9 +39,9 @@ impl RuleTree {
         requires { length rules.now < 2 ^ 32 }
         ensures region { IfOk result (λ tree. tree.region ≡ region.now) }
         ensures tree { IfOk result (λ tree.
-            rule_shape tree.root ≡ rule_tree rules.now region.now) }
+            table_tree_rule_shape tree.root ≡ rule_tree rules.now region.now) }
     {
-        let ranked = ranked(alloc, rules)?;
+        let ranked = ranked_table_tree_rules(alloc, rules)?;
         let node = Node::new(alloc, &ranked, region)?;
         let root = grow(alloc, node, MAX_CUTS)?;
         Ok(RuleTree {
@@ -53,13 +53,13 @@ impl RuleTree {
     /// The place of the first of the rules that holds the header, as `first_hit` returns it; the
     /// rules are those that the tree was built of. It allocates nothing.
     pub fn first(&self, rules: &[Rule], header: &Header) -> Option<usize>
-        requires built { rule_shape self.now.root ≡ rule_tree rules.now self.now.region }
+        requires built { table_tree_rule_shape self.now.root ≡ rule_tree rules.now self.now.region }
         requires header { IsTrue (holds self.now.region (number_of header.now)) }
         ensures place { result ≡ position (is_held (number_of header.now)) rules.now }
         ensures small { IfSome result (λ place. place < 2 ^ 32) }
     {
         let number = header.number();
-        match first_of(self.root.end_of(number), rules, number) {
+        match first_table_tree_place(self.root.end_of(number), rules, number) {
             Some(place) => Some(*place as usize),
             None => None,
         }
@@ -67,7 +67,7 @@ impl RuleTree {
 }
 
 // The first of the places whose rule holds the number.
-fn first_of<'a>(places: &'a [u32], rules: &[Rule], number: u128) -> Option<&'a u32>
+fn first_table_tree_place<'a>(places: &'a [u32], rules: &[Rule], number: u128) -> Option<&'a u32>
     ensures { option_copied result ≡ find (is_held_by_lookup_rule rules.now number) places.now }
 {
     places
@@ -86,7 +86,7 @@ fn rule_holds_at(rules: &[Rule], place: u32, number: u128) -> bool
 }
 
 // The rules, each with its place as its rank.
-fn ranked(alloc: Global, rules: &[Rule]) -> Result<Vec<Rule>, AllocError>
+fn ranked_table_tree_rules(alloc: Global, rules: &[Rule]) -> Result<Vec<Rule>, AllocError>
     requires { length rules.now < 2 ^ 32 }
     ensures rules { IfOk result (λ ranked. ranked.items ≡ table_tree_ranked_rules 0 rules.now) }
     ensures words { IfOk result (λ ranked. AreCutRuleWords ranked.items) }

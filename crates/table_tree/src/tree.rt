@@ -1,8 +1,8 @@
 ghost use Rattle.std.specs.Prelude.{IfOk};
-ghost use Rattle.table_tree.specs.Finding.{IsGrownShape, table_tree_candidate_shape};
+ghost use Rattle.table_tree.specs.Finding.{IsGrownTableTree, table_tree_candidate_shape};
 
 use crate::bit_tree::{BitTree, HeaderBit};
-use crate::bits::tree_cut_bit;
+use crate::bits::table_tree_cut_bit;
 use crate::node::PartNode;
 use std::alloc::{AllocError, Global};
 
@@ -13,14 +13,14 @@ use std::alloc::{AllocError, Global};
 /// Only out of memory.
 #[tactic(auto, using(crate::proofs::TableTreeNodes::half_smaller, crate::proofs::TableTreeFinder::end_is))]
 pub fn grow(alloc: Global, node: PartNode) -> Result<BitTree<u32>, AllocError>
-    ensures { IfOk result (λ tree. IsGrownShape node.candidates.items node.region
+    ensures { IfOk result (λ tree. IsGrownTableTree node.candidates.items node.region
         (table_tree_candidate_shape tree)) }
 {
     if node.candidates.len() == 1 {
         let place = node.candidates[0].place;
         return Ok(BitTree::End(place));
     }
-    let Some(bit) = tree_cut_bit(&node.candidates, &node.region) else {
+    let Some(bit) = table_tree_cut_bit(&node.candidates, &node.region) else {
         return Ok(BitTree::End(0));
     };
     let low = node.half(alloc, bit, false)?;

@@ -1,5 +1,5 @@
 ghost use Rattle.std.specs.Prelude.{◌≡◌, ◌<◌, ◌^◌, All, IfOk, length, map};
-ghost use Rattle.table_tree.specs.Finding.{AreTreesOf};
+ghost use Rattle.table_tree.specs.Finding.{AreTableTreesOf};
 ghost use Rattle.table_tree.specs.Ruling.{part_lookup_tree, seen_tree};
 
 use crate::bit_tree::BitTree;
@@ -13,26 +13,30 @@ use switch_table::PartRow;
 /// Trees for the tables of a switch, whatever their version: one over their partition rules, and
 /// one over the rules of each authority partition.
 #[derive(Debug, Drop)]
-pub struct Trees {
+pub struct TableTrees {
     pub tree: BitTree<u32>,
     pub rule_trees: Vec<RuleTree>,
 }
 
-impl Trees {
+impl TableTrees {
     /// The trees for tables with these partition rules and authority partitions. The tables needn't
     /// be sound; `Finder::of` requires it.
     ///
     /// # Errors
     /// Only out of memory.
-    pub fn grow(alloc: Global, parts: &[PartRow], auth: &[Partition]) -> Result<Trees, AllocError>
+    pub fn grow(
+        alloc: Global,
+        parts: &[PartRow],
+        auth: &[Partition],
+    ) -> Result<TableTrees, AllocError>
         requires parts { length parts.now < 2 ^ 32 }
         requires auth { All (λ part. length part.rules < 2 ^ 32) auth.now }
-        ensures { IfOk result (AreTreesOf parts.now auth.now) }
+        ensures { IfOk result (AreTableTreesOf parts.now auth.now) }
     {
         let root = PartNode::root(alloc, parts)?;
         let tree = tree::grow(alloc, root)?;
         let rule_trees = rule_trees(alloc, auth)?;
-        Ok(Trees { tree, rule_trees })
+        Ok(TableTrees { tree, rule_trees })
     }
 }
 

@@ -1,4 +1,5 @@
--- What `{:010x}` and `{:016x}` write of parts of a number is what `word_hex_digits` has of the whole.
+-- What `{:010x}` and `{:016x}` write of parts of a number is what `word_hex_digits` has of the
+-- whole.
 use Rattle.std.proofs.Common.{[], ◌%◌, ◌*◌, ◌++◌, ◌+◌, ◌-◌, ◌/◌, ◌<◌, ◌==◌, ◌^◌, ◌∙◌, ◌∷◌, ◌≡◌, ◌≤◌, List, ap, append_assoc, arith, bit_and, eq-eqb, false, inl, inr, length, length-append, ne_eqb, pow-add, refl, replicate, shr-shr, subst, suc, sym, zero, ℕ, rules}
 use Rattle.std.specs.Fmt.{char_count, digit_glyph, digits, digits_onto, padded_integral, format_spec}
 use Rattle.std.proofs.lemmas.Bool.{cases_eq, cond-true, cond-false}

@@ -7,7 +7,7 @@ use Rattle.std.proofs.lemmas.Bool.Decides.{same_from_decides, Decides-like, Deci
 use Rattle.std.proofs.lemmas.Nat.{and_assoc, and_le_r, and_mask, pow_below}
 use Rattle.std.proofs.lemmas.Nat.Bits.{bit_at-zero, bit_at_ones, shr_and_one, same_from_bits_below}
 use Rattle.std.proofs.lemmas.Option.{cond_some}
-use Rattle.ternary.specs.Exports.{AgreesOnFixedBits, AgreesOnWordMask, AreDisjointWords, WordIncludes, IsFixedIn, IsMeet, IsWord, WordValue, word_admits, any_word, word_covers_of, exact_word, word_fix_of, word_fixed_value, free_of, holds, is_fixed_of, meet_of, meeting_word, meets, with_bit, ternary_without_bit, word_eq}
+use Rattle.ternary.specs.Exports.{AgreesOnFixedBits, AgreesOnWordMask, AreDisjointWords, WordIncludes, IsWordFixedIn, IsMeet, IsWord, WordValue, word_admits, any_word, word_covers_of, exact_word, word_fix_of, word_fixed_value, ternary_with_bit_freed, holds, is_fixed_of, meet_of, meeting_word, meets, with_bit, ternary_without_bit, word_eq}
 use Rattle.ternary.proofs.TernaryBits.{masked, unmasked, part, of_part, both_set, left_set, right_set, or_assoc, absorbed, same_set, set_below, not_set, by_place, digit_cases, with_bit-same, with_bit-other, with_bit-lt, ternary_without_bit-same, ternary_without_bit-other, ternary_without_bit-le, ternary_without_bit-unset, shifted, shifted_one, masked_out, or_pow-same, or_pow-other, masked_sum-left, masked_sum-right, or_left, or_right, or_from}
 
 -- words of the same value and mask are equal
@@ -35,7 +35,7 @@ meets_decides a b = (
       (λ k s. bits k (left_set _ _ k s) (right_set _ _ k s))),
 )
 
-pub covers_decides : (a b : WordValue) → Decides (word_covers_of a b) (IsFixedIn a b)
+pub covers_decides : (a b : WordValue) → Decides (word_covers_of a b) (IsWordFixedIn a b)
 unfolding word_covers_of
 covers_decides a b = (
   λ t k p. let h = and_parts _ _ t in (
@@ -132,10 +132,10 @@ same_headers a b a_word b_word same = search (rules, covers_antisymmetric, inclu
 -- ---- what is in both
 
 module _ (a b : WordValue) (agree : AgreesOnFixedBits a b) where
-  joined_left : IsFixedIn a (meeting_word a b)
+  joined_left : IsWordFixedIn a (meeting_word a b)
   joined_left k p = search (rules, or_left, masked_sum-left)
 
-  joined_right : IsFixedIn b (meeting_word a b)
+  joined_right : IsWordFixedIn b (meeting_word a b)
   joined_right k q = (
     or_right a.mask b.mask k q,
     masked_sum-right a.value a.mask b.value b.mask k q (λ p. agree k p q),
@@ -199,7 +199,7 @@ joined_assoc a b c = same_word _ _ (ap (λ n. bit_or n (word_fixed_value c)) (jo
     ∙ ap (bit_or (word_fixed_value a)) (sym (joined_within b c))) (or_assoc a.mask b.mask c.mask)
 
 -- what a covers adds nothing to a word that fixes it
-joined_covered : (a b : WordValue) → IsFixedIn a b
+joined_covered : (a b : WordValue) → IsWordFixedIn a b
     → meeting_word a b ≡ record { value = word_fixed_value b; mask = b.mask }
 joined_covered a b fixed = search (rules, same_word, absorbed, right_set, both_set, left_set)
 
@@ -462,8 +462,8 @@ module _ (w r : WordValue) (k : ℕ) (one : Bool) where
       (meets_decides w (word_fix_of r k one)))
       (Decides-and _ _ (meets_decides w r) (admits_decides w k one))
 
-  pub covers_half : word_covers_of w (word_fix_of r k one) ≡ (word_covers_of (free_of w k) r && word_admits w k one)
-  unfolding word_fix_of free_of
+  pub covers_half : word_covers_of w (word_fix_of r k one) ≡ (word_covers_of (ternary_with_bit_freed w k) r && word_admits w k one)
+  unfolding word_fix_of ternary_with_bit_freed
   covers_half = same_from_decides _ _ (Decides-like _ (λ bits. (
     by_place k (λ j. bit_at (ternary_without_bit w.mask k) j ≡ 1 → (bit_at r.mask j ≡ 1)
         × (bit_at r.value j ≡ bit_at (ternary_without_bit w.value k) j))
@@ -483,22 +483,22 @@ module _ (w r : WordValue) (k : ℕ) (one : Bool) where
         with_bit-other r.value k one j away ∙ b.1 ∙ ternary_without_bit-other w.value k j away,
       )))
       (covers_decides w (word_fix_of r k one)))
-      (Decides-and _ _ (covers_decides (free_of w k) r) (admits_decides w k one))
+      (Decides-and _ _ (covers_decides (ternary_with_bit_freed w k) r) (admits_decides w k one))
 
 -- ---- a freed bit
 
 module _ (w : WordValue) (k : ℕ) where
-  pub free_free : IsFalse (is_fixed_of (free_of w k) k)
-  unfolding free_of
+  pub free_free : IsFalse (is_fixed_of (ternary_with_bit_freed w k) k)
+  unfolding ternary_with_bit_freed
   free_free = false_from_ne_true _
-      (λ t. not_set _ k (ternary_without_bit-same w.mask k) ((is_fixed_decides (free_of w k) k).0 t))
+      (λ t. not_set _ k (ternary_without_bit-same w.mask k) ((is_fixed_decides (ternary_with_bit_freed w k) k).0 t))
 
-  pub free_other : (j : ℕ) → j ≢ k → is_fixed_of (free_of w k) j ≡ is_fixed_of w j
-  unfolding free_of
-  free_other j away = is_fixed_same (free_of w k) w j (ternary_without_bit-other w.mask k j away)
+  pub free_other : (j : ℕ) → j ≢ k → is_fixed_of (ternary_with_bit_freed w k) j ≡ is_fixed_of w j
+  unfolding ternary_with_bit_freed
+  free_other j away = is_fixed_same (ternary_with_bit_freed w k) w j (ternary_without_bit-other w.mask k j away)
 
-  pub free_word : IsWord w → IsWord (free_of w k)
-  unfolding free_of
+  pub free_word : IsWord w → IsWord (ternary_with_bit_freed w k)
+  unfolding ternary_with_bit_freed
   free_word w_word = record {
     within = part (ternary_without_bit w.value k) (ternary_without_bit w.mask k) (by_place k
         (λ j. bit_at (ternary_without_bit w.value k) j ≡ 1 → bit_at (ternary_without_bit w.mask k) j ≡ 1) (λ s.
@@ -508,9 +508,9 @@ module _ (w : WordValue) (k : ℕ) where
     bounded = omega (arith, ternary_without_bit-le w.mask k, w_word.bounded);
   }
 
-  pub free_wider : IsTrue (word_covers_of (free_of w k) w)
-  unfolding free_of
-  free_wider = (covers_decides (free_of w k) w).1
+  pub free_wider : IsTrue (word_covers_of (ternary_with_bit_freed w k) w)
+  unfolding ternary_with_bit_freed
+  free_wider = (covers_decides (ternary_with_bit_freed w k) w).1
       (by_place k (λ j. bit_at (ternary_without_bit w.mask k) j ≡ 1
       → (bit_at w.mask j ≡ 1) × (bit_at w.value j ≡ bit_at (ternary_without_bit w.value k) j))
       (λ s. absurd (not_set _ k (ternary_without_bit-same w.mask k) s)) (λ j away s. (
@@ -519,24 +519,24 @@ module _ (w : WordValue) (k : ℕ) where
       )))
 
   pub free_holds : (h : ℕ)
-      → holds (free_of w k) h ≡ (holds w (with_bit h k false) || holds w (with_bit h k true))
-  unfolding free_of
+      → holds (ternary_with_bit_freed w k) h ≡ (holds w (with_bit h k false) || holds w (with_bit h k true))
+  unfolding ternary_with_bit_freed
   free_holds h = same_from_decides _ _ (Decides-like _ (λ bits. elim (digit_cases w.value k) [
     | inl zero_bit ↦ inl (filled bits false zero_bit)
     | inr one_bit ↦ inr (filled bits true one_bit)
   ])
       (λ either. elim either [ inl bits ↦ emptied false bits | inr bits ↦ emptied true bits ])
-      (holds_decides (free_of w k) h))
+      (holds_decides (ternary_with_bit_freed w k) h))
       (Decides-or _ _ (holds_decides w (with_bit h k false)) (holds_decides w (with_bit h k true)))
     where
-      filled : AgreesOnWordMask (free_of w k) h → (one : Bool) → bit_at w.value k ≡ from_bool one
+      filled : AgreesOnWordMask (ternary_with_bit_freed w k) h → (one : Bool) → bit_at w.value k ≡ from_bool one
           → AgreesOnWordMask w (with_bit h k one)
       filled bits one e = by_place k
           (λ j. bit_at w.mask j ≡ 1 → bit_at (with_bit h k one) j ≡ bit_at w.value j)
           (λ _. with_bit-same h k one ∙ sym e) (λ j away p. with_bit-other h k one j away
           ∙ bits j (ternary_without_bit-other w.mask k j away ∙ p) ∙ ternary_without_bit-other w.value k j away)
 
-      emptied : (one : Bool) → AgreesOnWordMask w (with_bit h k one) → AgreesOnWordMask (free_of w k) h
+      emptied : (one : Bool) → AgreesOnWordMask w (with_bit h k one) → AgreesOnWordMask (ternary_with_bit_freed w k) h
       emptied one bits = by_place k
           (λ j. bit_at (ternary_without_bit w.mask k) j ≡ 1 → bit_at h j ≡ bit_at (ternary_without_bit w.value k) j)
           (λ s. absurd (not_set _ k (ternary_without_bit-same w.mask k) s))
@@ -544,10 +544,10 @@ module _ (w : WordValue) (k : ℕ) where
           (sym (ternary_without_bit-other w.mask k j away) ∙ s) ∙ sym (ternary_without_bit-other w.value k j away))
 
 pub free_monotone : (a b : WordValue) (k : ℕ) → IsTrue (word_covers_of a b)
-    → IsTrue (word_covers_of (free_of a k) (free_of b k))
-unfolding free_of
+    → IsTrue (word_covers_of (ternary_with_bit_freed a k) (ternary_with_bit_freed b k))
+unfolding ternary_with_bit_freed
 free_monotone a b k ab = let fixed = (covers_decides a b).0 ab in
-    (covers_decides (free_of a k) (free_of b k)).1
+    (covers_decides (ternary_with_bit_freed a k) (ternary_with_bit_freed b k)).1
     (by_place k (λ j. bit_at (ternary_without_bit a.mask k) j ≡ 1 → (bit_at (ternary_without_bit b.mask k) j ≡ 1)
     × (bit_at (ternary_without_bit b.value k) j ≡ bit_at (ternary_without_bit a.value k) j))
     (λ s. absurd (not_set _ k (ternary_without_bit-same a.mask k) s))
@@ -622,8 +622,8 @@ module _ (w : WordValue) (w_word : IsWord w) where
   pub cleared_free : (k : ℕ) → k < 104 → record {
     value = bit_and w.value (2 ^ 128 - 1 - 1 * 2 ^ k % 2 ^ 128);
     mask = bit_and w.mask (2 ^ 128 - 1 - 1 * 2 ^ k % 2 ^ 128);
-  } ≡ free_of w k
-  unfolding free_of
+  } ≡ ternary_with_bit_freed w k
+  unfolding ternary_with_bit_freed
   cleared_free k within = same_word _ _ (masked_out w.value k (value_below w w_word) within)
       (masked_out w.mask k w_word.bounded within)
 

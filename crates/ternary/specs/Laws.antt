@@ -1,10 +1,10 @@
--- The laws of words: `x_laws` of the crate ensures the record of each.
+-- The laws of words: a function of `src` ensures each record.
 use Rattle.std.specs.Prelude.{[], ◌&&◌, ◌+◌, ◌<◌, ◌==◌, ◌^◌, ◌||◌, ◌↔◌, ◌≡◌, ◌≢◌, Bool, Contains, IsFalse, IsTrue, None, Some, false, filter, is_some, length, not, option_and_then, true, ℕ}
 use Rattle.std.specs.Int.{bit_at, from_bool}
 use Rattle.std.specs.List.Sorted.{IsStrictlyIncreasing}
 use Rattle.ternary.specs.Word.{WordValue, holds}
 use Rattle.ternary.specs.WordBits.{IsWord}
-use Rattle.ternary.specs.Meets.{AgreesOnWordMask, AgreesOnFixedBits, IsFixedIn, IsMeet, any_word, exact_word, meets, meet_of, word_covers_of, with_bit, is_fixed_of, word_admits, words_agree_at, word_includes_at, word_fix_of, free_of, free_bits, word_eq}
+use Rattle.ternary.specs.Meets.{AgreesOnWordMask, AgreesOnFixedBits, IsWordFixedIn, IsMeet, any_word, exact_word, meets, meet_of, word_covers_of, with_bit, is_fixed_of, word_admits, words_agree_at, word_includes_at, word_fix_of, ternary_with_bit_freed, free_bits, word_eq}
 
 pub record WordHoldsLaws : Type 0 where
   -- the test is agreement, bit by bit
@@ -28,9 +28,9 @@ pub record ExactLaws : Type 0 where
   pub holds : (h x : ℕ) → h < 2 ^ 104 → x < 2 ^ 104 → IsTrue (holds (exact_word h) x) ↔ (x ≡ h)
   pub no_free_bit : (h k : ℕ) → k < 104 → IsTrue (is_fixed_of (exact_word h) k)
 
-pub record CoversLaws : Type 0 where
+pub record WordCoversLaws : Type 0 where
   -- a word covers another if each bit that it fixes is fixed to the same in the other
-  pub bitwise : (a b : WordValue) → IsTrue (word_covers_of a b) ↔ IsFixedIn a b
+  pub bitwise : (a b : WordValue) → IsTrue (word_covers_of a b) ↔ IsWordFixedIn a b
   -- a word holds each header of a word that it covers
   pub held : (a b : WordValue) (h : ℕ) → IsTrue (word_covers_of a b) → IsTrue (holds b h)
       → IsTrue (holds a h)
@@ -95,40 +95,40 @@ pub record WordFixLaws : Type 0 where
   pub meets_half : (w r : WordValue) (k : ℕ) (one : Bool) → IsFalse (is_fixed_of r k)
       → meets w (word_fix_of r k one) ≡ (meets w r && word_admits w k one)
   pub covers_half : (w r : WordValue) (k : ℕ) (one : Bool)
-      → word_covers_of w (word_fix_of r k one) ≡ (word_covers_of (free_of w k) r && word_admits w k one)
+      → word_covers_of w (word_fix_of r k one) ≡ (word_covers_of (ternary_with_bit_freed w k) r && word_admits w k one)
 
 pub record FreeLaws : Type 0 where
   -- the freed word holds what the word holds with the bit set to 0 or to 1
   pub either : (w : WordValue) (k h : ℕ)
-      → holds (free_of w k) h ≡ (holds w (with_bit h k false) || holds w (with_bit h k true))
-  pub wider : (w : WordValue) (k : ℕ) → IsTrue (word_covers_of (free_of w k) w)
+      → holds (ternary_with_bit_freed w k) h ≡ (holds w (with_bit h k false) || holds w (with_bit h k true))
+  pub wider : (w : WordValue) (k : ℕ) → IsTrue (word_covers_of (ternary_with_bit_freed w k) w)
   pub monotone : (a b : WordValue) (k : ℕ) → IsTrue (word_covers_of a b)
-      → IsTrue (word_covers_of (free_of a k) (free_of b k))
-  pub word : (w : WordValue) (k : ℕ) → IsWord w → IsWord (free_of w k)
-  pub same_bit : (w : WordValue) (k : ℕ) → IsFalse (is_fixed_of (free_of w k) k)
-  pub other_bit : (w : WordValue) (k j : ℕ) → j ≢ k → is_fixed_of (free_of w k) j ≡ is_fixed_of w j
+      → IsTrue (word_covers_of (ternary_with_bit_freed a k) (ternary_with_bit_freed b k))
+  pub word : (w : WordValue) (k : ℕ) → IsWord w → IsWord (ternary_with_bit_freed w k)
+  pub same_bit : (w : WordValue) (k : ℕ) → IsFalse (is_fixed_of (ternary_with_bit_freed w k) k)
+  pub other_bit : (w : WordValue) (k j : ℕ) → j ≢ k → is_fixed_of (ternary_with_bit_freed w k) j ≡ is_fixed_of w j
   -- freeing a free bit changes nothing; freeing and fixing a bit undo each other
-  pub unfixed : (w : WordValue) (k : ℕ) → IsWord w → IsFalse (is_fixed_of w k) → free_of w k ≡ w
+  pub unfixed : (w : WordValue) (k : ℕ) → IsWord w → IsFalse (is_fixed_of w k) → ternary_with_bit_freed w k ≡ w
   pub undone : (w : WordValue) (k : ℕ) (one : Bool) → IsWord w → IsFalse (is_fixed_of w k)
-      → free_of (word_fix_of w k one) k ≡ w
+      → ternary_with_bit_freed (word_fix_of w k one) k ≡ w
   pub restored : (w : WordValue) (k : ℕ) (one : Bool) → IsWord w → IsTrue (is_fixed_of w k)
-      → bit_at w.value k ≡ from_bool one → word_fix_of (free_of w k) k one ≡ w
+      → bit_at w.value k ≡ from_bool one → word_fix_of (ternary_with_bit_freed w k) k one ≡ w
   -- one bit is tested apart from the others
-  pub meets_bit : (a b : WordValue) (k : ℕ) → meets a b ≡ (meets (free_of a k) b && words_agree_at a b k)
+  pub meets_bit : (a b : WordValue) (k : ℕ) → meets a b ≡ (meets (ternary_with_bit_freed a k) b && words_agree_at a b k)
   pub covers_bit : (a b : WordValue) (k : ℕ)
-      → word_covers_of a b ≡ (word_covers_of (free_of a k) b && word_includes_at a b k)
+      → word_covers_of a b ≡ (word_covers_of (ternary_with_bit_freed a k) b && word_includes_at a b k)
   -- a freed bit no longer matters
   pub meets_others : (a b : WordValue) (k : ℕ)
-      → IsTrue (meets (free_of a k) b) ↔ ((j : ℕ) → j ≢ k → IsTrue (words_agree_at a b j))
+      → IsTrue (meets (ternary_with_bit_freed a k) b) ↔ ((j : ℕ) → j ≢ k → IsTrue (words_agree_at a b j))
   pub covers_others : (a b : WordValue) (k : ℕ)
-      → IsTrue (word_covers_of (free_of a k) b) ↔ ((j : ℕ) → j ≢ k → IsTrue (word_includes_at a b j))
+      → IsTrue (word_covers_of (ternary_with_bit_freed a k) b) ↔ ((j : ℕ) → j ≢ k → IsTrue (word_includes_at a b j))
   pub meets_freed : (a b : WordValue) (k : ℕ)
-      → meets (free_of a k) b ≡ meets (free_of a k) (free_of b k)
+      → meets (ternary_with_bit_freed a k) b ≡ meets (ternary_with_bit_freed a k) (ternary_with_bit_freed b k)
   pub covers_freed : (a b : WordValue) (k : ℕ)
-      → word_covers_of (free_of a k) b ≡ word_covers_of (free_of a k) (free_of b k)
+      → word_covers_of (ternary_with_bit_freed a k) b ≡ word_covers_of (ternary_with_bit_freed a k) (ternary_with_bit_freed b k)
   -- a word that covers a freed word leaves the bit free
   pub freed_covered : (a b : WordValue) (k : ℕ)
-      → word_covers_of a (free_of b k) ≡ (not (is_fixed_of a k) && word_covers_of a b)
+      → word_covers_of a (ternary_with_bit_freed b k) ≡ (not (is_fixed_of a k) && word_covers_of a b)
 
 pub record FreeBitsLaws : Type 0 where
   pub member : (w : WordValue) (k : ℕ)

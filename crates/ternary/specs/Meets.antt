@@ -38,8 +38,8 @@ AgreesOnFixedBits a b = (k : ℕ) → bit_at a.mask k ≡ 1 → bit_at b.mask k 
     → bit_at a.value k ≡ bit_at b.value k
 
 -- each bit that a fixes, b fixes to the same
-abbrev pub IsFixedIn : WordValue → WordValue → Type 0
-IsFixedIn a b = (k : ℕ) → bit_at a.mask k ≡ 1
+abbrev pub IsWordFixedIn : WordValue → WordValue → Type 0
+IsWordFixedIn a b = (k : ℕ) → bit_at a.mask k ≡ 1
     → (bit_at b.mask k ≡ 1) × (bit_at b.value k ≡ bit_at a.value k)
 
 -- the values agree on the bits that both fix
@@ -82,8 +82,8 @@ unfoldable pub word_fix_of : WordValue → ℕ → Bool → WordValue
 word_fix_of w k one = record { value = with_bit w.value k one; mask = bit_or w.mask (2 ^ k) }
 
 -- bit k freed
-unfoldable pub free_of : WordValue → ℕ → WordValue
-free_of w k = record { value = ternary_without_bit w.value k; mask = ternary_without_bit w.mask k }
+unfoldable pub ternary_with_bit_freed : WordValue → ℕ → WordValue
+ternary_with_bit_freed w k = record { value = ternary_without_bit w.value k; mask = ternary_without_bit w.mask k }
 
 -- bit k is not fixed in both to different values
 unfoldable pub words_agree_at : WordValue → WordValue → ℕ → Bool

@@ -26,6 +26,6 @@ unfoldable pub word_hex_digits : ℕ → ℕ → List ℕ
 word_hex_digits zero n = []
 word_hex_digits (suc count) n = word_hex_digits count (n / 16) ++ digit_glyph false (n % 16) ∷ []
 
--- value and mask with a slash between them, each in 26 digits
-unfoldable pub word_text : WordValue → List ℕ
-word_text w = word_hex_digits 26 w.value ++ 47 ∷ word_hex_digits 26 w.mask
+-- value and mask with a slash between them, each in 26 hexadecimal digits
+unfoldable pub ternary_word_text : WordValue → List ℕ
+ternary_word_text w = word_hex_digits 26 w.value ++ 47 ∷ word_hex_digits 26 w.mask

@@ -1,4 +1,4 @@
-ghost use Rattle.ternary.specs.Laws.{WordHoldsLaws, AnyWordLaws, ExactLaws, CoversLaws, MeetLaws, WordFixLaws, FreeLaws, FreeBitsLaws};
+ghost use Rattle.ternary.specs.Laws.{WordHoldsLaws, AnyWordLaws, ExactLaws, WordCoversLaws, MeetLaws, WordFixLaws, FreeLaws, FreeBitsLaws};
 
 /// A word holds the headers that agree with its value on each fixed bit, so it holds its value;
 /// words that hold the same headers are equal.
@@ -12,14 +12,14 @@ pub fn any_laws()
 {}
 
 /// The word of one header fixes each bit, and holds only this header.
-pub fn exact_laws()
+pub fn ternary_exact_laws()
     ensures { ExactLaws }
 {}
 
 /// `covers` is a partial order. A word covers the word of one header exactly if it holds the
 /// header, and it covers each word without a free bit that it meets.
 pub fn covers_laws()
-    ensures { CoversLaws }
+    ensures { WordCoversLaws }
 {}
 
 /// `meet` returns the greatest word that both cover. Narrowing a word to `a`, and then to a word
@@ -29,7 +29,7 @@ pub fn meet_laws()
 {}
 
 /// A free bit divides a word into two halves: each header is in the one that has its bit.
-pub fn fix_laws()
+pub fn word_fix_laws()
     ensures { WordFixLaws }
 {}
 

@@ -23,6 +23,7 @@ mod laws;
 mod word;
 
 pub use laws::{
-    any_laws, covers_laws, exact_laws, fix_laws, free_bits_laws, free_laws, holds_laws, meet_laws,
+    any_laws, covers_laws, free_bits_laws, free_laws, holds_laws, meet_laws, ternary_exact_laws,
+    word_fix_laws,
 };
 pub use word::{ALL_BITS, Word};

@@ -1,8 +1,8 @@
 ghost use Rattle.std.specs.Prelude.{◌≡◌, ◌≢◌, ◌^◌, ◌<◌, ◌≤◌, ◌&&◌, ◌||◌, ◌==◌, ◌⊎◌, ◌↔◌, ℕ, bit_and, false, true, Some, IsTrue, IsFalse, IsSome, IsNone, IfSome};
 ghost use Rattle.std.specs.Int.{bit_at, from_bool};
-ghost use Rattle.ternary.specs.Word.{WordValue, holds, word_text};
+ghost use Rattle.ternary.specs.Word.{WordValue, holds, ternary_word_text};
 ghost use Rattle.ternary.specs.WordBits.{IsWord};
-ghost use Rattle.ternary.specs.Meets.{AgreesOnWordMask, WordIncludes, AreDisjointWords, IsMeet, any_word, exact_word, meet_of, meets, word_covers_of, with_bit, is_fixed_of, word_fix_of, free_of};
+ghost use Rattle.ternary.specs.Meets.{AgreesOnWordMask, WordIncludes, AreDisjointWords, IsMeet, any_word, exact_word, meet_of, meets, word_covers_of, with_bit, is_fixed_of, word_fix_of, ternary_with_bit_freed};
 
 use std::fmt;
 use std::marker::Model;
@@ -162,7 +162,7 @@ impl Word {
     /// set to 0 or to 1.
     pub fn free(&self, bit: u32) -> Word
         requires { bit < 104 }
-        ensures pair { result ≡ free_of self.now bit }
+        ensures pair { result ≡ ternary_with_bit_freed self.now bit }
         ensures either { (h : ℕ) → holds result h ≡
             (holds self.now (with_bit h bit false) || holds self.now (with_bit h bit true)) }
         ensures word { IsWord result }
@@ -176,9 +176,9 @@ impl Word {
 }
 
 /// Printed as value and mask with a slash between them, each in 26 lower-case hexadecimal digits.
-#[tactic(auto, unfolding(crate::specs::Word::word_text))]
+#[tactic(auto, unfolding(crate::specs::Word::ternary_word_text))]
 impl fmt::Display for Word {
-    ghost output = { λ w. Some (word_text w) };
+    ghost output = { λ w. Some (ternary_word_text w) };
 
     fn fmt<W: fmt::Write>(&self, f: &mut fmt::Formatter<W>) -> fmt::Result {
         let value = Hex { number: self.value };

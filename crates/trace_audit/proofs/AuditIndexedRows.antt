@@ -3,9 +3,9 @@ use Rattle.std.proofs.Common.{[], ◌&&◌, ◌*◌, ◌++◌, ◌+◌, ◌-◌,
 use Rattle.base.proofs.Exports.{All-filter, All-head, All-push, Contains-append_right, and_cases, and_parts, both_ways, cases_eq, cases_lt, cond_both, contains_at, false≢true, filter_passes, get_or_from_slice_get, get_push_at, get_push_left, get_replicate, get_set_other, get_set_same, length-replicate, length_push, one_item, option_map_or, passes_at_first, position_or_len, position_or_len_push, prefix_len-le-length, same_Some, shr_split, slice_get-get_or, slice_get_read, slice_get_within}
 use Rattle.five_tuple.specs.Exports.{AddressBlock, IsAddressBlock, address_block_round, fields_of, prefix_matches, proto_matches, range_matches}
 use Rattle.update_machine.specs.Exports.{Action, Fields, Header, Hit, Row}
-use Rattle.policy_rules.specs.Exports.{IsFirstMatch, IsPolicy, IsSoundRow, hit_of, row_matches}
+use Rattle.policy_rules.specs.Exports.{IsFirstMatch, IsPolicy, IsSoundPolicyRow, hit_of, policy_row_matches}
 use Rattle.trace_audit.specs.Exports.{AreAuditShapesOf, HasAuditShape, IsBestAuditHit, IsBetterAuditHit, IsAuditIndexOf, IsAuditIndexUpTo, IsAuditRowLastBefore, IsAuditMatchIn, IsNoHigherAuditRow, IsSoundAuditShape, AuditRowsLackSlot, AuditIndexNotes, audit_better_index_hit, is_audit_index_shape, audit_shape_of_row, audit_shape_place, audit_index_slot_of, audit_slot_of_row}
-use Rattle.trace_audit.specs.declared.index.Index.{Index}
+use Rattle.trace_audit.specs.declared.index.AuditIndex.{AuditIndex}
 use Rattle.trace_audit.specs.declared.index.Shape.{Shape}
 
 -- ---- slots
@@ -24,8 +24,8 @@ both_blocks true false c d e h = absurd (false≢true h)
 both_blocks false b c d e h = absurd (false≢true h)
 
 sound_row : (rows : List Row) (k : ℕ) (row : Row) → IsPolicy rows → slice_get rows k ≡ Some row
-    → IsSoundRow row
-sound_row rows k row policy there = subst IsSoundRow (get_or_from_slice_get rows k row row there)
+    → IsSoundPolicyRow row
+sound_row rows k row policy there = subst IsSoundPolicyRow (get_or_from_slice_get rows k row row there)
     (policy.sound k row (slice_get_within rows k row there))
 
 pub has_shape : (shapes : List Shape) (rows : List Row) (k : ℕ) (row : Row) → AreAuditShapesOf rows shapes
@@ -86,7 +86,7 @@ module _ (shapes : List Shape) (shape : Shape) where
 
 -- a header is sought in the slot of each row that matches it
 slot_same : (shapes : List Shape) (row : Row) (fields : Fields) (shape : Shape) (src dst : ℕ)
-    → IsSoundRow row → row_matches row fields ≡ true → audit_shape_of_row row ≡ shape
+    → IsSoundPolicyRow row → policy_row_matches row fields ≡ true → audit_shape_of_row row ≡ shape
     → src ≡ (address_block_round fields.src shape.src).address
     → dst ≡ (address_block_round fields.dst shape.dst).address
     → audit_slot_of_row shapes row ≡ audit_index_slot_of (length shapes) (audit_shape_place shapes row) src dst
@@ -133,7 +133,7 @@ module _ (shapes : List Shape) (rows : List Row) where
       (row, omega arith, here, refl, λ k next above below there. absurd (omega (arith, above, below)))
 
 -- an index of no row
-pub none_indexed : (rows : List Row) (index : Index) → AreAuditShapesOf rows index.shapes.items
+pub none_indexed : (rows : List Row) (index : AuditIndex) → AreAuditShapesOf rows index.shapes.items
     → index.last.items ≡ replicate 4096 None → index.earlier.items ≡ [] → IsAuditIndexUpTo rows 0 index
 none_indexed rows index shapes last earlier = record {
   shapes = shapes;
@@ -146,7 +146,7 @@ none_indexed rows index shapes last earlier = record {
       (let no : slice_get [] k ≡ Some at = ap (λ xs. slice_get xs k) (sym earlier) ∙ got in cc);
 }
 
-module _ (rows : List Row) (bound : ℕ) (row : Row) (at : Option ℕ) (old new : Index)
+module _ (rows : List Row) (bound : ℕ) (row : Row) (at : Option ℕ) (old new : AuditIndex)
     (here : slice_get rows bound ≡ Some row) (is : IsAuditIndexUpTo rows bound old)
     (was : slice_get old.last.items (audit_slot_of_row old.shapes.items row) ≡ Some at)
     (last : new.last.items ≡ set old.last.items (audit_slot_of_row old.shapes.items row) (Some bound))
@@ -217,23 +217,23 @@ module _ (row : Row) (fields : Fields) (hit : Hit) where
   above = option_map_or (λ p. ltb p row.priority) hit.rule true
 
   better_kept : (other : Row) → IsNoHigherAuditRow hit other → IsNoHigherAuditRow (audit_better_index_hit row fields hit) other
-  better_kept other reached = cond_both (above && row_matches row fields) (hit_of (Some row)) hit
+  better_kept other reached = cond_both (above && policy_row_matches row fields) (hit_of (Some row)) hit
       (λ h. IsNoHigherAuditRow h other) (λ yes. less_or hit.rule row.priority other.priority
-      (and_parts above (row_matches row fields) yes).0 reached) (λ no. reached)
+      (and_parts above (policy_row_matches row fields) yes).0 reached) (λ no. reached)
 
-  better_reached : row_matches row fields ≡ true → IsNoHigherAuditRow (audit_better_index_hit row fields hit) row
+  better_reached : policy_row_matches row fields ≡ true → IsNoHigherAuditRow (audit_better_index_hit row fields hit) row
   better_reached matches =
-      cond_both (above && row_matches row fields) (hit_of (Some row)) hit (λ h. IsNoHigherAuditRow h row)
-      (λ yes. omega arith) (λ no. elim (and_cases above (row_matches row fields) no) [
+      cond_both (above && policy_row_matches row fields) (hit_of (Some row)) hit (λ h. IsNoHigherAuditRow h row)
+      (λ yes. omega arith) (λ no. elim (and_cases above (policy_row_matches row fields) no) [
         | inl below ↦ not_less hit.rule row.priority below
-        | inr not ↦ absurd (both_ways (row_matches row fields) not matches)
+        | inr not ↦ absurd (both_ways (policy_row_matches row fields) not matches)
       ])
 
   better_matching : (rows : List Row) → Contains rows row → IsAuditMatchIn rows fields hit
       → IsAuditMatchIn rows fields (audit_better_index_hit row fields hit)
   better_matching rows has matching =
-      cond_both (above && row_matches row fields) (hit_of (Some row)) hit (IsAuditMatchIn rows fields)
-      (λ yes. (row, has, (and_parts above (row_matches row fields) yes).1, refl, refl))
+      cond_both (above && policy_row_matches row fields) (hit_of (Some row)) hit (IsAuditMatchIn rows fields)
+      (λ yes. (row, has, (and_parts above (policy_row_matches row fields) yes).1, refl, refl))
       (λ no. matching)
 
 -- ---- the rows of a slot, from the last one on
@@ -246,7 +246,7 @@ pub record IsWalked (shapes : List Shape) (rows : List Row) (slot : ℕ) (fields
   pub matching : IsAuditMatchIn rows fields first → IsAuditMatchIn rows fields hit
   pub kept : (row : Row) → IsNoHigherAuditRow first row → IsNoHigherAuditRow hit row
   pub reached : (k : ℕ) (row : Row) → bound ≤ k → slice_get rows k ≡ Some row
-      → audit_slot_of_row shapes row ≡ slot → row_matches row fields ≡ true → IsNoHigherAuditRow hit row
+      → audit_slot_of_row shapes row ≡ slot → policy_row_matches row fields ≡ true → IsNoHigherAuditRow hit row
 
 -- the place of the one to look at, and one more
 abbrev pub places_left : Option ℕ → ℕ
@@ -260,7 +260,7 @@ falls shapes rows slot place (Some other) is = omega (arith, is.1)
 
 -- where the next one to look at was read, and its row
 module _ {rows : List Row} {slot : ℕ} {fields : Fields} {first hit : Hit} {at : Option ℕ}
-    {index : Index} (walked : IsWalked index.shapes.items rows slot fields first hit at)
+    {index : AuditIndex} (walked : IsWalked index.shapes.items rows slot fields first hit at)
     (is : IsAuditIndexOf rows index)
     {place : ℕ} (now : at ≡ Some place) {row : Row} (here : row ≡ get_or rows place row)
     {next : Option ℕ} (there : next ≡ get_or index.earlier.items place next) where
@@ -328,7 +328,7 @@ pub record IsSought (shapes : List Shape) (rows : List Row) (fields : Fields) (p
     (hit : Hit) : Type 0 where
   pub matching : IsAuditMatchIn rows fields hit
   pub reached : (k : ℕ) (row : Row) → slice_get rows k ≡ Some row
-      → audit_shape_place shapes row < place → row_matches row fields ≡ true → IsNoHigherAuditRow hit row
+      → audit_shape_place shapes row < place → policy_row_matches row fields ≡ true → IsNoHigherAuditRow hit row
 
 pub sought_more : (shapes : List Shape) (rows : List Row) (fields : Fields) (place : ℕ)
     (shape : Shape) (src dst : ℕ) (hit better : Hit) → IsPolicy rows
@@ -349,7 +349,7 @@ sought_more shapes rows fields place shape src dst hit better policy there s d b
   ];
 }
 
-pub sought_all : (rows : List Row) (fields : Fields) (index : Index) (hit : Hit) → IsAuditIndexOf rows
+pub sought_all : (rows : List Row) (fields : Fields) (index : AuditIndex) (hit : Hit) → IsAuditIndexOf rows
     index → IsSought index.shapes.items rows fields (length index.shapes.items) hit
     → IsBestAuditHit rows fields hit
 sought_all rows fields index hit is sought = record {
@@ -386,13 +386,13 @@ hit_with rule action = record { rule = rule; action = action }
 best_by : (rows : List Row) (header : Header) (rule : Option ℕ) (action : Action) → IsBestAuditHit rows
     (fields_of header) (hit_with rule action) → IsFirstMatch rows header (hit_with rule action)
 best_by rows header None action best =
-    let p : Row → Bool = λ row. row_matches row (fields_of header) in (
+    let p : Row → Bool = λ row. policy_row_matches row (fields_of header) in (
       none_left p (filter p rows) (All-filter p (λ row. p row ≡ true → ⊥) rows best.reached)
           (filter_passes p rows),
       best.matching,
     )
 best_by rows header (Some priority) action best =
-    let p : Row → Bool = λ row. row_matches row (fields_of header) in
+    let p : Row → Bool = λ row. policy_row_matches row (fields_of header) in
     let (row, (k, within, is), matches, names, acts) = best.matching in (
       row,
       record {

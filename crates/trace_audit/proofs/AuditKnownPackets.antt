@@ -4,36 +4,36 @@ use Rattle.std.proofs.Common.{[], ◌++◌, ◌+◌, ◌<◌, ◌==◌, ◌∙�
 use Rattle.update_machine.specs.Exports.{Action, Dropped, End, Ends, Header, Hit, LeftBy, Lost, Machine, PolicyFile, Row, Stuck, machine_with_packet}
 use Rattle.policy_rules.specs.declared.policy.Action.TheVariants as action
 use Rattle.update_machine.specs.Machine.{Packet}
-use Rattle.trace_audit.specs.Exports.{AreGoodTraceLines, AreTraceEndsJustified, TraceDecidesOther, TraceEntersOther, Follows, TraceHasDecision, TraceHasEntered, IsTraceAuditVerdict, IsTraceToldBetween, IsTraceDecidedOnce, IsTraceJustified, IsTraceMark, IsTraceWaiting, Open, ReadsAllTraceLines, TraceRetiresUpTo, Told, TraceLine, TraceState, Whole, all_trace_told, first_trace_state, audit_latest_policy, trace_made_policy, audit_policies_from, audit_policies_told, audit_policies_with}
+use Rattle.trace_audit.specs.Exports.{AreGoodAuditLines, AreTraceEndsJustified, AuditLineDecidesOther, AuditLineEntersOther, Follows, TraceHasDecision, TraceHasEntered, IsTraceAuditVerdict, IsAuditToldBetween, IsTraceDecidedOnce, IsTraceJustified, IsTraceMark, IsTraceWaiting, Open, ReadsAllAuditLines, AuditLineRetiresUpTo, Told, TraceLine, TraceState, Whole, all_trace_told, first_trace_state, audit_latest_policy, audit_made_policy, audit_policies_from, audit_policies_told, audit_policies_with}
 use Rattle.trace_audit.specs.Told as told
 use Rattle.trace_audit.specs.declared.trace.Verdict.{Verdict}
 use Rattle.trace_audit.specs.declared.trace.Verdict.TheVariants.{Yes, No}
 
 -- ---- one more thing told
 
-waits_on : (ts : List Told) (t : Told) (header : Header) → IsTraceToldBetween t → IsTraceWaiting ts header
+waits_on : (ts : List Told) (t : Told) (header : Header) → IsAuditToldBetween t → IsTraceWaiting ts header
     → IsTraceWaiting (ts ++ t ∷ []) header
 waits_on ts t header between w = record {
   before = w.before;
   after = w.after ++ t ∷ [];
   row = cc (w.row, append_assoc w.before (told.Row (Some header) ∷ w.after) (t ∷ []));
-  last = All-push IsTraceToldBetween w.after t w.last between;
+  last = All-push IsAuditToldBetween w.after t w.last between;
 }
 
-entered_on : (ts : List Told) (t : Told) (i : ℕ) (header : Header) (mark : ℕ) → TraceEntersOther i t
+entered_on : (ts : List Told) (t : Told) (i : ℕ) (header : Header) (mark : ℕ) → AuditLineEntersOther i t
     → TraceHasEntered ts i header mark → TraceHasEntered (ts ++ t ∷ []) i header mark
 entered_on ts t i header mark other e = record {
   before = e.before;
   after = e.after ++ t ∷ [];
   entry = ap (λ x. x ++ t ∷ []) e.entry ∙ append_assoc e.before (told.Entered i ∷ e.after) (t ∷ []);
   none_before = e.none_before;
-  none_after = All-push (TraceEntersOther i) e.after t e.none_after other;
+  none_after = All-push (AuditLineEntersOther i) e.after t e.none_after other;
   own_row = e.own_row;
   own_mark = e.own_mark;
 }
 
 decided_on : (files : List PolicyFile) (ts : List Told) (t : Told) (i : ℕ) (action : Action)
-    → TraceDecidesOther i t → TraceHasDecision files ts i action → TraceHasDecision files (ts ++ t ∷ []) i action
+    → AuditLineDecidesOther i t → TraceHasDecision files ts i action → TraceHasDecision files (ts ++ t ∷ []) i action
 decided_on files ts t i action other d = record {
   before = d.before;
   after = d.after ++ t ∷ [];
@@ -43,7 +43,7 @@ decided_on files ts t i action other d = record {
   decision = ap (λ x. x ++ t ∷ []) d.decision
       ∙ append_assoc d.before (told.Decided i d.version d.rule_text d.action_text ∷ d.after) (t ∷ []);
   none_before = d.none_before;
-  none_after = All-push (TraceDecidesOther i) d.after t d.none_after other;
+  none_after = All-push (AuditLineDecidesOther i) d.after t d.none_after other;
   header = d.header;
   mark = d.mark;
   entered = d.entered;
@@ -56,10 +56,10 @@ decided_on files ts t i action other d = record {
   acts = d.acts;
 }
 
-mark_on : (ts : List Told) (t : Told) (mark : ℕ) → TraceRetiresUpTo mark t → IsTraceMark ts mark
+mark_on : (ts : List Told) (t : Told) (mark : ℕ) → AuditLineRetiresUpTo mark t → IsTraceMark ts mark
     → IsTraceMark (ts ++ t ∷ []) mark
 mark_on ts t mark below m = record {
-  greatest = All-push (TraceRetiresUpTo mark) ts t m.greatest below;
+  greatest = All-push (AuditLineRetiresUpTo mark) ts t m.greatest below;
   retired = elim m.retired [
     | inl none ↦ inl none
     | inr there ↦ inr (Contains-append_left ts (t ∷ []) (told.Retired mark) there)
@@ -73,11 +73,11 @@ IsWaitingIf ts None = ⊤
 IsWaitingIf ts (Some header) = IsTraceWaiting ts header
 
 abbrev pub IsDecidedIf : List PolicyFile → List Told → ℕ → Option Hit → Type 0
-IsDecidedIf files ts i None = All (TraceDecidesOther i) ts
+IsDecidedIf files ts i None = All (AuditLineDecidesOther i) ts
 IsDecidedIf files ts i (Some hit) = TraceHasDecision files ts i hit.action
 
 abbrev pub IsPacketIf : List PolicyFile → List Told → ℕ → Option Packet → Type 0
-IsPacketIf files ts i None = All (TraceEntersOther i) ts × All (TraceDecidesOther i) ts
+IsPacketIf files ts i None = All (AuditLineEntersOther i) ts × All (AuditLineDecidesOther i) ts
 IsPacketIf files ts i (Some packet) = TraceHasEntered ts i packet.header packet.entry_mark
     × IsDecidedIf files ts i packet.decision
 
@@ -87,24 +87,24 @@ pub record IsKnown (files : List PolicyFile) (ts : List Told) (state : TraceStat
   pub waits : IsWaitingIf ts state.pending
   pub packets : (i : ℕ) → IsPacketIf files ts i (state.machine.packets i)
 
-waits_on_if : (ts : List Told) (t : Told) (pending : Option Header) → IsTraceToldBetween t
+waits_on_if : (ts : List Told) (t : Told) (pending : Option Header) → IsAuditToldBetween t
     → IsWaitingIf ts pending → IsWaitingIf (ts ++ t ∷ []) pending
 waits_on_if ts t None between w = tt
 waits_on_if ts t (Some header) between w = waits_on ts t header between w
 
 decided_on_if : (files : List PolicyFile) (ts : List Told) (t : Told) (i : ℕ) (o : Option Hit)
-    → TraceDecidesOther i t → IsDecidedIf files ts i o → IsDecidedIf files (ts ++ t ∷ []) i o
-decided_on_if files ts t i None other d = All-push (TraceDecidesOther i) ts t d other
+    → AuditLineDecidesOther i t → IsDecidedIf files ts i o → IsDecidedIf files (ts ++ t ∷ []) i o
+decided_on_if files ts t i None other d = All-push (AuditLineDecidesOther i) ts t d other
 decided_on_if files ts t i (Some hit) other d = decided_on files ts t i hit.action other d
 
 -- neither an entry nor a decision of this packet
 abbrev IsOfOther : ℕ → Told → Type 0
-IsOfOther i t = TraceEntersOther i t × TraceDecidesOther i t
+IsOfOther i t = AuditLineEntersOther i t × AuditLineDecidesOther i t
 
 packet_on : (files : List PolicyFile) (ts : List Told) (t : Told) (i : ℕ) (o : Option Packet)
     → IsOfOther i t → IsPacketIf files ts i o → IsPacketIf files (ts ++ t ∷ []) i o
 packet_on files ts t i None other k =
-    (All-push (TraceEntersOther i) ts t k.0 other.0, All-push (TraceDecidesOther i) ts t k.1 other.1)
+    (All-push (AuditLineEntersOther i) ts t k.0 other.0, All-push (AuditLineDecidesOther i) ts t k.1 other.1)
 packet_on files ts t i (Some p) other k = (
   entered_on ts t i p.header p.entry_mark other.0 k.0,
   decided_on_if files ts t i p.decision other.1 k.1,
@@ -124,7 +124,7 @@ put P packets i p here other j = put_by P packets i p j (j == i) refl here (othe
 
 -- ---- marks and policies
 
-up_to : (m n : ℕ) (t : Told) → m ≤ n → TraceRetiresUpTo m t → TraceRetiresUpTo n t
+up_to : (m n : ℕ) (t : Told) → m ≤ n → AuditLineRetiresUpTo m t → AuditLineRetiresUpTo n t
 up_to m n (told.Retired version) le r = omega arith
 up_to m n (told.Row header) le r = tt
 up_to m n (told.Entered packet) le r = tt
@@ -144,12 +144,12 @@ policies_on : (files : List PolicyFile) (ts : List Told) (t : Told) (old new : L
     → old ≡ audit_policies_told files ts → new ≡ audit_policies_with files old t
     → new ≡ audit_policies_told files (ts ++ t ∷ [])
 policies_on files ts t old new known e = e ∙ ap (λ x. audit_policies_with files x t) known
-    ∙ sym (policies_more files (option_to_list (trace_made_policy files 1 None)) ts t)
+    ∙ sym (policies_more files (option_to_list (audit_made_policy files 1 None)) ts t)
 
 -- the next version's policy is added
 submits_next : (files : List PolicyFile) (policies : List (List Row)) (file version : ℕ)
     (policy : List Row) → version ≡ length policies + 1
-    → trace_made_policy files file (audit_latest_policy policies) ≡ Some policy
+    → audit_made_policy files file (audit_latest_policy policies) ≡ Some policy
     → policies ++ policy ∷ [] ≡ audit_policies_with files policies (told.Submitted file version)
 submits_next files policies file version policy newest there =
     cc (there, eq-eqb version (length policies + 1) newest)
@@ -177,7 +177,7 @@ row_waits : (ts : List Told) (header : Option Header)
     → IsWaitingIf (ts ++ told.Row header ∷ []) header
 row_waits ts None = tt
 row_waits ts (Some header) =
-    record { before = ts; after = []; row = refl; last = All-nil IsTraceToldBetween }
+    record { before = ts; after = []; row = refl; last = All-nil IsAuditToldBetween }
 
 known_at : (files : List PolicyFile) (ts : List Told) (packets : ℕ → Option Packet) (i : ℕ)
     (o : Option Packet) → packets i ≡ o → ((j : ℕ) → IsPacketIf files ts j (packets j))
@@ -186,14 +186,14 @@ known_at files ts packets i o e known = subst (IsPacketIf files ts i) e (known i
 
 module _ (files : List PolicyFile) (ts : List Told) (old new : TraceState) (known : IsKnown files ts old)
   where
-    still_waits : (t : Told) → new.pending ≡ old.pending → IsTraceToldBetween t
+    still_waits : (t : Told) → new.pending ≡ old.pending → IsAuditToldBetween t
         → IsWaitingIf (ts ++ t ∷ []) new.pending
     still_waits t same between = rw same (waits_on_if ts t old.pending between known.waits)
 
     -- behind what only puts a packet
     after_put : (t : Told) (i : ℕ) (p : Packet) → new.machine ≡ machine_with_packet old.machine i p
         → audit_policies_with files old.machine.policies t ≡ old.machine.policies
-        → TraceRetiresUpTo old.machine.mark t → IsWaitingIf (ts ++ t ∷ []) new.pending
+        → AuditLineRetiresUpTo old.machine.mark t → IsWaitingIf (ts ++ t ∷ []) new.pending
         → ((j : ℕ) → (j ≡ i → ⊥) → IsOfOther j t) → IsPacketIf files (ts ++ t ∷ []) i (Some p)
         → IsKnown files (ts ++ t ∷ []) new
     after_put t i p after same below waits other here = record {
@@ -230,11 +230,11 @@ module _ (files : List PolicyFile) (ts : List Told) (old new : TraceState) (know
             after = [];
             entry = refl;
             none_before = none.0;
-            none_after = All-nil (TraceEntersOther i);
+            none_after = All-nil (AuditLineEntersOther i);
             own_row = subst (IsWaitingIf ts) f.1 known.waits;
             own_mark = known.mark;
           },
-          All-push (TraceDecidesOther i) ts t none.1 tt,
+          All-push (AuditLineDecidesOther i) ts t none.1 tt,
         )
 
     after_submitted : (file version : ℕ) → Follows files old (told.Submitted file version) new
@@ -257,8 +257,8 @@ module _ (files : List PolicyFile) (ts : List Told) (old new : TraceState) (know
           policies = policies_on files ts t old.machine.policies new.machine.policies known.policies
               (ap (λ (m : Machine). m.policies) f.0.after);
           mark = subst (λ (m : Machine). IsTraceMark (ts ++ t ∷ []) m.mark) (sym f.0.after) (record {
-            greatest = All-push (TraceRetiresUpTo version) ts t
-                (All-weaker (TraceRetiresUpTo old.machine.mark) (TraceRetiresUpTo version)
+            greatest = All-push (AuditLineRetiresUpTo version) ts t
+                (All-weaker (AuditLineRetiresUpTo old.machine.mark) (AuditLineRetiresUpTo version)
                 (λ x r. up_to old.machine.mark version x (omega arith) r) ts known.mark.greatest)
                 (omega arith);
             retired = inr (Contains-push ts t);
@@ -286,7 +286,7 @@ module _ (files : List PolicyFile) (ts : List Told) (old new : TraceState) (know
             action_text = action;
             decision = refl;
             none_before = (subst (IsDecidedIf files ts i) d.undecided k.1);
-            none_after = All-nil (TraceDecidesOther i);
+            none_after = All-nil (AuditLineDecidesOther i);
             header = d.packet.header;
             mark = d.packet.entry_mark;
             entered = k.0;
@@ -337,7 +337,7 @@ FollowsAll files old (t ∷ ts) new =
     (middle : TraceState) × Follows files old t middle × FollowsAll files middle ts new
 
 pub reads_told : (files : List PolicyFile) (old : TraceState) (lines : List TraceLine) (new : TraceState)
-    → ReadsAllTraceLines files old lines new → FollowsAll files old (all_trace_told lines) new
+    → ReadsAllAuditLines files old lines new → FollowsAll files old (all_trace_told lines) new
 reads_told files old [] new r = r
 reads_told files old (Whole text ∷ lines) new r = rw r.1.1
     (r.0, r.1.2, reads_told files r.0 lines new r.2)
@@ -359,29 +359,29 @@ known_all files ts old (t ∷ more) new r known = rw (append_assoc ts (t ∷ [])
 pub known_first : (files : List PolicyFile) → IsKnown files [] (first_trace_state files)
 known_first files = record {
   policies = refl;
-  mark = record { greatest = All-nil (TraceRetiresUpTo 0); retired = inl refl };
+  mark = record { greatest = All-nil (AuditLineRetiresUpTo 0); retired = inl refl };
   waits = tt;
-  packets = λ i. (All-nil (TraceEntersOther i), All-nil (TraceDecidesOther i));
+  packets = λ i. (All-nil (AuditLineEntersOther i), All-nil (AuditLineDecidesOther i));
 }
 
 -- ---- a second decision
 
 -- what has a decision of the packet isn't free of them
 not_undecided : (files : List PolicyFile) (ts : List Told) (i : ℕ) (a : Action)
-    → TraceHasDecision files ts i a → All (TraceDecidesOther i) ts → ⊥
+    → TraceHasDecision files ts i a → All (AuditLineDecidesOther i) ts → ⊥
 not_undecided files ts i a d none =
     let t = told.Decided i d.version d.rule_text d.action_text in
     let there : Contains (t ∷ d.after) t = (0, omega arith, refl) in
-    All-contains (TraceDecidesOther i) ts t none
+    All-contains (AuditLineDecidesOther i) ts t none
     (rw d.decision (Contains-append_right d.before (t ∷ d.after) t there)) refl
 
 decides_other : (files : List PolicyFile) (ts : List Told) (old : TraceState) (t : Told) (new : TraceState)
     (i : ℕ) (a : Action) → IsKnown files ts old → TraceHasDecision files ts i a → Follows files old t new
-    → TraceDecidesOther i t
+    → AuditLineDecidesOther i t
 decides_other files ts old (told.Decided j version rule action) new i a known d f = λ same.
-    let none : All (TraceDecidesOther j) ts = subst (IsDecidedIf files ts j) f.2.undecided
+    let none : All (AuditLineDecidesOther j) ts = subst (IsDecidedIf files ts j) f.2.undecided
     (known_at files ts old.machine.packets j (Some f.2.packet) f.2.entered known.packets).1 in
-    not_undecided files ts i a d (subst (λ (n : ℕ). All (TraceDecidesOther n) ts) same none)
+    not_undecided files ts i a d (subst (λ (n : ℕ). All (AuditLineDecidesOther n) ts) same none)
 decides_other files ts old (told.Row header) new i a known d f = tt
 decides_other files ts old (told.Entered packet) new i a known d f = tt
 decides_other files ts old (told.Submitted file version) new i a known d f = tt
@@ -391,11 +391,11 @@ decides_other files ts old told.Nothing new i a known d f = tt
 
 none_later : (files : List PolicyFile) (ts : List Told) (old : TraceState) (more : List Told)
     (new : TraceState) (i : ℕ) (a : Action) → IsKnown files ts old → TraceHasDecision files ts i a
-    → FollowsAll files old more new → All (TraceDecidesOther i) more
-none_later files ts old [] new i a known d r = All-nil (TraceDecidesOther i)
+    → FollowsAll files old more new → All (AuditLineDecidesOther i) more
+none_later files ts old [] new i a known d r = All-nil (AuditLineDecidesOther i)
 none_later files ts old (t ∷ more) new i a known d r =
-    let other : TraceDecidesOther i t = decides_other files ts old t r.0 i a known d r.1 in
-    All-cons (TraceDecidesOther i) t more other
+    let other : AuditLineDecidesOther i t = decides_other files ts old t r.0 i a known d r.1 in
+    All-cons (AuditLineDecidesOther i) t more other
     (none_later files (ts ++ t ∷ []) r.0 more new i a (after_told files ts old r.0 known t r.1)
     (decided_on files ts t i a other d) r.2)
 
@@ -419,7 +419,7 @@ module _ (files : List PolicyFile) (before : List Told) (state : TraceState)
       (known_at files before state.machine.packets i (Some e.packet) e.entered known.packets).1
       may in record {
         decided = d;
-        none_later = All-tail (TraceDecidesOther i) (told.Ended i end) after
+        none_later = All-tail (AuditLineDecidesOther i) (told.Ended i end) after
             (none_later files before state (told.Ended i end ∷ after) last i a known d r);
       }
 
@@ -431,7 +431,7 @@ module _ (files : List PolicyFile) (before : List Told) (state : TraceState)
   ends_justified Lost e last r = tt
   ends_justified Stuck e last r = tt
 
-good_justified : (files : List PolicyFile) (lines : List TraceLine) → AreGoodTraceLines files lines
+good_justified : (files : List PolicyFile) (lines : List TraceLine) → AreGoodAuditLines files lines
     → AreTraceEndsJustified files lines
 good_justified files lines good = λ before after i end order.
     let all = subst (λ (ts : List Told). FollowsAll files (first_trace_state files) ts good.0) order

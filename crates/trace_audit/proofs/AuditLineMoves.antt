@@ -2,7 +2,7 @@
 use Rattle.std.proofs.Common.{◌∙◌, ◌≡◌, List, Option, Some, ap, get_or, length, ltb, ltb-true, refl, slice_get, subst, true, ℕ}
 use Rattle.base.proofs.Exports.{same_some, slice_get_read}
 use Rattle.policy_rules.specs.Exports.{IsFirstMatch}
-use Rattle.update_machine.specs.Exports.{Decides, Hit, Machine, Row, submitted_policy}
+use Rattle.update_machine.specs.Exports.{Decides, Hit, Machine, Row, machine_submitted_policy}
 use Rattle.update_machine.specs.Machine.{Packet}
 use Rattle.trace_audit.specs.Exports.{IsPrinted, trace_packets_seen, trace_packets_with_one}
 use Rattle.trace_audit.specs.declared.auditor.Auditor.{Auditor}
@@ -21,7 +21,7 @@ policy_there slice items place rows e within there = subst (λ xs. slice_get xs 
 -- a decision that isn't printed in the texts of the first match is none
 pub not_decided : (old new : Machine) (number version : ℕ) (rule action : List ℕ)
     (packet : Packet) (rows : List Row) (hit g : Hit) → old.packets number ≡ Some packet
-    → submitted_policy old version ≡ Some rows
+    → machine_submitted_policy old version ≡ Some rows
     → ((h : Hit) → IsFirstMatch rows packet.header h → h ≡ hit) → (IsPrinted rule action hit → ⊥)
     → IsPrinted rule action g → Decides old number version g new → ⊥
 not_decided old new number version rule action packet rows hit g there submitted only bad printed d =

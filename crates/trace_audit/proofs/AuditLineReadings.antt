@@ -2,25 +2,25 @@
 use Rattle.std.proofs.Common.{[], ◌++◌, ◌-◌, ◌==◌, ◌∙◌, ◌∷◌, ◌≡◌, All, Bool, Err, IfSome, List, None, Ok, Option, Result, Some, ap, cond, false, length, option_to_list, refl, slice_get, subst, sym, true, ℕ}
 use Rattle.base.proofs.Exports.{All-cons, All-nil, All-push, IfSome-at_place, get_or_from_slice_get, result_ok, same_some, slice_get_within}
 use Rattle.update_machine.specs.Exports.{Decides, End, Ends, MachineEnters, Header, Hit, Inapplicable, Machine, PolicyFile, Row, MachineSubmits, made_by, machine_with_packet}
-use Rattle.policy_rules.specs.Exports.{IsPolicy, IsPolicyOrAmendment}
+use Rattle.policy_rules.specs.Exports.{IsPolicy, IsPolicyRulesOrAmendment}
 use Rattle.policy_rules.specs.declared.file.PolicyFile.TheVariants as file_of
 use Rattle.policy_rules.proofs.PolicyRulesCallerLemmas.{IsPolicy-applied, first_match-only}
 use Rattle.update_machine.specs.Machine.{Packet}
-use Rattle.trace_audit.specs.Exports.{Follows, Open, ReadsAllTraceLines, ReadsTraceLine, Told, TraceLine, TraceState, Whole, first_trace_state, audit_latest_policy, trace_made_policy, trace_numbered_file}
+use Rattle.trace_audit.specs.Exports.{Follows, Open, ReadsAllAuditLines, ReadsAuditLine, Told, TraceLine, TraceState, Whole, first_trace_state, audit_latest_policy, audit_made_policy, trace_numbered_file}
 use Rattle.trace_audit.specs.Told as told
 
 -- ---- some lines and more
 
 pub reads_join : (files : List PolicyFile) (old middle new : TraceState) (lines more : List TraceLine)
-    → ReadsAllTraceLines files old lines middle → ReadsAllTraceLines files middle more new
-    → ReadsAllTraceLines files old (lines ++ more) new
-reads_join files old middle new [] more r s = subst (λ state. ReadsAllTraceLines files state more new) r s
+    → ReadsAllAuditLines files old lines middle → ReadsAllAuditLines files middle more new
+    → ReadsAllAuditLines files old (lines ++ more) new
+reads_join files old middle new [] more r s = subst (λ state. ReadsAllAuditLines files state more new) r s
 reads_join files old middle new (line ∷ lines) more r s =
     (r.0, r.1, reads_join files r.0 middle new lines more r.2 s)
 
 pub reads_split : (files : List PolicyFile) (old new : TraceState) (lines more : List TraceLine)
-    → ReadsAllTraceLines files old (lines ++ more) new
-    → (middle : TraceState) × ReadsAllTraceLines files old lines middle × ReadsAllTraceLines files middle more new
+    → ReadsAllAuditLines files old (lines ++ more) new
+    → (middle : TraceState) × ReadsAllAuditLines files old lines middle × ReadsAllAuditLines files middle more new
 reads_split files old new [] more r = (old, refl, r)
 reads_split files old new (line ∷ lines) more r =
     let w = reads_split files r.0 new lines more r.2 in (w.0, (r.0, r.1, w.1), w.2)
@@ -34,7 +34,7 @@ policy_in policies place rows sound e = rw (get_or_from_slice_get policies place
 
 -- what a file makes of a policy, or of none, is one
 sound_by : (file : Option PolicyFile) (newest : Option (List Row)) (rows : List Row)
-    → IfSome file IsPolicyOrAmendment → IfSome newest IsPolicy → made_by file newest ≡ Ok rows
+    → IfSome file IsPolicyRulesOrAmendment → IfSome newest IsPolicy → made_by file newest ≡ Ok rows
     → IsPolicy rows
 sound_by None newest rows own sound made = absurd cc
 sound_by (Some (file_of.Whole given)) newest rows own sound made =
@@ -43,11 +43,11 @@ sound_by (Some (file_of.Change edits)) None rows own sound made = absurd cc
 sound_by (Some (file_of.Change edits)) (Some old) rows own sound made =
     IsPolicy-applied old rows edits sound own made
 
-file_by : (files : List PolicyFile) (file : ℕ) (zero : Bool) → All IsPolicyOrAmendment files
-    → IfSome (cond zero None (slice_get files (file - 1))) IsPolicyOrAmendment
+file_by : (files : List PolicyFile) (file : ℕ) (zero : Bool) → All IsPolicyRulesOrAmendment files
+    → IfSome (cond zero None (slice_get files (file - 1))) IsPolicyRulesOrAmendment
 file_by files file true own = tt
 file_by files file false own =
-    IfSome-at_place IsPolicyOrAmendment files (file - 1) (slice_get files (file - 1)) own refl
+    IfSome-at_place IsPolicyRulesOrAmendment files (file - 1) (slice_get files (file - 1)) own refl
 
 ok_of : (made : Result (List Row) Inapplicable) (rows : List Row) → result_ok made ≡ Some rows
     → made ≡ Ok rows
@@ -55,7 +55,7 @@ ok_of (Ok given) rows e = let same : given ≡ rows = cc in ap Ok same
 ok_of (Err why) rows e = absurd cc
 
 made_in : (files : List PolicyFile) (file : ℕ) (newest : Option (List Row)) (rows : List Row)
-    → All IsPolicyOrAmendment files → IfSome newest IsPolicy → trace_made_policy files file newest ≡ Some rows
+    → All IsPolicyRulesOrAmendment files → IfSome newest IsPolicy → audit_made_policy files file newest ≡ Some rows
     → IsPolicy rows
 made_in files file newest rows own sound e =
     sound_by (trace_numbered_file files file) newest rows (file_by files file (file == 0) own) sound
@@ -75,7 +75,7 @@ policies_stay : (old new : TraceState) → new.machine.policies ≡ old.machine.
 policies_stay old new e sound = subst (All IsPolicy) (sym e) sound
 
 follows_sound : (files : List PolicyFile) (old : TraceState) (t : Told) (new : TraceState)
-    → All IsPolicyOrAmendment files → ArePolicies old → Follows files old t new → ArePolicies new
+    → All IsPolicyRulesOrAmendment files → ArePolicies old → Follows files old t new → ArePolicies new
 follows_sound files old (told.Row header) new own sound f =
     policies_stay old new (ap (λ s. s.machine.policies) f) sound
 follows_sound files old (told.Entered packet) new own sound f =
@@ -150,28 +150,28 @@ follows_one files old (told.Ended packet end) a b sound r s =
 follows_one files old told.Nothing a b sound r s = r ∙ sym s
 
 pub line_one : (files : List PolicyFile) (old : TraceState) (line : TraceLine) (a b : TraceState) → ArePolicies old
-    → ReadsTraceLine files old line a → ReadsTraceLine files old line b → a ≡ b
+    → ReadsAuditLine files old line a → ReadsAuditLine files old line b → a ≡ b
 line_one files old (Whole text) a b sound r s = follows_one files old r.0 a b sound r.2
     (subst (λ t. Follows files old t b) (same_some s.0 r.0 _ s.1 r.1) s.2)
 line_one files old (Open text) a b sound r s = absurd r
 
 line_sound : (files : List PolicyFile) (old : TraceState) (line : TraceLine) (new : TraceState)
-    → All IsPolicyOrAmendment files → ArePolicies old → ReadsTraceLine files old line new → ArePolicies new
+    → All IsPolicyRulesOrAmendment files → ArePolicies old → ReadsAuditLine files old line new → ArePolicies new
 line_sound files old (Whole text) new own sound r = follows_sound files old r.0 new own sound r.2
 line_sound files old (Open text) new own sound r = absurd r
 
-pub first_sound : (files : List PolicyFile) → All IsPolicyOrAmendment files → ArePolicies (first_trace_state files)
-first_sound files own = by (trace_made_policy files 1 None) refl where
-  by : (made : Option (List Row)) → trace_made_policy files 1 None ≡ made
+pub first_sound : (files : List PolicyFile) → All IsPolicyRulesOrAmendment files → ArePolicies (first_trace_state files)
+first_sound files own = by (audit_made_policy files 1 None) refl where
+  by : (made : Option (List Row)) → audit_made_policy files 1 None ≡ made
       → All IsPolicy (option_to_list made)
   by None e = All-nil IsPolicy
   by (Some rows) e =
       All-cons IsPolicy rows [] (made_in files 1 None rows own tt e) (All-nil IsPolicy)
 
 pub reads_one : (files : List PolicyFile) (old : TraceState) (lines : List TraceLine) (a b : TraceState)
-    → All IsPolicyOrAmendment files → ArePolicies old → ReadsAllTraceLines files old lines a → ReadsAllTraceLines files old lines b
+    → All IsPolicyRulesOrAmendment files → ArePolicies old → ReadsAllAuditLines files old lines a → ReadsAllAuditLines files old lines b
     → a ≡ b
 reads_one files old [] a b own sound r s = r ∙ sym s
 reads_one files old (line ∷ lines) a b own sound r s =
     reads_one files r.0 lines a b own (line_sound files old line r.0 own sound r.1) r.2
-    (subst (λ m. ReadsAllTraceLines files m lines b) (line_one files old line s.0 r.0 sound s.1 r.1) s.2)
+    (subst (λ m. ReadsAllAuditLines files m lines b) (line_one files old line s.0 r.0 sound s.1 r.1) s.2)

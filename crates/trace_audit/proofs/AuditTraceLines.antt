@@ -3,7 +3,7 @@ use Rattle.std.proofs.Common.{[], ◌<◌, ◌==◌, ◌∙◌, ◌∷◌, ◌�
 use Rattle.base.proofs.Exports.{length-slice_split, onto_first}
 use Rattle.five_tuple.specs.Exports.{text_parts_round_byte}
 use Rattle.update_machine.specs.Exports.{PolicyFile}
-use Rattle.trace_audit.specs.Exports.{Follows, IsTraceLineRead, IsTraceLineTaken, Open, Told, TraceState, Whole, begins_with, trace_decided_told, indented_told, is_trace_row_number, item_told, lines_of, trace_lines_of_parts, open_trace_line, trace_silent_told, trace_told_by_words, told_of}
+use Rattle.trace_audit.specs.Exports.{Follows, IsTraceLineRead, IsTraceLineTaken, Open, Told, TraceState, Whole, begins_with, audit_decided_told, audit_indented_told, is_trace_row_number, audit_item_told, lines_of, trace_lines_of_parts, open_trace_line, audit_silent_told, audit_told_by_words, told_of}
 
 -- ---- parts
 
@@ -84,14 +84,14 @@ either_way false t = refl
 -- a line that begins with no word of these is bad
 pub other_line : (words : List (List ℕ)) → begins_with [] words ≡ false
     → begins_with (codes "row") words ≡ false → begins_with (codes "meter") words ≡ false
-    → begins_with (codes "quiet") words ≡ false → trace_told_by_words words ≡ None
+    → begins_with (codes "quiet") words ≡ false → audit_told_by_words words ≡ None
 other_line [] blank row meter quiet = refl
 other_line (word ∷ []) blank row meter quiet = simp either_way
 other_line (word ∷ next ∷ more) blank row meter quiet = rw (blank, row, meter, quiet) refl
 
 -- a decision that names no rule, or not what decided, is bad
 pub no_rule : (packet version : List ℕ) (words : List (List ℕ))
-    → begins_with (codes "rule") words ≡ false → trace_decided_told (packet ∷ version ∷ words) ≡ None
+    → begins_with (codes "rule") words ≡ false → audit_decided_told (packet ∷ version ∷ words) ≡ None
 no_rule packet version (word ∷ rule ∷ action ∷ how ∷ more ∷ others) e = rw e refl
 no_rule packet version (word ∷ rule ∷ action ∷ how ∷ []) e = refl
 no_rule packet version (word ∷ rule ∷ action ∷ []) e = refl
@@ -101,7 +101,7 @@ no_rule packet version [] e = refl
 
 pub no_how : (packet version rule action : List ℕ) (words : List (List ℕ))
     → begins_with (codes "authority") words ≡ false → begins_with (codes "cache") words ≡ false
-    → trace_decided_told (packet ∷ version ∷ codes "rule" ∷ rule ∷ action ∷ words) ≡ None
+    → audit_decided_told (packet ∷ version ∷ codes "rule" ∷ rule ∷ action ∷ words) ≡ None
 no_how packet version rule action (how ∷ more ∷ others) authority cache = rw (authority, cache) refl
 no_how packet version rule action (how ∷ []) authority cache = refl
 no_how packet version rule action [] authority cache = refl
@@ -111,8 +111,8 @@ pub other_item : (words : List (List ℕ)) → begins_with (codes "decided") wor
     → begins_with (codes "entered") words ≡ false → begins_with (codes "dropped") words ≡ false
     → begins_with (codes "out") words ≡ false → begins_with (codes "submitted") words ≡ false
     → begins_with (codes "retired") words ≡ false → begins_with (codes "lost") words ≡ false
-    → begins_with (codes "stuck") words ≡ false → indented_told ([] ∷ words) ≡ trace_silent_told words
-unfolding item_told
+    → begins_with (codes "stuck") words ≡ false → audit_indented_told ([] ∷ words) ≡ audit_silent_told words
+unfolding audit_item_told
 other_item [] decided entered dropped out submitted retired lost stuck = refl
 other_item (word ∷ []) decided entered dropped out submitted retired lost stuck = simp either_way
 other_item (word ∷ next ∷ more) decided entered dropped out submitted retired lost stuck =

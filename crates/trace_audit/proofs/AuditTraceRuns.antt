@@ -3,7 +3,7 @@ use Rattle.std.proofs.Common.{[], ◌++◌, ◌∷◌, ◌≡◌, List, None, ap
 use Rattle.five_tuple.specs.Exports.{header_of}
 use Rattle.update_machine.specs.Exports.{Cached, Dropped, Exit, Item, Leaving, LeftBy, Lost, Machine, NoRoute, PolicyFile, Runs, Setting, Stuck}
 use Rattle.journal.specs.declared.item.Item.TheVariants as item
-use Rattle.trace_audit.specs.Exports.{AreGoodTraceLines, AreTraceItems, AreTraceLineItems, AreTraceRun, Follows, IsTraceAuditVerdict, Told, TraceLine, TraceState, all_trace_told, first_trace_state}
+use Rattle.trace_audit.specs.Exports.{AreGoodAuditLines, AreTraceItems, AreTraceLineItems, AreAuditedTraceRun, Follows, IsTraceAuditVerdict, Told, TraceLine, TraceState, all_trace_told, first_trace_state}
 use Rattle.trace_audit.specs.Told as told
 use Rattle.trace_audit.specs.declared.trace.Verdict.{Verdict}
 use Rattle.trace_audit.specs.declared.trace.Verdict.TheVariants.{Yes, No}
@@ -82,7 +82,7 @@ module _ (files : List PolicyFile) where
             (first.2 setting same) (others.2 setting same),
       )
 
-good_run : (files : List PolicyFile) (lines : List TraceLine) → AreGoodTraceLines files lines → AreTraceRun files lines
+good_run : (files : List PolicyFile) (lines : List TraceLine) → AreGoodAuditLines files lines → AreAuditedTraceRun files lines
 good_run files lines good =
     let w = told_run files [] (first_trace_state files) (all_trace_told lines) good.0 (known_first files)
     (reads_told files (first_trace_state files) lines good.0 good.1) in record {
@@ -96,6 +96,6 @@ good_run files lines good =
     }
 
 pub verdict_run : (files : List PolicyFile) (lines : List TraceLine) (verdict : Verdict)
-    → IsTraceAuditVerdict files lines verdict → verdict ≡ Yes → AreTraceRun files lines
+    → IsTraceAuditVerdict files lines verdict → verdict ≡ Yes → AreAuditedTraceRun files lines
 verdict_run files lines Yes v e = good_run files lines v
 verdict_run files lines (No line) v e = absurd cc

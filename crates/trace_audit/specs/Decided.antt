@@ -3,20 +3,20 @@ use Rattle.std.specs.Prelude.{[], if◌then◌else◌, ◌++◌, ◌+◌, ◌-�
 use Rattle.update_machine.specs.Exports.{Action, Dropped, End, Header, Hit, LeftBy, PolicyFile, Row}
 use Rattle.policy_rules.specs.Exports.{IsFirstMatch}
 use Rattle.policy_rules.specs.declared.policy.Action.TheVariants as action
-use Rattle.trace_audit.specs.Reading.{IsPrinted, TraceLine, Open, Whole, audit_latest_policy, trace_made_policy}
+use Rattle.trace_audit.specs.Reading.{IsPrinted, TraceLine, Open, Whole, audit_latest_policy, audit_made_policy}
 use Rattle.trace_audit.specs.Told.{Told, told_of}
 use Rattle.trace_audit.specs.Told as told
 
 -- ---- what lines say
 
-abbrev pub with_trace_told : Option Told → List Told → List Told
-with_trace_told None more = more
-with_trace_told (Some first) more = first ∷ more
+abbrev pub with_audit_told : Option Told → List Told → List Told
+with_audit_told None more = more
+with_audit_told (Some first) more = first ∷ more
 
 -- what these lines say, in order; each good line says one thing
 abbrev pub all_trace_told : List TraceLine → List Told
 all_trace_told [] = []
-all_trace_told (Whole text ∷ lines) = with_trace_told (told_of text) (all_trace_told lines)
+all_trace_told (Whole text ∷ lines) = with_audit_told (told_of text) (all_trace_told lines)
 all_trace_told (Open text ∷ lines) = all_trace_told lines
 
 -- ---- versions
@@ -25,7 +25,7 @@ all_trace_told (Open text ∷ lines) = all_trace_told lines
 -- that its file makes
 abbrev pub audit_policies_with : List PolicyFile → List (List Row) → Told → List (List Row)
 audit_policies_with files policies (told.Submitted file version) = if version == length policies + 1
-    then policies ++ option_to_list (trace_made_policy files file (audit_latest_policy policies)) else policies
+    then policies ++ option_to_list (audit_made_policy files file (audit_latest_policy policies)) else policies
 audit_policies_with files policies _ = policies
 
 abbrev pub audit_policies_from : List PolicyFile → List (List Row) → List Told → List (List Row)
@@ -35,50 +35,50 @@ audit_policies_from files policies (first ∷ more) =
 
 -- the policy of the first file, and then those that these lines submit, by version
 abbrev pub audit_policies_told : List PolicyFile → List Told → List (List Row)
-audit_policies_told files ts = audit_policies_from files (option_to_list (trace_made_policy files 1 None)) ts
+audit_policies_told files ts = audit_policies_from files (option_to_list (audit_made_policy files 1 None)) ts
 
 -- the line retires no version above this one
-abbrev pub TraceRetiresUpTo : ℕ → Told → Type 0
-TraceRetiresUpTo mark (told.Retired version) = version ≤ mark
-TraceRetiresUpTo mark _ = ⊤
+abbrev pub AuditLineRetiresUpTo : ℕ → Told → Type 0
+AuditLineRetiresUpTo mark (told.Retired version) = version ≤ mark
+AuditLineRetiresUpTo mark _ = ⊤
 
 -- the mark after these lines: the greatest version that they retire, or 0
 pub record IsTraceMark (ts : List Told) (mark : ℕ) : Type 0 where
-  pub greatest : All (TraceRetiresUpTo mark) ts
+  pub greatest : All (AuditLineRetiresUpTo mark) ts
   pub retired : (mark ≡ 0) ⊎ Contains ts (told.Retired mark)
 
 -- ---- packets
 
 -- the line is neither a row nor an entry
-abbrev pub IsTraceToldBetween : Told → Type 0
-IsTraceToldBetween (told.Row header) = ⊥
-IsTraceToldBetween (told.Entered packet) = ⊥
-IsTraceToldBetween _ = ⊤
+abbrev pub IsAuditToldBetween : Told → Type 0
+IsAuditToldBetween (told.Row header) = ⊥
+IsAuditToldBetween (told.Entered packet) = ⊥
+IsAuditToldBetween _ = ⊤
 
 -- the line is no entry of this packet
-abbrev pub TraceEntersOther : ℕ → Told → Type 0
-TraceEntersOther packet (told.Entered other) = other ≢ packet
-TraceEntersOther packet _ = ⊤
+abbrev pub AuditLineEntersOther : ℕ → Told → Type 0
+AuditLineEntersOther packet (told.Entered other) = other ≢ packet
+AuditLineEntersOther packet _ = ⊤
 
 -- the line is no decision of this packet
-abbrev pub TraceDecidesOther : ℕ → Told → Type 0
-TraceDecidesOther packet (told.Decided other version rule action) = other ≢ packet
-TraceDecidesOther packet _ = ⊤
+abbrev pub AuditLineDecidesOther : ℕ → Told → Type 0
+AuditLineDecidesOther packet (told.Decided other version rule action) = other ≢ packet
+AuditLineDecidesOther packet _ = ⊤
 
 -- the last row is a packet's, with this header, and no packet entered since
 pub record IsTraceWaiting (ts : List Told) (header : Header) : Type 0 where
   pub before : List Told
   pub after : List Told
   pub row : ts ≡ before ++ told.Row (Some header) ∷ after
-  pub last : All IsTraceToldBetween after
+  pub last : All IsAuditToldBetween after
 
 -- the packet entered once, after its own row with this header, under this mark
 pub record TraceHasEntered (ts : List Told) (packet : ℕ) (header : Header) (mark : ℕ) : Type 0 where
   pub before : List Told
   pub after : List Told
   pub entry : ts ≡ before ++ told.Entered packet ∷ after
-  pub none_before : All (TraceEntersOther packet) before
-  pub none_after : All (TraceEntersOther packet) after
+  pub none_before : All (AuditLineEntersOther packet) before
+  pub none_after : All (AuditLineEntersOther packet) after
   pub own_row : IsTraceWaiting before header
   pub own_mark : IsTraceMark before mark
 
@@ -92,8 +92,8 @@ pub record TraceHasDecision (files : List PolicyFile) (ts : List Told) (packet :
   pub rule_text : List ℕ
   pub action_text : List ℕ
   pub decision : ts ≡ before ++ told.Decided packet version rule_text action_text ∷ after
-  pub none_before : All (TraceDecidesOther packet) before
-  pub none_after : All (TraceDecidesOther packet) after
+  pub none_before : All (AuditLineDecidesOther packet) before
+  pub none_after : All (AuditLineDecidesOther packet) after
   pub header : Header
   pub mark : ℕ
   pub entered : TraceHasEntered before packet header mark
@@ -109,7 +109,7 @@ pub record TraceHasDecision (files : List PolicyFile) (ts : List Told) (packet :
 pub record IsTraceDecidedOnce (files : List PolicyFile) (before after : List Told) (packet : ℕ)
     (action : Action) : Type 0 where
   pub decided : TraceHasDecision files before packet action
-  pub none_later : All (TraceDecidesOther packet) after
+  pub none_later : All (AuditLineDecidesOther packet) after
 
 -- a packet that the lines say is dropped, or out by a port, was decided like that
 abbrev pub IsTraceJustified : List PolicyFile → List Told → List Told → ℕ → End → Type 0

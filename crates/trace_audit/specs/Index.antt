@@ -2,8 +2,8 @@
 use Rattle.std.specs.Prelude.{if◌then◌else◌, ◌%◌, ◌&&◌, ◌*◌, ◌+◌, ◌/◌, ◌<◌, ◌==◌, ◌^◌, ◌≡◌, ◌≢◌, ◌≤◌, All, Bool, Contains, List, MatchOption, None, Option, Some, length, nat_lt, slice_get, true, ℕ}
 use Rattle.base.specs.Exports.{option_map_or, position_or_len}
 use Rattle.update_machine.specs.Exports.{Drop, Fields, Hit, Row}
-use Rattle.policy_rules.specs.Exports.{hit_of, row_matches}
-use Rattle.trace_audit.specs.declared.index.Index.{Index}
+use Rattle.policy_rules.specs.Exports.{hit_of, policy_row_matches}
+use Rattle.trace_audit.specs.declared.index.AuditIndex.{AuditIndex}
 use Rattle.trace_audit.specs.declared.index.Shape.{Shape}
 
 -- ---- shapes
@@ -64,7 +64,7 @@ IsAuditRowLastBefore shapes rows slot bound (Some place) = (row : Row) × (place
     × AuditRowsLackSlot shapes rows slot (place + 1) bound
 
 -- the index has the rows before this bound
-pub record IsAuditIndexUpTo (rows : List Row) (bound : ℕ) (index : Index) : Type 0 where
+pub record IsAuditIndexUpTo (rows : List Row) (bound : ℕ) (index : AuditIndex) : Type 0 where
   pub shapes : AreAuditShapesOf rows index.shapes.items
   pub slots : length index.last.items ≡ 4096
   pub last : (slot : ℕ) (at : Option ℕ) → slice_get index.last.items slot ≡ Some at
@@ -74,7 +74,7 @@ pub record IsAuditIndexUpTo (rows : List Row) (bound : ℕ) (index : Index) : Ty
       → slice_get index.earlier.items k ≡ Some at
       → IsAuditRowLastBefore index.shapes.items rows (audit_slot_of_row index.shapes.items row) k at
 
-abbrev pub IsAuditIndexOf : List Row → Index → Type 0
+abbrev pub IsAuditIndexOf : List Row → AuditIndex → Type 0
 IsAuditIndexOf rows index = IsAuditIndexUpTo rows (length rows) index
 
 -- ---- the best of some rows
@@ -82,7 +82,7 @@ IsAuditIndexOf rows index = IsAuditIndexUpTo rows (length rows) index
 -- the hit is a matching row's, or the default
 abbrev pub IsAuditMatchIn : List Row → Fields → Hit → Type 0
 IsAuditMatchIn rows fields hit = MatchOption hit.rule (hit.action ≡ Drop)
-    (λ priority. (row : Row) × Contains rows row × (row_matches row fields ≡ true)
+    (λ priority. (row : Row) × Contains rows row × (policy_row_matches row fields ≡ true)
     × (row.priority ≡ priority) × (row.action ≡ hit.action))
 
 -- the row has no greater priority than the hit
@@ -93,7 +93,7 @@ IsNoHigherAuditRow hit row = MatchOption hit.rule ⊥ (λ priority. row.priority
 abbrev pub audit_better_index_hit : Row → Fields → Hit → Hit
 audit_better_index_hit row fields hit =
     if option_map_or (λ priority. nat_lt priority row.priority) hit.rule true
-    && row_matches row fields then hit_of (Some row) else hit
+    && policy_row_matches row fields then hit_of (Some row) else hit
 
 -- the hit is at least as good as the first one and as each matching row of the slot
 pub record IsBetterAuditHit (shapes : List Shape) (rows : List Row) (slot : ℕ) (fields : Fields)
@@ -101,9 +101,9 @@ pub record IsBetterAuditHit (shapes : List Shape) (rows : List Row) (slot : ℕ)
   pub matching : IsAuditMatchIn rows fields first → IsAuditMatchIn rows fields hit
   pub kept : (row : Row) → IsNoHigherAuditRow first row → IsNoHigherAuditRow hit row
   pub reached : (k : ℕ) (row : Row) → slice_get rows k ≡ Some row
-      → audit_slot_of_row shapes row ≡ slot → row_matches row fields ≡ true → IsNoHigherAuditRow hit row
+      → audit_slot_of_row shapes row ≡ slot → policy_row_matches row fields ≡ true → IsNoHigherAuditRow hit row
 
 -- a matching row's hit, or the default; no matching row has a greater priority
 pub record IsBestAuditHit (rows : List Row) (fields : Fields) (hit : Hit) : Type 0 where
   pub matching : IsAuditMatchIn rows fields hit
-  pub reached : All (λ row. row_matches row fields ≡ true → IsNoHigherAuditRow hit row) rows
+  pub reached : All (λ row. policy_row_matches row fields ≡ true → IsNoHigherAuditRow hit row) rows

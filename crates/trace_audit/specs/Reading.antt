@@ -15,8 +15,8 @@ abbrev pub trace_numbered_file : List PolicyFile → ℕ → Option PolicyFile
 trace_numbered_file files file = if file == 0 then None else slice_get files (file - 1)
 
 -- the policy that the file of this number has, or makes of the newest one, if there is one
-abbrev pub trace_made_policy : List PolicyFile → ℕ → Option (List Row) → Option (List Row)
-trace_made_policy files file newest = result_ok (made_by (trace_numbered_file files file) newest)
+abbrev pub audit_made_policy : List PolicyFile → ℕ → Option (List Row) → Option (List Row)
+audit_made_policy files file newest = result_ok (made_by (trace_numbered_file files file) newest)
 
 abbrev pub audit_latest_policy : List (List Row) → Option (List Row)
 audit_latest_policy policies = slice_get policies (length policies - 1)
@@ -32,7 +32,7 @@ pub record TraceState : Type 0 where
 abbrev pub first_trace_state : List PolicyFile → TraceState
 first_trace_state files = record {
   machine = record {
-    policies = option_to_list (trace_made_policy files 1 None);
+    policies = option_to_list (audit_made_policy files 1 None);
     mark = 0;
     packets = λ _. None;
   };
@@ -50,7 +50,7 @@ Follows files old (told.Row header) new = new ≡ record old { pending = header 
 Follows files old (told.Entered packet) new = (header : Header) × (old.pending ≡ Some header)
     × MachineEnters old.machine packet header new.machine × (new.pending ≡ None)
 Follows files old (told.Submitted file version) new =
-    MachineSubmits old.machine version (trace_made_policy files file (audit_latest_policy old.machine.policies))
+    MachineSubmits old.machine version (audit_made_policy files file (audit_latest_policy old.machine.policies))
     new.machine
     × (version ≤ most_journal_versions) × (new.pending ≡ old.pending)
 Follows files old (told.Retired version) new =
@@ -83,20 +83,20 @@ unfoldable pub lines_of : List ℕ → List TraceLine
 lines_of trace = trace_lines_of_parts (text_parts_round_byte 10 trace)
 
 -- a good line leads from one state to another; one without its line feed is bad
-abbrev pub ReadsTraceLine : List PolicyFile → TraceState → TraceLine → TraceState → Type 0
-ReadsTraceLine files old (Whole text) new =
+abbrev pub ReadsAuditLine : List PolicyFile → TraceState → TraceLine → TraceState → Type 0
+ReadsAuditLine files old (Whole text) new =
     (told : Told) × (told_of text ≡ Some told) × Follows files old told new
-ReadsTraceLine files old (Open text) new = ⊥
+ReadsAuditLine files old (Open text) new = ⊥
 
-abbrev pub IsGoodTraceLine : List PolicyFile → TraceState → TraceLine → Type 0
-IsGoodTraceLine files old line = (new : TraceState) × ReadsTraceLine files old line new
+abbrev pub IsGoodAuditLine : List PolicyFile → TraceState → TraceLine → Type 0
+IsGoodAuditLine files old line = (new : TraceState) × ReadsAuditLine files old line new
 
 -- good lines, one after another
-abbrev pub ReadsAllTraceLines : List PolicyFile → TraceState → List TraceLine → TraceState → Type 0
-ReadsAllTraceLines files old [] new = new ≡ old
-ReadsAllTraceLines files old (line ∷ lines) new =
-    (middle : TraceState) × ReadsTraceLine files old line middle × ReadsAllTraceLines files middle lines new
+abbrev pub ReadsAllAuditLines : List PolicyFile → TraceState → List TraceLine → TraceState → Type 0
+ReadsAllAuditLines files old [] new = new ≡ old
+ReadsAllAuditLines files old (line ∷ lines) new =
+    (middle : TraceState) × ReadsAuditLine files old line middle × ReadsAllAuditLines files middle lines new
 
 -- all these lines are good, from the beginning on
-abbrev pub AreGoodTraceLines : List PolicyFile → List TraceLine → Type 0
-AreGoodTraceLines files lines = (new : TraceState) × ReadsAllTraceLines files (first_trace_state files) lines new
+abbrev pub AreGoodAuditLines : List PolicyFile → List TraceLine → Type 0
+AreGoodAuditLines files lines = (new : TraceState) × ReadsAllAuditLines files (first_trace_state files) lines new

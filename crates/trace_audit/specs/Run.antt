@@ -1,6 +1,6 @@
 -- The moves that the lines of a trace state, as items of a journal.
 use Rattle.std.specs.Prelude.{[], ◌++◌, ◌∷◌, ◌≡◌, List, ℕ}
-use Rattle.update_machine.specs.Exports.{Cause, Dropped, Header, Hit, How, IsRun, Item, Leaving, LeftBy, Leg, Lost, PolicyFile, Setting, Stuck}
+use Rattle.update_machine.specs.Exports.{Cause, Dropped, Header, Hit, How, IsMachineRun, Item, Leaving, LeftBy, Leg, Lost, PolicyFile, Setting, Stuck}
 use Rattle.journal.specs.declared.item.Item.TheVariants as item
 use Rattle.trace_audit.specs.Decided.{IsTraceWaiting, all_trace_told}
 use Rattle.trace_audit.specs.Reading.{IsPrinted, TraceLine}
@@ -34,7 +34,7 @@ AreTraceItems before (first ∷ more) items = (front rest : List Item) × (items
 
 -- the moves that the lines state are a run of the machine that has these files of policies and
 -- changes, on whatever network
-pub record AreTraceRun (files : List PolicyFile) (lines : List TraceLine) : Type 0 where
+pub record AreAuditedTraceRun (files : List PolicyFile) (lines : List TraceLine) : Type 0 where
   pub moves : List Item
   pub told : AreTraceItems [] (all_trace_told lines) moves
-  pub run : (setting : Setting) → setting.files ≡ files → IsRun setting moves
+  pub run : (setting : Setting) → setting.files ≡ files → IsMachineRun setting moves

@@ -4,7 +4,7 @@ use Rattle.base.specs.Exports.{get, nat_cmp, option_or}
 use Rattle.five_tuple.specs.Exports.{header_of}
 use Rattle.update_machine.specs.Exports.{Action, Drop, Dropped, End, Hit, LeftBy, Lost, Out, PolicyFile, Stuck}
 use Rattle.update_machine.specs.Machine.{Packet}
-use Rattle.trace_audit.specs.Reading.{Follows, TraceLine, ReadsTraceLine, TraceState}
+use Rattle.trace_audit.specs.Reading.{Follows, TraceLine, ReadsAuditLine, TraceState}
 use Rattle.trace_audit.specs.Told.{Told}
 use Rattle.trace_audit.specs.Told as told
 use Rattle.trace_audit.specs.declared.auditor.Auditor.{Auditor}
@@ -12,7 +12,7 @@ use Rattle.trace_audit.specs.declared.packets.PacketEnd.{PacketEnd}
 use Rattle.trace_audit.specs.declared.packets.PacketEnd.TheVariants.{Going, AsDecided}
 use Rattle.trace_audit.specs.declared.packets.PacketEnd.TheVariants as ending
 use Rattle.trace_audit.specs.declared.packets.TracePacket.{TracePacket}
-use Rattle.trace_audit.specs.declared.packets.Packets.{Packets}
+use Rattle.trace_audit.specs.declared.packets.AuditedPackets.{AuditedPackets}
 use Rattle.trace_audit.specs.declared.packets.DecidedBy.{DecidedBy}
 use Rattle.trace_audit.specs.declared.packets.DecidedBy.TheVariants.{Undecided, Default, Row}
 use Rattle.trace_audit.specs.declared.told.End as code_end
@@ -57,8 +57,8 @@ trace_ending_by AsDecided action = Some (trace_end_by action)
 trace_ending_by ending.Lost action = Some Lost
 trace_ending_by ending.Stuck action = Some Stuck
 
-abbrev pub trace_packet_seen : TracePacket → Packet
-trace_packet_seen p = record {
+abbrev pub audit_packet_seen : TracePacket → Packet
+audit_packet_seen p = record {
   header = header_of (record {
     src = p.src;
     dst = p.dst;
@@ -76,8 +76,8 @@ abbrev pub trace_run_get : {A : Type 0} → ℕ → List A → ℕ → Option A
 trace_run_get first run number = if nat_le first number then slice_get run (number - first) else None
 
 -- the packet that is known by this number, if one is: in the run, or else among the others
-abbrev pub trace_packets_seen : Packets → ℕ → Option Packet
-trace_packets_seen p number = option_map trace_packet_seen
+abbrev pub trace_packets_seen : AuditedPackets → ℕ → Option Packet
+trace_packets_seen p number = option_map audit_packet_seen
     (option_or (trace_run_get p.first p.run.items number) (get nat_cmp p.others number))
 
 -- the machine, and the pending header
@@ -103,4 +103,4 @@ IsTraceLineTaken files old told new good = MatchBool good
 -- the same for a line
 abbrev pub IsTraceLineRead : List PolicyFile → TraceState → TraceLine → TraceState → Bool → Type 0
 IsTraceLineRead files old line new good = MatchBool good
-    (ReadsTraceLine files old line new) ((other : TraceState) → ReadsTraceLine files old line other → ⊥)
+    (ReadsAuditLine files old line new) ((other : TraceState) → ReadsAuditLine files old line other → ⊥)

@@ -55,12 +55,12 @@ IsTraceWordTaken word old new = (next : List ℕ) × (more : List (List ℕ))
     × (old ≡ word ∷ next ∷ more) × (new ≡ next ∷ more)
 
 -- the first word was taken, and `said` is whether it passes the test
-abbrev pub TakesTraceWord : List (List ℕ) → (List ℕ → Bool) → List (List ℕ) → Bool → Type 0
-TakesTraceWord old passes new said = (next : List ℕ) × (old ≡ next ∷ new) × (said ≡ passes next)
+abbrev pub TakesAuditWord : List (List ℕ) → (List ℕ → Bool) → List (List ℕ) → Bool → Type 0
+TakesAuditWord old passes new said = (next : List ℕ) × (old ≡ next ∷ new) × (said ≡ passes next)
 
 -- there is no word, or more than one
-abbrev pub IsNoSingleTraceWord : List (List ℕ) → Type 0
-IsNoSingleTraceWord words = (words ≡ []) ⊎ ((one : List ℕ) × (two : List ℕ) × (more : List (List ℕ))
+abbrev pub IsNoSingleAuditWord : List (List ℕ) → Type 0
+IsNoSingleAuditWord words = (words ≡ []) ⊎ ((one : List ℕ) × (two : List ℕ) × (more : List (List ℕ))
     × (words ≡ one ∷ two ∷ more))
 
 -- the number of a packet, a file or a version
@@ -77,72 +77,72 @@ abbrev pub is_trace_row_number : List (List ℕ) → Bool
 is_trace_row_number (number ∷ [] ∷ []) = option_map_or (nat_le 1) (number_up_to max_events number) false
 is_trace_row_number _ = false
 
-abbrev pub trace_pair_told : (ℕ → ℕ → Told) → Option ℕ → Option ℕ → Option Told
-trace_pair_told told (Some one) (Some two) = Some (told one two)
-trace_pair_told told _ _ = None
+abbrev pub audit_pair_told : (ℕ → ℕ → Told) → Option ℕ → Option ℕ → Option Told
+audit_pair_told told (Some one) (Some two) = Some (told one two)
+audit_pair_told told _ _ = None
 
 -- ---- rows
 
 -- the words of `row R: packet S SRC DST SPORT DPORT PROTO` after `packet`
-abbrev pub trace_packet_row_told : List ℕ → List (List ℕ) → Option Told
-trace_packet_row_told row (switch ∷ src ∷ dst ∷ sport ∷ dport ∷ proto ∷ []) =
+abbrev pub audit_packet_row_told : List ℕ → List (List ℕ) → Option Told
+audit_packet_row_told row (switch ∷ src ∷ dst ∷ sport ∷ dport ∷ proto ∷ []) =
     if is_trace_row_number (text_parts_round_byte 58 row) && is_name switch
     then option_map (λ fields. Row (Some (header_of fields)))
     (tuple_fields_of src dst sport dport proto) else None
-trace_packet_row_told row _ = None
+audit_packet_row_told row _ = None
 
 -- a row of another kind may have any form
-abbrev pub trace_row_told : List (List ℕ) → Option Told
-trace_row_told (row ∷ kind ∷ fields) =
-    if bytes_eq kind (codes "packet") then trace_packet_row_told row fields else Some (Row None)
-trace_row_told (row ∷ []) = Some (Row None)
-trace_row_told [] = None
+abbrev pub audit_row_told : List (List ℕ) → Option Told
+audit_row_told (row ∷ kind ∷ fields) =
+    if bytes_eq kind (codes "packet") then audit_packet_row_told row fields else Some (Row None)
+audit_row_told (row ∷ []) = Some (Row None)
+audit_row_told [] = None
 
 -- ---- moves, by the words after the first one
 
 -- `entered I S`
-abbrev pub trace_entered_told : List (List ℕ) → Option Told
-trace_entered_told (packet ∷ switch ∷ []) =
+abbrev pub audit_entered_told : List (List ℕ) → Option Told
+audit_entered_told (packet ∷ switch ∷ []) =
     if is_name switch then option_map Entered (trace_number_of_word packet) else None
-trace_entered_told _ = None
+audit_entered_told _ = None
 
 -- `submitted file F version V`
-abbrev pub trace_submitted_told : List (List ℕ) → Option Told
-trace_submitted_told (first ∷ file ∷ second ∷ version ∷ []) =
+abbrev pub audit_submitted_told : List (List ℕ) → Option Told
+audit_submitted_told (first ∷ file ∷ second ∷ version ∷ []) =
     if bytes_eq first (codes "file") && bytes_eq second (codes "version")
-    then trace_pair_told Submitted (trace_number_of_word file) (trace_number_of_word version) else None
-trace_submitted_told _ = None
+    then audit_pair_told Submitted (trace_number_of_word file) (trace_number_of_word version) else None
+audit_submitted_told _ = None
 
 -- `retired V`
-abbrev pub trace_retired_told : List (List ℕ) → Option Told
-trace_retired_told (version ∷ []) = option_map Retired (trace_number_of_word version)
-trace_retired_told _ = None
+abbrev pub audit_retired_told : List (List ℕ) → Option Told
+audit_retired_told (version ∷ []) = option_map Retired (trace_number_of_word version)
+audit_retired_told _ = None
 
 -- `decided I vV rule RULE ACTION cache ` or with ` authority `, and any bytes
-abbrev pub trace_decided_told : List (List ℕ) → Option Told
-trace_decided_told (packet ∷ version ∷ word ∷ rule ∷ action ∷ how ∷ more ∷ others) =
+abbrev pub audit_decided_told : List (List ℕ) → Option Told
+audit_decided_told (packet ∷ version ∷ word ∷ rule ∷ action ∷ how ∷ more ∷ others) =
     if bytes_eq word (codes "rule") && (bytes_eq how (codes "cache") || bytes_eq how (codes "authority"))
-    then trace_pair_told (λ i v. Decided i v rule action) (trace_number_of_word packet) (trace_version_of_word version)
+    then audit_pair_told (λ i v. Decided i v rule action) (trace_number_of_word packet) (trace_version_of_word version)
     else None
-trace_decided_told _ = None
+audit_decided_told _ = None
 
 -- `dropped I`, `lost I`
-abbrev pub trace_ended_told : End → List (List ℕ) → Option Told
-trace_ended_told end (packet ∷ []) = option_map (λ i. Ended i end) (trace_number_of_word packet)
-trace_ended_told end _ = None
+abbrev pub audit_ended_told : End → List (List ℕ) → Option Told
+audit_ended_told end (packet ∷ []) = option_map (λ i. Ended i end) (trace_number_of_word packet)
+audit_ended_told end _ = None
 
 -- `out I port P`
-abbrev pub trace_left_told : List (List ℕ) → Option Told
-trace_left_told (packet ∷ word ∷ port ∷ []) =
+abbrev pub audit_left_told : List (List ℕ) → Option Told
+audit_left_told (packet ∷ word ∷ port ∷ []) =
     if bytes_eq word (codes "port")
-    then trace_pair_told (λ i p. Ended i (LeftBy p)) (trace_number_of_word packet) (number_up_to 4294967295 port)
+    then audit_pair_told (λ i p. Ended i (LeftBy p)) (trace_number_of_word packet) (number_up_to 4294967295 port)
     else None
-trace_left_told _ = None
+audit_left_told _ = None
 
 -- `stuck I ` and any bytes
-abbrev pub trace_stuck_told : List (List ℕ) → Option Told
-trace_stuck_told (packet ∷ more ∷ others) = option_map (λ i. Ended i Stuck) (trace_number_of_word packet)
-trace_stuck_told _ = None
+abbrev pub audit_stuck_told : List (List ℕ) → Option Told
+audit_stuck_told (packet ∷ more ∷ others) = option_map (λ i. Ended i Stuck) (trace_number_of_word packet)
+audit_stuck_told _ = None
 
 -- ---- lines
 
@@ -152,50 +152,50 @@ any_told (more ∷ others) = Some Nothing
 any_told [] = None
 
 -- nothing follows
-abbrev pub alone_told : List (List ℕ) → Option Told
-alone_told [] = Some Nothing
-alone_told _ = None
+abbrev pub audit_alone_told : List (List ℕ) → Option Told
+audit_alone_told [] = Some Nothing
+audit_alone_told _ = None
 
 -- the first words of items that are no moves
-abbrev pub silent_words : List (List ℕ)
-silent_words = codes "closed" ∷ codes "tunnelled" ∷ codes "exit" ∷ codes "hopped" ∷ codes "found"
+abbrev pub audit_silent_words : List (List ℕ)
+audit_silent_words = codes "closed" ∷ codes "tunnelled" ∷ codes "exit" ∷ codes "hopped" ∷ codes "found"
     ∷ codes "rerouted" ∷ codes "sent" ∷ codes "delivered" ∷ codes "forgotten" ∷ codes "expired"
     ∷ codes "refused" ∷ codes "current" ∷ codes "booted" ∷ codes "opened" ∷ codes "down"
     ∷ codes "over" ∷ codes "link" ∷ []
 
 -- an item that is no move
-abbrev pub trace_silent_told : List (List ℕ) → Option Told
-trace_silent_told (word ∷ args) =
-    if bytes_eq word (codes "nothing") then alone_told args else
-    if list_any (bytes_eq word) silent_words then any_told args else None
-trace_silent_told [] = None
+abbrev pub audit_silent_told : List (List ℕ) → Option Told
+audit_silent_told (word ∷ args) =
+    if bytes_eq word (codes "nothing") then audit_alone_told args else
+    if list_any (bytes_eq word) audit_silent_words then any_told args else None
+audit_silent_told [] = None
 
 -- an item, by its word and the words after it
-unfoldable pub item_told : List ℕ → List (List ℕ) → Option Told
-item_told word args =
-    if bytes_eq word (codes "nothing") then alone_told args else
-    if bytes_eq word (codes "entered") then trace_entered_told args else
-    if bytes_eq word (codes "submitted") then trace_submitted_told args else
-    if bytes_eq word (codes "retired") then trace_retired_told args else
-    if bytes_eq word (codes "decided") then trace_decided_told args else
-    if bytes_eq word (codes "dropped") then trace_ended_told Dropped args else
-    if bytes_eq word (codes "out") then trace_left_told args else
-    if bytes_eq word (codes "lost") then trace_ended_told Lost args else
-    if bytes_eq word (codes "stuck") then trace_stuck_told args else
-    if list_any (bytes_eq word) silent_words then any_told args else None
+unfoldable pub audit_item_told : List ℕ → List (List ℕ) → Option Told
+audit_item_told word args =
+    if bytes_eq word (codes "nothing") then audit_alone_told args else
+    if bytes_eq word (codes "entered") then audit_entered_told args else
+    if bytes_eq word (codes "submitted") then audit_submitted_told args else
+    if bytes_eq word (codes "retired") then audit_retired_told args else
+    if bytes_eq word (codes "decided") then audit_decided_told args else
+    if bytes_eq word (codes "dropped") then audit_ended_told Dropped args else
+    if bytes_eq word (codes "out") then audit_left_told args else
+    if bytes_eq word (codes "lost") then audit_ended_told Lost args else
+    if bytes_eq word (codes "stuck") then audit_stuck_told args else
+    if list_any (bytes_eq word) audit_silent_words then any_told args else None
 
 -- after a first empty word: an item follows two blanks
-abbrev pub indented_told : List (List ℕ) → Option Told
-indented_told (second ∷ word ∷ args) = if bytes_eq second [] then item_told word args else None
-indented_told _ = None
+abbrev pub audit_indented_told : List (List ℕ) → Option Told
+audit_indented_told (second ∷ word ∷ args) = if bytes_eq second [] then audit_item_told word args else None
+audit_indented_told _ = None
 
-abbrev pub trace_told_by_words : List (List ℕ) → Option Told
-trace_told_by_words (first ∷ args) =
-    if bytes_eq first (codes "row") then trace_row_told args else
+abbrev pub audit_told_by_words : List (List ℕ) → Option Told
+audit_told_by_words (first ∷ args) =
+    if bytes_eq first (codes "row") then audit_row_told args else
     if bytes_eq first (codes "meter") || bytes_eq first (codes "quiet") then any_told args else
-    if bytes_eq first [] then indented_told args else None
-trace_told_by_words [] = None
+    if bytes_eq first [] then audit_indented_told args else None
+audit_told_by_words [] = None
 
 -- what a line says; none if it is bad whatever precedes it
 unfoldable pub told_of : List ℕ → Option Told
-told_of line = trace_told_by_words (words_of line)
+told_of line = audit_told_by_words (words_of line)

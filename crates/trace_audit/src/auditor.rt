@@ -3,13 +3,13 @@ ghost use Rattle.std.specs.Result.{result_ok};
 ghost use Rattle.policy_rules.specs.Applied.{applied};
 ghost use Rattle.policy_rules.specs.declared.file.PolicyFile.{PolicyFile};
 ghost use Rattle.update_machine.specs.Machine.{MachinePacketMayEnd};
-ghost use Rattle.trace_audit.specs.Reading.{trace_numbered_file, first_trace_state, audit_latest_policy, trace_made_policy};
+ghost use Rattle.trace_audit.specs.Reading.{trace_numbered_file, first_trace_state, audit_latest_policy, audit_made_policy};
 ghost use Rattle.update_machine.specs.Setting.{made_by};
-ghost use Rattle.trace_audit.specs.Seen.{IsTraceLineTaken, trace_end_seen, trace_packet_seen, trace_state_seen, trace_told_seen};
+ghost use Rattle.trace_audit.specs.Seen.{IsTraceLineTaken, trace_end_seen, audit_packet_seen, trace_state_seen, trace_told_seen};
 ghost use Rattle.trace_audit.specs.Told as told;
 
-use crate::index::IndexedPolicy;
-use crate::packets::{Packets, TracePacket};
+use crate::index::IndexedAuditPolicy;
+use crate::packets::{AuditedPackets, TracePacket};
 use crate::printed::is_printed_in_trace;
 use crate::told::{End, LineMeaning};
 use base::MAX_VERSIONS;
@@ -20,24 +20,24 @@ use std::alloc::{AllocError, Global};
 /// mark, the packets, and the pending header of a packet's row.
 #[derive(Drop)]
 pub(crate) struct Auditor {
-    policies: Vec<IndexedPolicy>,
+    policies: Vec<IndexedAuditPolicy>,
     mark: u32,
-    packets: Packets,
+    packets: AuditedPackets,
     pending: Option<Header>,
 }
 
 /// The policy that the file of this number has, or makes of the newest one, if there is one.
 #[tactic(auto, using(crate::proofs::AuditMadePolicies::policy_of, crate::proofs::AuditMadePolicies::no_policy))]
-fn trace_made_policy(
+fn audit_made_policy(
     alloc: Global,
     files: &[PolicyFile],
     file: u32,
     newest: Option<&Policy>,
 ) -> Result<Option<Policy>, AllocError>
-    ensures { IfOk result (λ made. made ≡ trace_made_policy files.now file (option_copied newest.entry)) }
+    ensures { IfOk result (λ made. made ≡ audit_made_policy files.now file (option_copied newest.entry)) }
 {
     match trace_numbered_file(files, file) {
-        Some(file) => made_by(alloc, file, newest),
+        Some(file) => audit_policy_made_by(alloc, file, newest),
         None => Ok(None),
     }
 }
@@ -53,7 +53,7 @@ fn trace_numbered_file(files: &[PolicyFile], file: u32) -> Option<&PolicyFile>
 }
 
 // The policy that the file has, or makes of the newest one; `None` if it makes none.
-fn made_by(
+fn audit_policy_made_by(
     alloc: Global,
     file: &PolicyFile,
     newest: Option<&Policy>,
@@ -91,13 +91,13 @@ impl Auditor {
         ensures { IfOk result (λ auditor. trace_state_seen auditor ≡ first_trace_state files.now) }
     {
         let mut policies = Vec::new(alloc);
-        if let Some(policy) = trace_made_policy(alloc, files, 1, None)? {
-            policies.push(IndexedPolicy::new(alloc, policy)?)?;
+        if let Some(policy) = audit_made_policy(alloc, files, 1, None)? {
+            policies.push(IndexedAuditPolicy::new(alloc, policy)?)?;
         }
         Ok(Auditor {
             policies,
             mark: 0,
-            packets: Packets::new(alloc),
+            packets: AuditedPackets::new(alloc),
             pending: None,
         })
     }
@@ -140,10 +140,10 @@ impl Auditor {
         if version > MAX_VERSIONS || version as usize != self.policies.len() + 1 {
             return Ok(false);
         }
-        match trace_made_policy(alloc, files, file, self.newest())? {
+        match audit_made_policy(alloc, files, file, self.newest())? {
             None => Ok(false),
             Some(policy) => {
-                self.policies.push(IndexedPolicy::new(alloc, policy)?)?;
+                self.policies.push(IndexedAuditPolicy::new(alloc, policy)?)?;
                 Ok(true)
             }
         }
@@ -194,7 +194,7 @@ impl Auditor {
         let Some(packet) = self.packets.get(number) else {
             return Ok(false);
         };
-        if packet.has_ended() || !may_end(&packet, end) {
+        if packet.has_ended() || !may_trace_packet_end(&packet, end) {
             return Ok(false);
         }
         self.packets.put(number, packet.ended(end))?;
@@ -234,8 +234,8 @@ impl Auditor {
 }
 
 // Whether the packet may end like this.
-fn may_end(packet: &TracePacket, end: End) -> bool
-    ensures { IsTrue result ↔ MachinePacketMayEnd (trace_packet_seen packet.now) (trace_end_seen end) }
+fn may_trace_packet_end(packet: &TracePacket, end: End) -> bool
+    ensures { IsTrue result ↔ MachinePacketMayEnd (audit_packet_seen packet.now) (trace_end_seen end) }
 {
     match end {
         End::Dropped => packet.action() == Some(Action::Drop),

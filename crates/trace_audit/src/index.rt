@@ -27,7 +27,7 @@ const ROWS_A_SHAPE: usize = 16;
 /// Search"). Each shape has its own share of the slots, and a header is looked up in one slot of
 /// each share. So it is compared with no row twice, whatever the rows are.
 #[derive(Drop)]
-pub(crate) struct Index {
+pub(crate) struct AuditIndex {
     // The shapes of the rows, each once.
     shapes: Vec<Shape>,
     // For each slot its last row, by its place in the policy.
@@ -38,12 +38,12 @@ pub(crate) struct Index {
 
 /// A submitted policy, with an index of its rows if they have few shapes. Contracts see the rows.
 #[derive(Drop)]
-pub(crate) struct IndexedPolicy {
+pub(crate) struct IndexedAuditPolicy {
     policy: Policy,
-    index: Option<Index>,
+    index: Option<AuditIndex>,
 }
 
-impl Model for IndexedPolicy {
+impl Model for IndexedAuditPolicy {
     ghost use Rattle.std.specs.Prelude.{List, IfSome};
     ghost use Rattle.policy_rules.specs.declared.policy.Row.{Row};
     ghost use Rattle.trace_audit.specs.Index.{IsAuditIndexOf};
@@ -56,7 +56,7 @@ impl Model for IndexedPolicy {
 }
 
 // The slot of blocks that begin with these addresses, of the shape at this place.
-fn slot(shapes: &[Shape], place: usize, src: u32, dst: u32) -> usize
+fn audit_index_slot(shapes: &[Shape], place: usize, src: u32, dst: u32) -> usize
     requires { place < length shapes.now }
     ensures slot { result ≡ audit_index_slot_of (length shapes.now) place src dst }
     ensures bound { result < 4096 }
@@ -83,7 +83,7 @@ fn audit_slot_of_row(shapes: &[Shape], row: &Row) -> usize
     ensures bound { result < 4096 }
 {
     let place = place_of(shapes, Shape::of(row)).unwrap();
-    slot(shapes, place, row.src.address, row.dst.address)
+    audit_index_slot(shapes, place, row.src.address, row.dst.address)
 }
 
 // The better of the row, if it matches, and the hit.
@@ -123,7 +123,7 @@ fn note(shapes: &mut Vec<Shape>, shape: Shape) -> Result<(), AllocError>
 }
 
 // The shapes of the rows; `None` if there are too many of them for an index.
-fn row_shapes_of(alloc: Global, rows: &[Row]) -> Result<Option<Vec<Shape>>, AllocError>
+fn audit_row_shapes_of(alloc: Global, rows: &[Row]) -> Result<Option<Vec<Shape>>, AllocError>
     requires { IsPolicy rows.now }
     ensures { IfOk result (λ some. IfSome some (λ shapes. AreAuditShapesOf rows.now shapes.items)) }
 {
@@ -138,12 +138,12 @@ fn row_shapes_of(alloc: Global, rows: &[Row]) -> Result<Option<Vec<Shape>>, Allo
     Ok(Some(shapes))
 }
 
-impl Index {
-    fn new(alloc: Global, shapes: Vec<Shape>) -> Result<Index, AllocError>
+impl AuditIndex {
+    fn new(alloc: Global, shapes: Vec<Shape>) -> Result<AuditIndex, AllocError>
         ensures { (rows : List Row) → AreAuditShapesOf rows shapes.items
             → IfOk result (IsAuditIndexUpTo rows 0) }
     {
-        Ok(Index {
+        Ok(AuditIndex {
             shapes,
             last: vec![in alloc; None; SLOTS]?,
             earlier: Vec::new(alloc),
@@ -164,14 +164,14 @@ impl Index {
     }
 
     // An index of the rows, if they have few shapes: with more, a scan costs less.
-    fn of(alloc: Global, rows: &[Row]) -> Result<Option<Index>, AllocError>
+    fn of(alloc: Global, rows: &[Row]) -> Result<Option<AuditIndex>, AllocError>
         requires { IsPolicy rows.now }
         ensures { IfOk result (λ some. IfSome some (IsAuditIndexOf rows.now)) }
     {
-        let Some(shapes) = row_shapes_of(alloc, rows)? else {
+        let Some(shapes) = audit_row_shapes_of(alloc, rows)? else {
             return Ok(None);
         };
-        let mut index = Index::new(alloc, shapes)?;
+        let mut index = AuditIndex::new(alloc, shapes)?;
         for place in 0..rows.len() as u32 {
             index.add(rows, place)?;
         }
@@ -203,23 +203,23 @@ impl Index {
         for (place, shape) in self.shapes.iter().enumerate() {
             let src = Prefix::new(fields.src, shape.src);
             let dst = Prefix::new(fields.dst, shape.dst);
-            let slot = slot(&self.shapes, place, src.address, dst.address);
+            let slot = audit_index_slot(&self.shapes, place, src.address, dst.address);
             best = self.best_in(rows, slot, fields, best);
         }
         best
     }
 }
 
-impl IndexedPolicy {
+impl IndexedAuditPolicy {
     /// The policy with an index of its rows, if they have few shapes.
     ///
     /// # Errors
     /// Only out of memory.
-    pub fn new(alloc: Global, policy: Policy) -> Result<IndexedPolicy, AllocError>
+    pub fn new(alloc: Global, policy: Policy) -> Result<IndexedAuditPolicy, AllocError>
         ensures { IfOk result (λ version. version ≡ policy) }
     {
-        let index = Index::of(alloc, policy.rows())?;
-        Ok(IndexedPolicy { policy, index })
+        let index = AuditIndex::of(alloc, policy.rows())?;
+        Ok(IndexedAuditPolicy { policy, index })
     }
 
     /// The policy itself.

@@ -1,4 +1,5 @@
-//! A checker of printed traces: whether the abstract machine allows the text of a journal.
+//! A checker of printed traces, line by line and word by word: whether the abstract machine allows
+//! the text of a journal.
 //!
 //! `audit` reads a trace line by line. What a line says is defined by its first words
 //! (`specs/Told.antt`); a line is good if the machine may take the move that it states

@@ -1,6 +1,6 @@
 ghost use Rattle.std.specs.Prelude.{◌≡◌, None, OnOk, Some, is_some, option_map};
 ghost use Rattle.update_machine.specs.Machine.{MachinePacketMayEnd};
-ghost use Rattle.trace_audit.specs.Seen.{trace_action_seen, trace_end_seen, trace_packet_seen, trace_packets_seen, trace_run_get, trace_packets_with_one};
+ghost use Rattle.trace_audit.specs.Seen.{trace_action_seen, trace_end_seen, audit_packet_seen, trace_packets_seen, trace_run_get, trace_packets_with_one};
 
 use crate::told::End;
 use five_tuple::{Fields, Header};
@@ -53,7 +53,7 @@ const _: () = prove!(size_of::<TracePacket>() <= 28);
 impl TracePacket {
     /// A packet that entered with this header under this mark.
     pub fn new(header: Header, mark: u32) -> TracePacket
-        ensures { trace_packet_seen result ≡
+        ensures { audit_packet_seen result ≡
             record { header = header; entry_mark = mark; decision = None; end = None } }
     {
         let fields = header.fields();
@@ -74,7 +74,7 @@ impl TracePacket {
 
     /// Its header.
     pub fn header(&self) -> Header
-        ensures { result ≡ (trace_packet_seen self.now).header }
+        ensures { result ≡ (audit_packet_seen self.now).header }
     {
         Header::pack(&Fields {
             src: self.src,
@@ -87,7 +87,7 @@ impl TracePacket {
 
     /// The mark when it entered.
     pub fn entry_mark(&self) -> u32
-        ensures { result ≡ (trace_packet_seen self.now).entry_mark }
+        ensures { result ≡ (audit_packet_seen self.now).entry_mark }
     {
         self.entry_mark
     }
@@ -105,7 +105,7 @@ impl TracePacket {
 
     /// The action of its decision, if it has one.
     pub fn action(&self) -> Option<Action>
-        ensures { result ≡ option_map (λ hit. hit.action) (trace_packet_seen self.now).decision }
+        ensures { result ≡ option_map (λ hit. hit.action) (audit_packet_seen self.now).decision }
     {
         match self.rule {
             DecidedBy::Undecided => None,
@@ -115,7 +115,7 @@ impl TracePacket {
 
     /// Whether it has ended.
     pub fn has_ended(&self) -> bool
-        ensures { result ≡ is_some (trace_packet_seen self.now).end }
+        ensures { result ≡ is_some (audit_packet_seen self.now).end }
     {
         match self.ending {
             PacketEnd::Going => false,
@@ -125,8 +125,8 @@ impl TracePacket {
 
     /// The packet with this decision.
     pub fn decided(self, hit: Hit) -> TracePacket
-        requires { (trace_packet_seen self).end ≡ None }
-        ensures { trace_packet_seen result ≡ record (trace_packet_seen self) { decision = Some hit } }
+        requires { (audit_packet_seen self).end ≡ None }
+        ensures { audit_packet_seen result ≡ record (audit_packet_seen self) { decision = Some hit } }
     {
         let (rule, priority) = match hit.rule {
             Some(priority) => (DecidedBy::Row, priority),
@@ -147,8 +147,8 @@ impl TracePacket {
 
     /// The packet with this end.
     pub fn ended(self, end: End) -> TracePacket
-        requires { MachinePacketMayEnd (trace_packet_seen self) (trace_end_seen end) }
-        ensures { trace_packet_seen result ≡ record (trace_packet_seen self) { end = Some (trace_end_seen end) } }
+        requires { MachinePacketMayEnd (audit_packet_seen self) (trace_end_seen end) }
+        ensures { audit_packet_seen result ≡ record (audit_packet_seen self) { end = Some (trace_end_seen end) } }
     {
         let ending = match end {
             End::Dropped | End::LeftBy(_) => PacketEnd::AsDecided,
@@ -161,7 +161,7 @@ impl TracePacket {
 
 /// The packets by their numbers.
 #[derive(Drop)]
-pub(crate) struct Packets {
+pub(crate) struct AuditedPackets {
     // The number of the first packet of the run.
     first: u32,
     // Packets whose numbers follow one another, as in the trace of a replay.
@@ -170,12 +170,12 @@ pub(crate) struct Packets {
     others: BTreeMap<u32, TracePacket>,
 }
 
-impl Packets {
+impl AuditedPackets {
     /// No packets.
-    pub fn new(alloc: Global) -> Packets
+    pub fn new(alloc: Global) -> AuditedPackets
         ensures { trace_packets_seen result ≡ (λ _. None) }
     {
-        Packets {
+        AuditedPackets {
             first: 0,
             run: Vec::new(alloc),
             others: BTreeMap::new(alloc),
@@ -192,7 +192,7 @@ impl Packets {
 
     /// The packet of this number, if there is one.
     pub fn get(&self, number: u32) -> Option<TracePacket>
-        ensures { option_map trace_packet_seen result ≡ trace_packets_seen self.now number }
+        ensures { option_map audit_packet_seen result ≡ trace_packets_seen self.now number }
     {
         match self.in_run(number) {
             Some(packet) => Some(packet),
@@ -205,7 +205,7 @@ impl Packets {
     /// # Errors
     /// Only out of memory.
     pub fn put(&mut self, number: u32, packet: TracePacket) -> Result<(), AllocError>
-        ensures { OnOk result (trace_packets_seen self.new ≡ trace_packets_with_one (trace_packets_seen self.old) number (trace_packet_seen packet)) }
+        ensures { OnOk result (trace_packets_seen self.new ≡ trace_packets_with_one (trace_packets_seen self.old) number (audit_packet_seen packet)) }
     {
         if self.run.is_empty() {
             self.first = number;

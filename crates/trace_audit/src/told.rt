@@ -3,10 +3,10 @@ ghost use Rattle.std.specs.List.{list_any};
 ghost use Rattle.five_tuple.specs.Texts.{number_up_to, text_parts_round_byte};
 ghost use Rattle.update_machine.specs.Machine as machine;
 ghost use Rattle.trace_audit.specs.Seen.{trace_end_seen, trace_told_seen};
-ghost use Rattle.trace_audit.specs.Told.{begins_with, trace_decided_told, trace_ended_told, trace_entered_told, indented_told, is_trace_row_number, trace_left_told, trace_number_of_word, trace_packet_row_told, trace_retired_told, trace_row_told, trace_silent_told, trace_stuck_told, trace_submitted_told, told_of, trace_version_of_word};
+ghost use Rattle.trace_audit.specs.Told.{begins_with, audit_decided_told, audit_ended_told, audit_entered_told, audit_indented_told, is_trace_row_number, audit_left_told, trace_number_of_word, audit_packet_row_told, audit_retired_told, audit_row_told, audit_silent_told, audit_stuck_told, audit_submitted_told, told_of, trace_version_of_word};
 
-use crate::words::{Words, cut_trace_text_near};
-use five_tuple::{Header, read_fields, read_number};
+use crate::words::{Words, cut_audit_text_near};
+use five_tuple::{Header, read_number, read_tuple_fields};
 use net_file::is_name;
 use steps::{MAX_EVENTS, MAX_NUMBER};
 
@@ -67,7 +67,7 @@ fn version(word: &[u8]) -> Option<u32>
 fn is_trace_row_number(word: &[u8]) -> bool
     ensures { result ≡ is_trace_row_number (text_parts_round_byte 58 word.now) }
 {
-    let Some((digits, rest)) = cut_trace_text_near(word, b':') else {
+    let Some((digits, rest)) = cut_audit_text_near(word, b':') else {
         return false;
     };
     if !rest.is_empty() {
@@ -81,8 +81,8 @@ fn is_trace_row_number(word: &[u8]) -> bool
 
 // ---- rows
 
-fn read_packet_row<'a>(row: &[u8], mut words: Words<'a>) -> Option<LineMeaning<'a>>
-    ensures { option_map trace_told_seen result ≡ trace_packet_row_told row.now words.entry }
+fn read_trace_packet_row<'a>(row: &[u8], mut words: Words<'a>) -> Option<LineMeaning<'a>>
+    ensures { option_map trace_told_seen result ≡ audit_packet_row_told row.now words.entry }
 {
     let switch = words.next()?;
     let src = words.next()?;
@@ -93,18 +93,18 @@ fn read_packet_row<'a>(row: &[u8], mut words: Words<'a>) -> Option<LineMeaning<'
     if !is_trace_row_number(row) || !is_name(switch) {
         return None;
     }
-    let fields = read_fields(src, dst, sport, dport, proto)?;
+    let fields = read_tuple_fields(src, dst, sport, dport, proto)?;
     Some(LineMeaning::Row(Some(Header::pack(&fields))))
 }
 
 // If this and others below were inlined, the loop over the lines would be slower.
 #[inline(never)]
-fn read_row<'a>(mut words: Words<'a>) -> Option<LineMeaning<'a>>
-    ensures { option_map trace_told_seen result ≡ trace_row_told words.entry }
+fn read_trace_row<'a>(mut words: Words<'a>) -> Option<LineMeaning<'a>>
+    ensures { option_map trace_told_seen result ≡ audit_row_told words.entry }
 {
     let row = words.next()?;
     match words.next_is(b"packet".as_slice()) {
-        Some(true) => read_packet_row(row, words),
+        Some(true) => read_trace_packet_row(row, words),
         Some(false) | None => Some(LineMeaning::Row(None)),
     }
 }
@@ -113,7 +113,7 @@ fn read_row<'a>(mut words: Words<'a>) -> Option<LineMeaning<'a>>
 
 #[inline(never)]
 fn read_entered<'a>(mut words: Words<'a>) -> Option<LineMeaning<'a>>
-    ensures { option_map trace_told_seen result ≡ trace_entered_told words.entry }
+    ensures { option_map trace_told_seen result ≡ audit_entered_told words.entry }
 {
     let packet = words.next()?;
     let switch = words.last()?;
@@ -124,7 +124,7 @@ fn read_entered<'a>(mut words: Words<'a>) -> Option<LineMeaning<'a>>
 }
 
 fn read_submitted<'a>(mut words: Words<'a>) -> Option<LineMeaning<'a>>
-    ensures { option_map trace_told_seen result ≡ trace_submitted_told words.entry }
+    ensures { option_map trace_told_seen result ≡ audit_submitted_told words.entry }
 {
     let first = words.next()?;
     let file = words.next()?;
@@ -140,7 +140,7 @@ fn read_submitted<'a>(mut words: Words<'a>) -> Option<LineMeaning<'a>>
 }
 
 fn read_retired<'a>(words: Words<'a>) -> Option<LineMeaning<'a>>
-    ensures { option_map trace_told_seen result ≡ trace_retired_told words.entry }
+    ensures { option_map trace_told_seen result ≡ audit_retired_told words.entry }
 {
     let version = number(words.last()?)?;
     Some(LineMeaning::Retired(version))
@@ -149,7 +149,7 @@ fn read_retired<'a>(words: Words<'a>) -> Option<LineMeaning<'a>>
 #[tactic(auto, using(crate::proofs::AuditTraceLines::no_how, crate::proofs::AuditTraceLines::no_rule))]
 #[inline(never)]
 fn read_decided<'a>(mut words: Words<'a>) -> Option<LineMeaning<'a>>
-    ensures { option_map trace_told_seen result ≡ trace_decided_told words.entry }
+    ensures { option_map trace_told_seen result ≡ audit_decided_told words.entry }
 {
     let packet = words.next()?;
     let version = words.next()?;
@@ -170,14 +170,14 @@ fn read_decided<'a>(mut words: Words<'a>) -> Option<LineMeaning<'a>>
 }
 
 fn read_ended<'a>(end: End, words: Words<'a>) -> Option<LineMeaning<'a>>
-    ensures { option_map trace_told_seen result ≡ trace_ended_told (trace_end_seen end) words.entry }
+    ensures { option_map trace_told_seen result ≡ audit_ended_told (trace_end_seen end) words.entry }
 {
     let packet = number(words.last()?)?;
     Some(LineMeaning::Ended { packet, end })
 }
 
 fn read_left<'a>(mut words: Words<'a>) -> Option<LineMeaning<'a>>
-    ensures { option_map trace_told_seen result ≡ trace_left_told words.entry }
+    ensures { option_map trace_told_seen result ≡ audit_left_told words.entry }
 {
     let packet = words.next()?;
     let word = words.next()?;
@@ -194,7 +194,7 @@ fn read_left<'a>(mut words: Words<'a>) -> Option<LineMeaning<'a>>
 }
 
 fn read_stuck<'a>(mut words: Words<'a>) -> Option<LineMeaning<'a>>
-    ensures { option_map trace_told_seen result ≡ trace_stuck_told words.entry }
+    ensures { option_map trace_told_seen result ≡ audit_stuck_told words.entry }
 {
     let packet = words.next()?;
     let _more = words.next()?;
@@ -229,7 +229,7 @@ const SILENT: [&[u8]; 17] = [
 ];
 
 // Whether the word is one of these.
-fn is_among(words: &[&[u8]], word: &[u8]) -> bool
+fn is_trace_word_among(words: &[&[u8]], word: &[u8]) -> bool
     ensures { result ≡ list_any (λ w. bytes_eq word.now w.now) words.now }
 {
     words.iter().any(|w| word == *w)
@@ -237,25 +237,25 @@ fn is_among(words: &[&[u8]], word: &[u8]) -> bool
 
 // An item that is no move: only `nothing`, or another such word, a blank and any bytes.
 fn read_silent<'a>(mut words: Words<'a>) -> Option<LineMeaning<'a>>
-    ensures { option_map trace_told_seen result ≡ trace_silent_told words.entry }
+    ensures { option_map trace_told_seen result ≡ audit_silent_told words.entry }
 {
     let word = words.next()?;
     let is_good = if word == b"nothing".as_slice() {
         !words.has_more()
     } else {
-        words.has_more() && is_among(&SILENT, word)
+        words.has_more() && is_trace_word_among(&SILENT, word)
     };
     is_good.then_some(LineMeaning::Nothing)
 }
 
 // An item whose word isn't `decided`, `entered` or `dropped`.
-#[tactic(auto, using(crate::proofs::AuditTraceLines::other_item), unfolding(crate::specs::Told::item_told))]
+#[tactic(auto, using(crate::proofs::AuditTraceLines::other_item), unfolding(crate::specs::Told::audit_item_told))]
 #[inline(never)]
 fn read_rare_item<'a>(mut words: Words<'a>) -> Option<LineMeaning<'a>>
     requires decided { begins_with (codes "decided") words ≡ false }
     requires entered { begins_with (codes "entered") words ≡ false }
     requires dropped { begins_with (codes "dropped") words ≡ false }
-    ensures { option_map trace_told_seen result ≡ indented_told ([] ∷ words.entry) }
+    ensures { option_map trace_told_seen result ≡ audit_indented_told ([] ∷ words.entry) }
 {
     if words.take(b"out".as_slice()) {
         read_left(words)
@@ -274,9 +274,9 @@ fn read_rare_item<'a>(mut words: Words<'a>) -> Option<LineMeaning<'a>>
 
 // An item, after the first of its two blanks, each of which ends an empty word. The first words
 // of the items that each packet has are tried first.
-#[tactic(auto, unfolding(crate::specs::Told::item_told))]
+#[tactic(auto, unfolding(crate::specs::Told::audit_item_told))]
 fn read_item<'a>(mut words: Words<'a>) -> Option<LineMeaning<'a>>
-    ensures { option_map trace_told_seen result ≡ indented_told words.entry }
+    ensures { option_map trace_told_seen result ≡ audit_indented_told words.entry }
 {
     if !words.take(b"".as_slice()) {
         return None;
@@ -295,7 +295,7 @@ fn read_item<'a>(mut words: Words<'a>) -> Option<LineMeaning<'a>>
 
 /// What a line says; `None` if it is bad whatever precedes it.
 #[tactic(auto, using(crate::proofs::AuditTraceLines::other_line), unfolding(crate::specs::Told::told_of))]
-pub(crate) fn read_line<'a>(line: &'a [u8]) -> Option<LineMeaning<'a>>
+pub(crate) fn read_audit_line<'a>(line: &'a [u8]) -> Option<LineMeaning<'a>>
     ensures { option_map trace_told_seen result ≡ told_of line.now }
 {
     let mut words = Words::of(line);
@@ -303,7 +303,7 @@ pub(crate) fn read_line<'a>(line: &'a [u8]) -> Option<LineMeaning<'a>>
         return read_item(words);
     }
     if words.take(b"row".as_slice()) {
-        return read_row(words);
+        return read_trace_row(words);
     }
     if words.take(b"meter".as_slice()) || words.take(b"quiet".as_slice()) {
         return Some(LineMeaning::Nothing);

@@ -1,14 +1,14 @@
 ghost use Rattle.std.specs.Prelude.{◌≡◌, ◌↔◌, All, IfOk};
-ghost use Rattle.policy_rules.specs.PolicyFiles.{IsPolicyOrAmendment};
+ghost use Rattle.policy_rules.specs.PolicyFiles.{IsPolicyRulesOrAmendment};
 ghost use Rattle.trace_audit.specs.Decided.{AreTraceEndsJustified};
-ghost use Rattle.trace_audit.specs.Reading.{AreGoodTraceLines, Whole, lines_of};
-ghost use Rattle.trace_audit.specs.Run.{AreTraceRun};
+ghost use Rattle.trace_audit.specs.Reading.{AreGoodAuditLines, Whole, lines_of};
+ghost use Rattle.trace_audit.specs.Run.{AreAuditedTraceRun};
 ghost use Rattle.trace_audit.specs.Seen.{IsTraceLineRead, trace_state_seen};
 ghost use Rattle.trace_audit.specs.Verdicts.{IsTraceAuditVerdict};
 ghost use Rattle.trace_audit.specs.declared.trace.Verdict.TheVariants.{Yes};
 
 use crate::auditor::Auditor;
-use crate::told::read_line;
+use crate::told::read_audit_line;
 use crate::words::cut;
 use policy_rules::PolicyFile;
 use std::alloc::{AllocError, Global};
@@ -33,12 +33,12 @@ pub enum Verdict {
 pub fn audit(alloc: Global, trace: &[u8], files: &[PolicyFile]) -> Result<Verdict, AllocError>
     ensures verdict { IfOk result (IsTraceAuditVerdict files.now (lines_of trace.now)) }
     ensures exactly { IfOk result
-        (λ verdict. (verdict ≡ Yes) ↔ AreGoodTraceLines files.now (lines_of trace.now)) }
-    ensures run { IfOk result (λ verdict. verdict ≡ Yes → AreTraceRun files.now (lines_of trace.now)) }
+        (λ verdict. (verdict ≡ Yes) ↔ AreGoodAuditLines files.now (lines_of trace.now)) }
+    ensures run { IfOk result (λ verdict. verdict ≡ Yes → AreAuditedTraceRun files.now (lines_of trace.now)) }
     ensures justified { IfOk result
         (λ verdict. verdict ≡ Yes → AreTraceEndsJustified files.now (lines_of trace.now)) }
 {
-    audited_files_are_sound(files);
+    trace_audit_files_sound(files);
     let mut auditor = Auditor::new(alloc, files)?;
     let mut rest = trace;
     let mut line: u32 = 0;
@@ -59,16 +59,16 @@ pub fn audit(alloc: Global, trace: &[u8], files: &[PolicyFile]) -> Result<Verdic
 }
 
 // Each file is sound, by the invariant of its type.
-fn audited_files_are_sound(files: &[PolicyFile])
-    ensures { All IsPolicyOrAmendment files.now }
+fn trace_audit_files_sound(files: &[PolicyFile])
+    ensures { All IsPolicyRulesOrAmendment files.now }
 {
     for file in files {
-        file_is_sound(file);
+        audit_file_is_sound(file);
     }
 }
 
-fn file_is_sound(file: &PolicyFile)
-    ensures { IsPolicyOrAmendment file.now }
+fn audit_file_is_sound(file: &PolicyFile)
+    ensures { IsPolicyRulesOrAmendment file.now }
 {
     match file {
         PolicyFile::Whole(policy) => {
@@ -91,7 +91,7 @@ fn take_trace_line(
     ensures { IfOk result
         (IsTraceLineRead files.now (trace_state_seen auditor.old) (Whole line.now) (trace_state_seen auditor.new)) }
 {
-    match read_line(line) {
+    match read_audit_line(line) {
         Some(told) => auditor.take(alloc, files, &told),
         None => Ok(false),
     }

@@ -1,5 +1,5 @@
 ghost use Rattle.std.specs.Prelude.{◌≡◌, ◌∷◌, ◌==◌, [], IfNone, IfSome, IsTrue, List, MatchBool, bytes_eq, false, position, ℕ};
-ghost use Rattle.trace_audit.specs.Told.{IsTraceRestAfter, IsCut, IsNoSingleTraceWord, IsTraceWordTaken, TakesTraceWord, begins_with, trace_word_lacks_blank, words_of};
+ghost use Rattle.trace_audit.specs.Told.{IsTraceRestAfter, IsCut, IsNoSingleAuditWord, IsTraceWordTaken, TakesAuditWord, begins_with, trace_word_lacks_blank, words_of};
 
 use memchr::memchr;
 use std::marker::Model;
@@ -13,7 +13,7 @@ fn place_of(text: &[u8], byte: u8) -> Option<usize>
 
 // The place of the first such byte, which is likely to be near.
 #[inline(always)]
-fn near_place_in_text(text: &[u8], byte: u8) -> Option<usize>
+fn near_place_in_trace(text: &[u8], byte: u8) -> Option<usize>
     ensures { result ≡ position (λ b. b == byte) text.now }
 {
     text.iter().position(|b| *b == byte)
@@ -21,7 +21,7 @@ fn near_place_in_text(text: &[u8], byte: u8) -> Option<usize>
 
 // The parts before and after this place, which is that of the first such byte; or `None`.
 #[inline(always)]
-fn cut_at(text: &[u8], at: Option<usize>) -> Option<(&[u8], &[u8])>
+fn cut_audit_text_at(text: &[u8], at: Option<usize>) -> Option<(&[u8], &[u8])>
     requires { (byte : ℕ) × (at ≡ position (λ b. b == byte) text.now) }
     ensures { (byte : ℕ) → at ≡ position (λ b. b == byte) text.now → IsCut byte text.now result }
 {
@@ -35,15 +35,15 @@ fn cut_at(text: &[u8], at: Option<usize>) -> Option<(&[u8], &[u8])>
 pub(crate) fn cut(text: &[u8], byte: u8) -> Option<(&[u8], &[u8])>
     ensures { IsCut byte text.now result }
 {
-    cut_at(text, place_of(text, byte))
+    cut_audit_text_at(text, place_of(text, byte))
 }
 
 /// The same for a byte that is likely to be near.
 #[inline(always)]
-pub(crate) fn cut_trace_text_near(text: &[u8], byte: u8) -> Option<(&[u8], &[u8])>
+pub(crate) fn cut_audit_text_near(text: &[u8], byte: u8) -> Option<(&[u8], &[u8])>
     ensures { IsCut byte text.now result }
 {
-    cut_at(text, near_place_in_text(text, byte))
+    cut_audit_text_at(text, near_place_in_trace(text, byte))
 }
 
 // The text after the word and a blank, if it begins with them.
@@ -108,7 +108,7 @@ impl<'a> Words<'a> {
         ensures none { IfNone result (self.old ≡ []) }
     {
         let rest = self.rest?;
-        match cut_trace_text_near(rest, b' ') {
+        match cut_audit_text_near(rest, b' ') {
             Some((word, rest)) => {
                 self.rest = Some(rest);
                 Some(word)
@@ -124,7 +124,7 @@ impl<'a> Words<'a> {
     #[inline(always)]
     pub fn last(mut self) -> Option<&'a [u8]>
         ensures some { IfSome result (λ word. self.entry ≡ word.now ∷ []) }
-        ensures none { IfNone result (IsNoSingleTraceWord self.entry) }
+        ensures none { IfNone result (IsNoSingleAuditWord self.entry) }
     {
         let word = self.next()?;
         if self.has_more() {
@@ -158,7 +158,7 @@ impl<'a> Words<'a> {
     #[inline(always)]
     pub fn next_is(&mut self, word: &[u8]) -> Option<bool>
         requires { IsTrue (trace_word_lacks_blank word.now) }
-        ensures some { IfSome result (TakesTraceWord self.old (λ next. bytes_eq next word.now) self.new) }
+        ensures some { IfSome result (TakesAuditWord self.old (λ next. bytes_eq next word.now) self.new) }
         ensures none { IfNone result (self.old ≡ []) }
     {
         if self.take(word) {

@@ -1,14 +1,14 @@
 -- The text of a journal that answers a schedule: what is known at its beginning.
 use Rattle.std.proofs.Common.{[], ◌++◌, ◌+◌, ◌-◌, ◌∙◌, ◌∷◌, ◌≡◌, ◌≤◌, All, List, None, Option, Some, ap, append-nil, arith, get_or, length, length-append, length-take, map, subst, sym, take, ℕ}
 use Rattle.base.proofs.Exports.{All-append, All-cons, All-head, All-nil, All-tail, All-take, length-option_to_list, result_ok}
-use Rattle.control_laws.specs.Exports.{AreNetworkEvents, HoldsAlways, HoldsReached, ControlVersionsArePlanned}
-use Rattle.update_machine.specs.Exports.{Answers, JournalBeginsAnswer, Deliver, Drain, Event, Flush, HasCause, JournalItemsHaveCauses, Hop, IsMachinePlay, IsRun, IsSetting, Item, Net, One, Packet, Setting, Step, count_of, first_machine, is_submission, policy_by, journal_version_count}
+use Rattle.control_laws.specs.Exports.{AreNetworkEvents, ControlLawHoldsAlways, ControlLawHoldsReached, ControlVersionsArePlanned}
+use Rattle.update_machine.specs.Exports.{Answers, JournalBeginsAnswer, Deliver, Drain, Event, Flush, HasMachineCause, JournalItemsHaveCauses, Hop, IsMachinePlay, IsMachineRun, IsSetting, Item, Net, One, Packet, Setting, Step, count_of, first_machine, is_journal_submission, setting_policy_by, journal_version_count}
 use Rattle.journal_text.specs.Lines.{item_line, journal_text}
 use Rattle.net_file.specs.Exports.{NetPortLaws}
 use Rattle.packet_laws.proofs.Exports.{play_begins}
-use Rattle.packet_laws.specs.Exports.{AreEntered, StepRow, event_row, rows_played, step_row, step_rows, step_rows_in}
+use Rattle.packet_laws.specs.Exports.{AreEntered, StepRow, packet_law_event_row, packet_law_rows_played, packet_law_step_row, packet_law_step_rows, packet_law_step_rows_in}
 use Rattle.steps.specs.Exports.{IsEvent, IsStep, max_events}
-use Rattle.trace_audit.specs.Exports.{ReadsAllTraceLines, Whole, first_trace_state, lines_of}
+use Rattle.trace_audit.specs.Exports.{ReadsAllAuditLines, Whole, first_trace_state, lines_of}
 use Rattle.update_machine.proofs.Exports.{answers_so_far, begins_itself}
 use Rattle.trace_texts.specs.Texts.{IsTraceTextAnswerTo, TextsAreGood, trace_text_with_feeds}
 use Rattle.trace_texts.proofs.TraceTextWholeLines.{last_read, lines_each, none_behind}
@@ -19,21 +19,21 @@ use Rattle.trace_texts.proofs.TraceTextItems.{TextLaws}
 pub record PlayLaws : Type 0 where
   pub texts : TextLaws
   pub ports : NetPortLaws
-  pub planned : HoldsAlways (λ setting journal. ControlVersionsArePlanned setting journal)
+  pub planned : ControlLawHoldsAlways (λ setting journal. ControlVersionsArePlanned setting journal)
   pub entered : (setting : Setting) (events : List Event) (journal : List Item) (full : Option ℕ)
-      → IsTraceTextAnswerTo setting events journal full → AreEntered (rows_played full events) journal
-  pub runs : HoldsReached (λ setting journal. IsSetting setting → IsRun setting journal)
-  pub causes : HoldsReached (λ setting journal.
-      IsSetting setting → JournalItemsHaveCauses (HasCause setting) [] journal)
+      → IsTraceTextAnswerTo setting events journal full → AreEntered (packet_law_rows_played full events) journal
+  pub runs : ControlLawHoldsReached (λ setting journal. IsSetting setting → IsMachineRun setting journal)
+  pub causes : ControlLawHoldsReached (λ setting journal.
+      IsSetting setting → JournalItemsHaveCauses (HasMachineCause setting) [] journal)
 
 -- ---- whole answers, and those that stop full
 
 pub answered_entered : ((setting : Setting) (events : List Event) (journal : List Item)
-    → Answers setting events journal → AreEntered (step_rows 1 events) journal)
+    → Answers setting events journal → AreEntered (packet_law_step_rows 1 events) journal)
     → ((setting : Setting) (events : List Event) (journal : List Item) (full : Option ℕ)
-    → IsMachinePlay setting events journal full → AreEntered (rows_played full events) journal)
+    → IsMachinePlay setting events journal full → AreEntered (packet_law_rows_played full events) journal)
     → (setting : Setting) (events : List Event) (journal : List Item) (full : Option ℕ)
-    → IsTraceTextAnswerTo setting events journal full → AreEntered (rows_played full events) journal
+    → IsTraceTextAnswerTo setting events journal full → AreEntered (packet_law_rows_played full events) journal
 answered_entered answered played setting events journal None is = answered setting events journal is
 answered_entered answered played setting events journal (Some row) is =
     played setting events journal (Some row) is
@@ -48,7 +48,7 @@ answered_begins setting events journal (Some row) stop =
 -- ---- the rows of a schedule
 
 step_own : (net : Net) (files row : ℕ) (step : Step) → 1 ≤ row → row ≤ max_events
-    → IsStep net files step → All (IsOwnRow net) (step_row row step)
+    → IsStep net files step → All (IsOwnRow net) (packet_law_step_row row step)
 step_own net files row (Packet switch header) above most is =
     All-cons (IsOwnRow net) (record { row = row; step = Packet switch header }) []
     (above, most, is.0, is.1) (All-nil (IsOwnRow net))
@@ -58,37 +58,37 @@ step_own net files row step above most is =
     All-cons (IsOwnRow net) (record { row = row; step = step }) [] tt (All-nil (IsOwnRow net))
 
 event_own : (net : Net) (files row : ℕ) (event : Event) → 1 ≤ row → row ≤ max_events
-    → IsEvent net files event → All (IsOwnRow net) (event_row row event)
+    → IsEvent net files event → All (IsOwnRow net) (packet_law_event_row row event)
 event_own net files row (One step) above most is = step_own net files row step above most is
 event_own net files row Flush above most is = All-nil (IsOwnRow net)
 event_own net files row Drain above most is = All-nil (IsOwnRow net)
 
 rows_own : (net : Net) (files row : ℕ) (events : List Event) → 1 ≤ row
     → row + length events ≤ max_events + 1 → All (IsEvent net files) events
-    → All (IsOwnRow net) (step_rows row events)
+    → All (IsOwnRow net) (packet_law_step_rows row events)
 rows_own net files row [] above most are = All-nil (IsOwnRow net)
 rows_own net files row (event ∷ events) above most are = All-append (IsOwnRow net)
-    (event_row row event) (step_rows (row + 1) events) (event_own net files row event above
+    (packet_law_event_row row event) (packet_law_step_rows (row + 1) events) (event_own net files row event above
     (omega arith) (All-head (IsEvent net files) event events are)) (rows_own net files
     (row + 1) events (omega arith) (omega arith) (All-tail (IsEvent net files) event events are))
 
-step_few : (row : ℕ) (step : Step) → length (step_row row step) ≤ 1
+step_few : (row : ℕ) (step : Step) → length (packet_law_step_row row step) ≤ 1
 step_few row (Hop packet) = omega arith
 step_few row (Deliver message) = omega arith
 step_few row step = omega arith
 
-event_few : (row : ℕ) (event : Event) → length (event_row row event) ≤ 1
+event_few : (row : ℕ) (event : Event) → length (packet_law_event_row row event) ≤ 1
 event_few row (One step) = step_few row step
 event_few row Flush = omega arith
 event_few row Drain = omega arith
 
-rows_few : (row : ℕ) (events : List Event) → length (step_rows row events) ≤ length events
+rows_few : (row : ℕ) (events : List Event) → length (packet_law_step_rows row events) ≤ length events
 rows_few row [] = omega arith
 rows_few row (event ∷ events) = omega (
   arith,
   event_few row event,
   rows_few (row + 1) events,
-  length-append (event_row row event) (step_rows (row + 1) events),
+  length-append (packet_law_event_row row event) (packet_law_step_rows (row + 1) events),
 )
 
 -- those that were played are few, and of the network
@@ -97,7 +97,7 @@ record AreFewOwn (net : Net) (rows : List StepRow) : Type 0 where
   own : All (IsOwnRow net) rows
 
 some_played : (net : Net) (files : ℕ) (events : List Event) → All (IsEvent net files) events
-    → length events ≤ max_events → AreFewOwn net (step_rows 1 events)
+    → length events ≤ max_events → AreFewOwn net (packet_law_step_rows 1 events)
 some_played net files events are most = record {
   few = omega (arith, rows_few 1 events, most);
   own = rows_own net files 1 events (omega arith) (omega (arith, most)) are;
@@ -105,7 +105,7 @@ some_played net files events are most = record {
 
 played_rows : (net : Net) (files : ℕ) (full : Option ℕ) (events : List Event)
     → All (IsEvent net files) events → length events ≤ max_events
-    → AreFewOwn net (rows_played full events)
+    → AreFewOwn net (packet_law_rows_played full events)
 played_rows net files None events are most = some_played net files events are most
 played_rows net files (Some row) events are most =
     some_played net files (take (row - 1) events) (All-take (IsEvent net files) (row - 1) events are)
@@ -120,12 +120,12 @@ known_first : (laws : PlayLaws) (setting : Setting) (events : List Event) (journ
 unfolding journal_version_count
 known_first laws setting events journal full is own play most =
     let begins = answered_begins setting events journal full play in
-    let rows : AreFewOwn setting.net (step_rows_in journal) = subst (AreFewOwn setting.net)
+    let rows : AreFewOwn setting.net (packet_law_step_rows_in journal) = subst (AreFewOwn setting.net)
     (sym (laws.entered setting events journal full play).in_order)
     (played_rows setting.net (length setting.files) full events own most) in
     let planned = laws.planned.behind.begun setting events journal begins in
-    let versions : count_of is_submission journal + 1 ≤ 64 = planned.few in record {
-      versions = omega (arith, versions, length-option_to_list (result_ok (policy_by setting None 1)));
+    let versions : count_of is_journal_submission journal + 1 ≤ 64 = planned.few in record {
+      versions = omega (arith, versions, length-option_to_list (result_ok (setting_policy_by setting None 1)));
       small = λ i packet known. absurd cc;
       few = omega (arith, rows.few);
       rows = rows.own;
@@ -150,4 +150,4 @@ texts_good laws setting events journal full last is own play most numbered are =
     lines_each (item_line net) journal (trace_text_with_feeds last)
     (λ k d within. item_one_line laws.texts.names net is.net (get_or journal k d))
     ∙ ap (λ more. map (λ first. Whole (item_line net first)) journal ++ more) behind in
-    (read.0, subst (λ ls. ReadsAllTraceLines setting.files (first_trace_state setting.files) ls read.0) (sym lines) read.1)
+    (read.0, subst (λ ls. ReadsAllAuditLines setting.files (first_trace_state setting.files) ls read.0) (sym lines) read.1)

@@ -2,15 +2,15 @@
 -- says, and each packet's row is followed by its entry.
 use Rattle.std.proofs.Common.{[], ◌++◌, ◌+◌, ◌-◌, ◌<◌, ◌==◌, ◌∙◌, ◌∷◌, ◌≡◌, ◌≤◌, All, Bool, List, None, Option, Some, ap, append_assoc, arith, cond, eqb-true, false, length, length-append, map, refl, slice_get, subst, sym, true, ℕ}
 use Rattle.base.proofs.Exports.{All-head, All-tail, result_ok, slice_get_within, sum_by-cons, ⊤}
-use Rattle.update_machine.specs.Exports.{HasCause, JournalItemsHaveCauses, Header, Item, Machine, Net, Packet, PolicyFile, Row, Runs, Setting, Step, Takes, count_of, is_packet, is_submission, made_by, journal_next_packet}
+use Rattle.update_machine.specs.Exports.{HasMachineCause, JournalItemsHaveCauses, Header, Item, Machine, Net, Packet, PolicyFile, Row, Runs, Setting, Step, Takes, count_of, is_packet, is_journal_submission, made_by, journal_next_packet}
 use Rattle.net_file.specs.Exports.{IsNet, NetPortLaws}
 use Rattle.journal.specs.declared.item.Item.TheVariants as item
 use Rattle.journal_text.specs.Lines.{item_line}
-use Rattle.packet_laws.specs.Exports.{EachPacketRowEnters, IsPacketEntryOf, StepRow, gives_step_row, step_rows_in}
+use Rattle.packet_laws.specs.Exports.{EachPacketRowEnters, IsPacketEntryOf, StepRow, gives_packet_law_step_row, packet_law_step_rows_in}
 use Rattle.steps.specs.Exports.{HasSwitch, max_events, max_step_number}
 use Rattle.update_machine.proofs.Exports.{count_of_append}
 use Rattle.update_machine.specs.Machine as machine
-use Rattle.trace_audit.specs.Exports.{Follows, ReadsAllTraceLines, TraceLine, TraceState, Whole}
+use Rattle.trace_audit.specs.Exports.{Follows, ReadsAllAuditLines, TraceLine, TraceState, Whole}
 use Rattle.trace_texts.proofs.TraceTextItems.{IsReadable, TextLaws, line_told, told_item}
 
 -- what is pending behind an item
@@ -107,7 +107,7 @@ takes_small setting old new first takes most small =
 
 -- the versions that there are, and those that are still to be submitted
 abbrev versions_with : Machine → List Item → ℕ
-versions_with now items = length now.policies + count_of is_submission items
+versions_with now items = length now.policies + count_of is_journal_submission items
 
 -- a version more behind a submission, and as many as before behind anything else
 module _ (setting : Setting) (old new : Machine) where
@@ -115,7 +115,7 @@ module _ (setting : Setting) (old new : Machine) where
   as_many {after} e = omega (arith, ap (λ (m : Machine). length m.policies) e)
 
   grows : (first : Item) → Takes setting old first new
-      → length new.policies ≡ length old.policies + cond (is_submission first) 1 0
+      → length new.policies ≡ length old.policies + cond (is_journal_submission first) 1 0
   grows (item.Submitted file version) takes =
       cc (takes.after, length-append old.policies (takes.policy ∷ []))
   grows (item.Entered packet switch header) takes = as_many takes.after
@@ -139,9 +139,9 @@ pub record Known (setting : Setting) (before : List Item) (now : Machine) (items
     : Type 0 where
   pub versions : versions_with now items ≤ 64
   pub small : AreSmall now
-  pub few : count_of is_packet before + length (step_rows_in items) ≤ max_events
-  pub rows : All (IsOwnRow setting.net) (step_rows_in items)
-  pub causes : JournalItemsHaveCauses (HasCause setting) before items
+  pub few : count_of is_packet before + length (packet_law_step_rows_in items) ≤ max_events
+  pub rows : All (IsOwnRow setting.net) (packet_law_step_rows_in items)
+  pub causes : JournalItemsHaveCauses (HasMachineCause setting) before items
 
 rows_behind : (net : Net) (rows more : List StepRow) → All (IsOwnRow net) (rows ++ more)
     → All (IsOwnRow net) more
@@ -152,13 +152,13 @@ rows_behind net (row ∷ rows) more all =
 known_next : (setting : Setting) (before : List Item) (old new : Machine) (first : Item)
     (items : List Item) → Known setting before old (first ∷ items) → Takes setting old first new
     → EntersSmall first
-    → count_of is_packet (before ++ first ∷ []) + length (step_rows_in items) ≤ max_events
+    → count_of is_packet (before ++ first ∷ []) + length (packet_law_step_rows_in items) ≤ max_events
     → Known setting (before ++ first ∷ []) new items
 known_next setting before old new first items known takes most few = record {
   versions = omega (arith, takes_many setting old new first items takes, known.versions);
   small = takes_small setting old new first takes most known.small;
   few = few;
-  rows = rows_behind setting.net (gives_step_row first) (step_rows_in items) known.rows;
+  rows = rows_behind setting.net (gives_packet_law_step_row first) (packet_law_step_rows_in items) known.rows;
   causes = known.causes.1;
 }
 
@@ -170,13 +170,13 @@ one_more before first packet is = count_of_append is_packet before (first ∷ []
     ∙ omega (arith, ap {B = ℕ} (λ (b : Bool). cond b 1 0) is))
 
 few_next : (before : List Item) (first : Item) (items : List Item) → is_packet first ≡ false
-    → count_of is_packet before + length (step_rows_in (first ∷ items)) ≤ max_events
-    → count_of is_packet (before ++ first ∷ []) + length (step_rows_in items) ≤ max_events
+    → count_of is_packet before + length (packet_law_step_rows_in (first ∷ items)) ≤ max_events
+    → count_of is_packet (before ++ first ∷ []) + length (packet_law_step_rows_in items) ≤ max_events
 few_next before first items none few = omega (
   arith,
   one_more before first false none,
   few,
-  length-append (gives_step_row first) (step_rows_in items),
+  length-append (gives_packet_law_step_row first) (packet_law_step_rows_in items),
 )
 
 -- ---- what is read of an item
@@ -201,13 +201,13 @@ record IsEntry (net : Net) (header : Header) (entry : Item) : Type 0 where
   next : IsNext (Some header) entry
   small : EntersSmall entry
   packet : is_packet entry ≡ true
-  no_row : gives_step_row entry ≡ []
+  no_row : gives_packet_law_step_row entry ≡ []
   readable : IsEntryReadable net entry
 
 module _ (laws : TextLaws) (ports : NetPortLaws) (setting : Setting) (sound : IsNet setting.net)
     (numbered : length setting.files ≤ max_step_number) where
   readable : (before : List Item) (old new : Machine) (first : Item) → Takes setting old first new
-      → HasCause setting before first → AreSmall old → length old.policies ≤ 64
+      → HasMachineCause setting before first → AreSmall old → length old.policies ≤ 64
       → IsEntryReadable setting.net first → IsReadable setting.net first
   readable before old new (item.Row row step) takes cause small few is = is
   readable before old new (item.Entered packet switch header) takes cause small few is = is
@@ -246,8 +246,8 @@ module _ (laws : TextLaws) (ports : NetPortLaws) (setting : Setting) (sound : Is
       (items : List Item) (rest : List TraceLine) (last : TraceState)
       → Known setting before old (first ∷ items) → Takes setting old first new
       → IsNext pending first → IsEntryReadable setting.net first
-      → ReadsAllTraceLines setting.files (at new (pending_after pending first)) rest last
-      → ReadsAllTraceLines setting.files (at old pending) (line first ∷ rest) last
+      → ReadsAllAuditLines setting.files (at new (pending_after pending first)) rest last
+      → ReadsAllAuditLines setting.files (at old pending) (line first ∷ rest) last
   line_reads before old new pending first items rest last known takes next entry reads = (
     at new (pending_after pending first),
     (
@@ -284,11 +284,11 @@ module _ (laws : TextLaws) (ports : NetPortLaws) (setting : Setting) (sound : Is
 
   -- ---- all items, and lines that tell nothing behind them
 
-  pub reads_from : (ends : List TraceLine) → ((state : TraceState) → ReadsAllTraceLines setting.files state ends state)
+  pub reads_from : (ends : List TraceLine) → ((state : TraceState) → ReadsAllAuditLines setting.files state ends state)
       → (before : List Item) (old : Machine) (pending : Option Header) (items : List Item)
       (new : Machine) → Known setting before old items → EachPacketRowEnters before items
       → Runs setting old items new
-      → (last : TraceState) × ReadsAllTraceLines setting.files (at old pending) (map line items ++ ends) last
+      → (last : TraceState) × ReadsAllAuditLines setting.files (at old pending) (map line items ++ ends) last
   reads_from ends closed before old pending [] new known enters runs =
       (at old pending, closed (at old pending))
   reads_from ends closed before old pending (item.Row row (Packet s header) ∷ []) new known enters
@@ -297,11 +297,11 @@ module _ (laws : TextLaws) (ports : NetPortLaws) (setting : Setting) (sound : Is
       known enters runs =
       let asked = item.Row row (Packet s header) in
       let own : IsReadable setting.net asked = All-head (IsOwnRow setting.net)
-      (record { row = row; step = Packet s header }) (step_rows_in (entry ∷ items)) known.rows in
-      let few : count_of is_packet before + length (step_rows_in (asked ∷ entry ∷ items)) ≤ max_events =
+      (record { row = row; step = Packet s header }) (packet_law_step_rows_in (entry ∷ items)) known.rows in
+      let few : count_of is_packet before + length (packet_law_step_rows_in (asked ∷ entry ∷ items)) ≤ max_events =
       known.few in
       let is : IsEntry setting.net header entry = entry_is _ (journal_next_packet before) s header entry
-      enters.0 (next_small before (length (step_rows_in (asked ∷ entry ∷ items))) few) own.2 in
+      enters.0 (next_small before (length (packet_law_step_rows_in (asked ∷ entry ∷ items))) few) own.2 in
       let one = known_next setting before old runs.0 asked (entry ∷ items) known runs.1 tt
       (few_next before asked (entry ∷ items) refl few) in
       let both = known_next setting (before ++ asked ∷ []) runs.0 runs.2.0 entry items one runs.2.1
@@ -311,7 +311,7 @@ module _ (laws : TextLaws) (ports : NetPortLaws) (setting : Setting) (sound : Is
         one_more before asked false refl,
         one_more (before ++ asked ∷ []) entry true is.packet,
         ap (λ (rows : List StepRow). length rows) is.no_row,
-        length-append (gives_step_row entry) (step_rows_in items),
+        length-append (gives_packet_law_step_row entry) (packet_law_step_rows_in items),
       )) in
       let rest = reads_from ends closed ((before ++ asked ∷ []) ++ entry ∷ []) runs.2.0
       (pending_after (Some header) entry) items new both (subst (λ js. EachPacketRowEnters js items)

@@ -6,9 +6,9 @@ use Rattle.update_machine.specs.Exports.{Action, Authority, Cached, Dropped, Fie
 use Rattle.net_file.specs.Exports.{IsNet, NameLaws, is_name, switch_name_of}
 use Rattle.policy_rules.specs.Exports.{action_text, rule_text}
 use Rattle.journal.specs.declared.item.Item.TheVariants as item
-use Rattle.journal_text.specs.Lines.{body_text, cause_text, how_text, item_line, packet_at_text, journal_receiver_text, journal_cached_rule_text, state_text, journal_step_text, journal_two_numbers_text, via_text, text_with_name, journal_text_with_number}
+use Rattle.journal_text.specs.Lines.{journal_body_text, journal_cause_text, how_text, item_line, packet_at_text, journal_receiver_text, journal_cached_rule_text, state_text, journal_step_text, journal_two_numbers_text, journal_text_via, journal_text_with_name, journal_text_with_number}
 use Rattle.steps.specs.Exports.{HasSwitch, max_events, max_step_number}
-use Rattle.trace_audit.specs.Exports.{Told, any_told, is_trace_row_number, item_told, trace_number_of_word, trace_packet_row_told, trace_pair_told, trace_row_told, trace_told_by_words, told_of, words_of}
+use Rattle.trace_audit.specs.Exports.{Told, any_told, is_trace_row_number, audit_item_told, trace_number_of_word, audit_packet_row_told, audit_pair_told, audit_row_told, audit_told_by_words, told_of, words_of}
 use Rattle.trace_audit.specs.Told as told
 use Rattle.trace_texts.proofs.TraceTextPieces.{action_word, address_word, first_word, name_is, name_word, number_word, one_word, proto_word, row_parts, row_word, rule_word}
 
@@ -139,7 +139,7 @@ silent text = any_some (words_of text) (some_words text)
 -- ---- lines that tell moves
 
 pair_both : (tells : ℕ → ℕ → Told) (a b : Option ℕ) (n m : ℕ) → a ≡ Some n → b ≡ Some m
-    → trace_pair_told tells a b ≡ Some (tells n m)
+    → audit_pair_told tells a b ≡ Some (tells n m)
 pair_both tells a b n m e f = rw (e, f) refl
 
 fields_both : (src dst sport dport proto : Option ℕ) (f : Fields) → src ≡ Some f.src
@@ -153,15 +153,15 @@ row_first digits row e above = cc (e, le-leb 1 row above)
 
 row_packet : (row switch src dst sport dport proto : List ℕ) (f : Fields)
     → is_trace_row_number (text_parts_round_byte 58 row) ≡ true → is_name switch ≡ true
-    → tuple_fields_of src dst sport dport proto ≡ Some f → trace_packet_row_told row
+    → tuple_fields_of src dst sport dport proto ≡ Some f → audit_packet_row_told row
     (switch ∷ src ∷ dst ∷ sport ∷ dport ∷ proto ∷ []) ≡ Some (told.Row (Some (header_of f)))
 row_packet row switch src dst sport dport proto f a b c = rw (a, b, c) refl
 
 row_told_by : (row : ℕ) (step : List ℕ)
     → told_of ((journal_text_with_number (codes "row") row ++ codes ": ") ++ step)
-    ≡ trace_row_told ((decimal row ++ 58 ∷ []) ∷ words_of step)
+    ≡ audit_row_told ((decimal row ++ 58 ∷ []) ∷ words_of step)
 unfolding told_of
-row_told_by row step = ap trace_row_told (row_words row step)
+row_told_by row step = ap audit_row_told (row_words row step)
 
 -- one of the two words for how a packet was decided, and something behind it
 record IsHowText (text : List ℕ) : Type 0 where
@@ -176,7 +176,7 @@ module _ (laws : TextLaws) (net : Net) (sound : IsNet net) where
   number n most = laws.number max_step_number n most (omega (arith, most))
 
   words_name : (text : List ℕ) (s : ℕ)
-      → words_of (text_with_name net text s) ≡ words_of text ++ switch_name_of net s ∷ []
+      → words_of (journal_text_with_name net text s) ≡ words_of text ++ switch_name_of net s ∷ []
   words_name text s = words_next text [] (switch_name_of net s)
       ∙ behind (words_of text) (words_of (switch_name_of net s))
       (switch_name_of net s ∷ []) (one_word (switch_name_of net s) (name_word laws.names net sound s))
@@ -192,7 +192,7 @@ module _ (laws : TextLaws) (net : Net) (sound : IsNet net) where
       ∷ address_text header.fields.dst ∷ decimal header.fields.sport
       ∷ decimal header.fields.dport ∷ proto_number_text header.fields.proto ∷ []
   packet_words switch header =
-      words_next (text_with_name net (codes "packet") switch) [] (fields_text header.fields)
+      words_next (journal_text_with_name net (codes "packet") switch) [] (fields_text header.fields)
       ∙ ap (λ ws. ws ++ words_of (fields_text header.fields)) (words_name (codes "packet") switch)
       ∙ ap (λ (ws : List (List ℕ)). codes "packet" ∷ switch_name_of net switch ∷ ws)
       (fields_words header.fields)
@@ -215,7 +215,7 @@ module _ (laws : TextLaws) (net : Net) (sound : IsNet net) where
   row_line_told : (row : ℕ) (step : Step) → IsReadableRow net row step
       → told_of (item_line net (item.Row row step)) ≡ Some (told_row step)
   row_line_told row (Packet switch header) is =
-      row_told_by row (journal_step_text net (Packet switch header)) ∙ ap (λ (ws : List (List ℕ)). trace_row_told
+      row_told_by row (journal_step_text net (Packet switch header)) ∙ ap (λ (ws : List (List ℕ)). audit_row_told
       ((decimal row ++ 58 ∷ []) ∷ ws)) (packet_words switch header)
       ∙ row_packet (decimal row ++ 58 ∷ []) (switch_name_of net switch) (address_text header.fields.src)
       (address_text header.fields.dst) (decimal header.fields.sport) (decimal header.fields.dport)
@@ -227,9 +227,9 @@ module _ (laws : TextLaws) (net : Net) (sound : IsNet net) where
 
   entered_line_told : (packet switch : ℕ) → packet ≤ max_step_number → HasSwitch net switch
       → told_of (packet_at_text net (codes "  entered") packet switch) ≡ Some (told.Entered packet)
-  unfolding told_of item_told
+  unfolding told_of audit_item_told
   entered_line_told packet switch most there =
-      ap trace_told_by_words (words_at (codes "  entered") packet switch)
+      ap audit_told_by_words (words_at (codes "  entered") packet switch)
       ∙ ap (λ (b : Bool). cond b (option_map told.Entered (trace_number_of_word (decimal packet))) None)
       (name_is laws.names net sound switch there)
       ∙ ap (option_map told.Entered) (number packet most)
@@ -237,14 +237,14 @@ module _ (laws : TextLaws) (net : Net) (sound : IsNet net) where
   submitted_line_told : (file version : ℕ) → file ≤ max_step_number → version ≤ max_step_number
       → told_of (journal_two_numbers_text (codes "  submitted file") file (codes " version ") version)
       ≡ Some (told.Submitted file version)
-  unfolding told_of item_told
+  unfolding told_of audit_item_told
   submitted_line_told file version some few =
-      ap trace_told_by_words (words_both (codes "  submitted file") (codes "version") file version)
+      ap audit_told_by_words (words_both (codes "  submitted file") (codes "version") file version)
       ∙ pair_both told.Submitted _ _ file version (number file some) (number version few)
 
   -- of one number alone
   number_line_told : (text : List ℕ) (tells : ℕ → Told) (n : ℕ) → n ≤ max_step_number
-      → trace_told_by_words (words_of text ++ decimal n ∷ []) ≡ option_map tells (trace_number_of_word (decimal n))
+      → audit_told_by_words (words_of text ++ decimal n ∷ []) ≡ option_map tells (trace_number_of_word (decimal n))
       → told_of (journal_text_with_number text n) ≡ Some (tells n)
   unfolding told_of
   number_line_told text tells n most is = cc (words_number text n, is, number n most)
@@ -252,18 +252,18 @@ module _ (laws : TextLaws) (net : Net) (sound : IsNet net) where
   left_line_told : (packet port : ℕ) → packet ≤ max_step_number → port ≤ 4294967295
       → told_of (journal_two_numbers_text (codes "  out") packet (codes " port ") port)
       ≡ Some (told.Ended packet (LeftBy port))
-  unfolding told_of item_told
+  unfolding told_of audit_item_told
   left_line_told packet port most small =
-      ap trace_told_by_words (words_both (codes "  out") (codes "port") packet port)
+      ap audit_told_by_words (words_both (codes "  out") (codes "port") packet port)
       ∙ pair_both (λ i p. told.Ended i (LeftBy p)) _ _ packet port (number packet most)
       (laws.number 4294967295 port small (omega (arith, small)))
 
   stuck_line_told : (packet switch : ℕ) (cause : List ℕ) → packet ≤ max_step_number
       → told_of ((packet_at_text net (codes "  stuck") packet switch ++ codes " ") ++ cause)
       ≡ Some (told.Ended packet Stuck)
-  unfolding told_of item_told
+  unfolding told_of audit_item_told
   stuck_line_told packet switch cause most =
-      ap trace_told_by_words (words_next (packet_at_text net (codes "  stuck") packet switch) [] cause
+      ap audit_told_by_words (words_next (packet_at_text net (codes "  stuck") packet switch) [] cause
       ∙ ap (λ ws. ws ++ words_of cause) (words_at (codes "  stuck") packet switch))
       ∙ ap (option_map (λ i. told.Ended i Stuck)) (number packet most)
 
@@ -281,7 +281,7 @@ module _ (laws : TextLaws) (net : Net) (sound : IsNet net) where
     how = codes "authority";
     more = switch_name_of net switch;
     others = words_of (codes "part " ++ decimal partition);
-    words = words_next (text_with_name net (codes "authority") switch) (codes "part ")
+    words = words_next (journal_text_with_name net (codes "authority") switch) (codes "part ")
         (decimal partition)
         ∙ ap (λ ws. ws ++ words_of (codes "part " ++ decimal partition))
         (words_name (codes "authority") switch);
@@ -324,12 +324,12 @@ module _ (laws : TextLaws) (net : Net) (sound : IsNet net) where
   decided_read : (packet version : ℕ) (rule action how more : List ℕ) (others : List (List ℕ))
       → packet ≤ max_step_number → version ≤ max_step_number
       → (bytes_eq how (codes "cache") || bytes_eq how (codes "authority")) ≡ true
-      → trace_told_by_words ([] ∷ [] ∷ codes "decided" ∷ decimal packet ∷ (118 ∷ decimal version)
+      → audit_told_by_words ([] ∷ [] ∷ codes "decided" ∷ decimal packet ∷ (118 ∷ decimal version)
       ∷ codes "rule" ∷ rule ∷ action ∷ how ∷ more ∷ others)
       ≡ Some (told.Decided packet version rule action)
-  unfolding item_told
+  unfolding audit_item_told
   decided_read packet version rule action how more others most few known =
-      ap (λ (b : Bool). cond b (trace_pair_told (λ i v. told.Decided i v rule action)
+      ap (λ (b : Bool). cond b (audit_pair_told (λ i v. told.Decided i v rule action)
       (trace_number_of_word (decimal packet)) (trace_number_of_word (decimal version))) None) known
       ∙ pair_both (λ i v. told.Decided i v rule action) _ _ packet version (number packet most)
       (number version few)
@@ -340,7 +340,7 @@ module _ (laws : TextLaws) (net : Net) (sound : IsNet net) where
       ≡ Some (told.Decided packet version (rule_text rule) (action_text action))
   unfolding told_of
   decided_line_told packet version rule action how most few = let h = how_is how in
-      ap trace_told_by_words (decided_words packet version rule action (how_text net how)
+      ap audit_told_by_words (decided_words packet version rule action (how_text net how)
       ∙ ap (λ (ws : List (List ℕ)). [] ∷ [] ∷ codes "decided" ∷ decimal packet
       ∷ (118 ∷ decimal version) ∷ codes "rule" ∷ rule_text rule ∷ action_text action ∷ ws) h.words)
       ∙ decided_read packet version (rule_text rule) (action_text action) h.how h.more h.others
@@ -350,7 +350,7 @@ module _ (laws : TextLaws) (net : Net) (sound : IsNet net) where
 
   pub line_told : (item : Item) → IsReadable net item
       → told_of (item_line net item) ≡ Some (told_item item)
-  unfolding told_of item_told journal_two_numbers_text
+  unfolding told_of audit_item_told journal_two_numbers_text
   line_told (item.Row row step) is = row_line_told row step is
   line_told (item.Entered packet switch header) is = entered_line_told packet switch is.0 is.1
   line_told (item.Submitted file version) is = submitted_line_told file version is.0 is.1
@@ -364,21 +364,21 @@ module _ (laws : TextLaws) (net : Net) (sound : IsNet net) where
   line_told (item.Lost packet) is =
       number_line_told (codes "  lost") (λ i. told.Ended i Lost) packet is refl
   line_told (item.Stuck packet switch cause leg down) is =
-      stuck_line_told packet switch (cause_text cause) is
+      stuck_line_told packet switch (journal_cause_text cause) is
   line_told (item.Closed packet switch) is =
       silent ((decimal packet ++ codes " ") ++ switch_name_of net switch)
   line_told (item.Seeking packet version partition route) is =
       silent ((((decimal packet ++ codes " v") ++ decimal version)
-      ++ journal_text_with_number (codes " part") partition) ++ via_text net route)
-  line_told (item.Exiting packet route) is = silent (decimal packet ++ via_text net route)
+      ++ journal_text_with_number (codes " part") partition) ++ journal_text_via net route)
+  line_told (item.Exiting packet route) is = silent (decimal packet ++ journal_text_via net route)
   line_told (item.Hopped packet switch) is =
       silent ((decimal packet ++ codes " ") ++ switch_name_of net switch)
   line_told (item.FoundDown packet one two) is =
       silent ((((decimal packet ++ codes " ") ++ switch_name_of net one) ++ codes " ") ++ switch_name_of net two)
-  line_told (item.Rerouted packet route) is = silent (decimal packet ++ via_text net route)
+  line_told (item.Rerouted packet route) is = silent (decimal packet ++ journal_text_via net route)
   line_told (item.Sent number message) is =
       silent ((((decimal number ++ codes " ") ++ journal_receiver_text net message.to) ++ codes " ")
-      ++ body_text net message.body)
+      ++ journal_body_text net message.body)
   line_told (item.Delivered number) is = silent (decimal number)
   line_told (item.Forgotten number) is = silent (decimal number)
   line_told (item.Expired switch place message) is =

@@ -4,9 +4,9 @@ use Rattle.base.proofs.Exports.{codes, cond_both, list_all}
 use Rattle.base.specs.Exports.{has, switches}
 use Rattle.update_machine.specs.Exports.{Action, Advert, Advertise, Authority, Body, CacheRule, Cached, Cause, Collect, Confirm, Crash, Deliver, Expire, Forget, Hello, Hop, How, Install, Installed, Item, LinkDown, LinkUp, Lose, Net, NoAuthority, NoRoute, OpenAt, Packet, Place, Resend, Restart, Stamp, Stamped, Step, Update}
 use Rattle.ctrl_msg.specs.declared.message.Place.TheVariants as receiver
-use Rattle.net_file.specs.Exports.{IsNet, NameLaws, names_text}
+use Rattle.net_file.specs.Exports.{IsNet, NameLaws, net_switch_names_text}
 use Rattle.journal.specs.declared.item.Item.TheVariants as item
-use Rattle.journal_text.specs.Lines.{advert_text, body_text, boot_text, cause_text, how_text, item_line, journal_mask_text, text_with_name, journal_text_with_number, packet_at_text, journal_pair_text, journal_receiver_text, journal_cached_rule_text, state_text, journal_step_text, journal_two_numbers_text, version_text, via_text}
+use Rattle.journal_text.specs.Lines.{advert_text, journal_body_text, boot_text, journal_cause_text, how_text, item_line, journal_mask_text, journal_text_with_name, journal_text_with_number, packet_at_text, journal_pair_text, journal_receiver_text, journal_cached_rule_text, state_text, journal_step_text, journal_two_numbers_text, version_text, journal_text_via}
 use Rattle.trace_texts.proofs.TraceTextPieces.{IsOneLine, action_word, bits_line, fields_line, joined, name_line, names_line, number_line, rule_word, tested, word_line}
 
 -- a text behind another one, its bytes tested one by one
@@ -36,7 +36,7 @@ ruled_line rule action =
     joined (onto (joined (tested (codes " rule ") refl) (word_line (rule_word rule))) (codes " ") refl)
     (word_line (action_word action))
 
-cause_line : (cause : Cause) → IsOneLine (cause_text cause)
+cause_line : (cause : Cause) → IsOneLine (journal_cause_text cause)
 cause_line NoAuthority = tested (codes "no-authority") refl
 cause_line NoRoute = tested (codes "no-route") refl
 
@@ -45,7 +45,7 @@ state_line true = tested (codes "up") refl
 state_line false = tested (codes "down") refl
 
 module _ (laws : NameLaws) (net : Net) (sound : IsNet net) where
-  named : {text : List ℕ} → IsOneLine text → (s : ℕ) → IsOneLine (text_with_name net text s)
+  named : {text : List ℕ} → IsOneLine text → (s : ℕ) → IsOneLine (journal_text_with_name net text s)
   named a s = joined (onto a (codes " ") refl) (name_line laws net sound s)
 
   at_line : {text : List ℕ} → IsOneLine text → (packet s : ℕ)
@@ -57,13 +57,13 @@ module _ (laws : NameLaws) (net : Net) (sound : IsNet net) where
       → IsOneLine (journal_pair_text net text one two)
   pair_line a one two = joined (onto (named a one) (codes " ") refl) (name_line laws net sound two)
 
-  via_line : (route : List ℕ) → IsOneLine (via_text net route)
-  unfolding via_text
+  via_line : (route : List ℕ) → IsOneLine (journal_text_via net route)
+  unfolding journal_text_via
   via_line route = joined (tested (codes " via") refl) (names_line laws net sound route)
 
   mask_line : (mask : ℕ) → IsOneLine (journal_mask_text net mask)
   mask_line mask =
-      cond_both (mask == 0) (codes " -") (names_text net (filter (has mask) switches)) IsOneLine
+      cond_both (mask == 0) (codes " -") (net_switch_names_text net (filter (has mask) switches)) IsOneLine
       (λ _. tested (codes " -") refl)
       (λ _. names_line laws net sound (filter (has mask) switches))
 
@@ -99,7 +99,7 @@ module _ (laws : NameLaws) (net : Net) (sound : IsNet net) where
       advert.boot) (codes " seq ") refl) (number_line advert.seq)) (codes " up") refl)
       (mask_line advert.up)
 
-  body_line : (body : Body) → IsOneLine (body_text net body)
+  body_line : (body : Body) → IsOneLine (journal_body_text net body)
   body_line (Install boot tables) =
       version_line (tested (codes "install") refl) boot tables.version
   body_line (OpenAt boot version) = version_line (tested (codes "open") refl) boot version

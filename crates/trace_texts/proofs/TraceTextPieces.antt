@@ -4,9 +4,9 @@ use Rattle.std.proofs.Common.{[], if◌then◌else◌, ◌%◌, ◌&&◌, ◌++�
 use Rattle.base.proofs.Exports.{All-append, All-cons, All-get_or, All-nil, All-weaker, AllPass-from_list_all, and_parts, cond_both, digit_glyph, digits, digits_onto, eqb-false, list_all, not-true, slice_get_cases, slice_split_at, slice_split_none}
 use Rattle.update_machine.specs.Exports.{Action, Drop, Fields, Net, Out, SwitchRow}
 use Rattle.five_tuple.specs.Exports.{address_text, fields_text, text_parts_round_byte, proto_number_text}
-use Rattle.net_file.specs.Exports.{IsNet, IsPlainNetByte, IsNetSwitchRow, NameLaws, is_name, switch_name_of, names_text}
+use Rattle.net_file.specs.Exports.{IsNet, IsPlainNetByte, IsNetSwitchRow, NameLaws, is_name, switch_name_of, net_switch_names_text}
 use Rattle.policy_rules.specs.Exports.{action_text, rule_text}
-use Rattle.ternary.specs.Exports.{WordValue, word_hex_digits, word_text}
+use Rattle.ternary.specs.Exports.{WordValue, word_hex_digits, ternary_word_text}
 
 abbrev IsLineByte : ℕ → Type 0
 IsLineByte byte = byte ≢ 10
@@ -134,8 +134,8 @@ hex_line (suc count) n = joined (hex_line count (n / 16)) (word_line (record {
       (glyph_in_word (digit_glyph false (n % 16)) (glyph_is (n % 16))) (All-nil IsWordByte);
 }))
 
-pub bits_line : (w : WordValue) → IsOneLine (word_text w)
-unfolding word_text
+pub bits_line : (w : WordValue) → IsOneLine (ternary_word_text w)
+unfolding ternary_word_text
 bits_line w = joined (hex_line 26 w.value) (joined (tested (47 ∷ []) refl) (hex_line 26 w.mask))
 
 -- ---- names
@@ -174,7 +174,7 @@ module _ (laws : NameLaws) (net : Net) (sound : IsNet net) where
   pub name_line : (s : ℕ) → IsOneLine (switch_name_of net s)
   name_line s = word_line (name_word s)
 
-  pub names_line : (list : List ℕ) → IsOneLine (names_text net list)
+  pub names_line : (list : List ℕ) → IsOneLine (net_switch_names_text net list)
   names_line [] = tested [] refl
   names_line (s ∷ list) =
       joined (joined (tested (codes " ") refl) (name_line s)) (names_line list)

@@ -3,7 +3,7 @@ use Rattle.std.proofs.Common.{[], ◌++◌, ◌<◌, ◌∙◌, ◌∷◌, ◌�
 use Rattle.base.proofs.Exports.{All-head, All-tail, length-slice_split}
 use Rattle.five_tuple.specs.Exports.{text_parts_round_byte}
 use Rattle.update_machine.specs.Exports.{PolicyFile}
-use Rattle.trace_audit.specs.Exports.{ReadsAllTraceLines, TraceLine, TraceState, Whole, lines_of, trace_lines_of_parts, told_of}
+use Rattle.trace_audit.specs.Exports.{ReadsAllAuditLines, TraceLine, TraceState, Whole, lines_of, trace_lines_of_parts, told_of}
 use Rattle.trace_audit.specs.Told as told
 use Rattle.trace_texts.specs.Texts.{IsLastTraceTextLine}
 use Rattle.trace_texts.proofs.TraceTextPieces.{IsOneLine, first_line}
@@ -47,7 +47,7 @@ last_told text is = elim is.begins [
 ]
 
 pub last_read : (files : List PolicyFile) (state : TraceState) (last : List (List ℕ))
-    → All IsLastTraceTextLine last → ReadsAllTraceLines files state (map (λ text. Whole text) last) state
+    → All IsLastTraceTextLine last → ReadsAllAuditLines files state (map (λ text. Whole text) last) state
 last_read files state [] are = refl
 last_read files state (text ∷ last) are = (
   state,

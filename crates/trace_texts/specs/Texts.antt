@@ -4,7 +4,7 @@ use Rattle.control_laws.specs.Exports.{AreNetworkEvents}
 use Rattle.update_machine.specs.Exports.{Answers, Event, IsSetting, Item, Setting, JournalStopsFull}
 use Rattle.journal_text.specs.Lines.{journal_text}
 use Rattle.steps.specs.Exports.{max_events, max_step_number}
-use Rattle.trace_audit.specs.Exports.{AreGoodTraceLines, lines_of}
+use Rattle.trace_audit.specs.Exports.{AreGoodAuditLines, lines_of}
 
 -- the line is a meter's, or the one that says whether the network is quiet
 pub record IsLastTraceTextLine (line : List ℕ) : Type 0 where
@@ -27,4 +27,4 @@ TextsAreGood = (setting : Setting) (events : List Event) (journal : List Item) (
     (last : List (List ℕ)) → IsSetting setting → AreNetworkEvents setting events
     → IsTraceTextAnswerTo setting events journal full
     → length events ≤ max_events → length setting.files ≤ max_step_number → All IsLastTraceTextLine last
-    → AreGoodTraceLines setting.files (lines_of (journal_text setting.net journal ++ trace_text_with_feeds last))
+    → AreGoodAuditLines setting.files (lines_of (journal_text setting.net journal ++ trace_text_with_feeds last))

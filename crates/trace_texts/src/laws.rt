@@ -1,7 +1,7 @@
 ghost use Rattle.trace_texts.specs.Texts.{TextsAreGood};
 
 use control_laws::versions_are_planned;
-use five_tuple::printed_fields_are_read_back;
+use five_tuple::tuple_fields_read_back;
 use net_file::{net_port_laws, switch_name_laws};
 use packet_laws::{
     answered_rows_are_entered, answers_are_runs, ends_have_causes, packet_rows_are_entered,
@@ -12,7 +12,7 @@ use packet_laws::{
 pub fn texts_are_good()
     ensures { TextsAreGood }
 {
-    printed_fields_are_read_back();
+    tuple_fields_read_back();
     switch_name_laws();
     net_port_laws();
     versions_are_planned();

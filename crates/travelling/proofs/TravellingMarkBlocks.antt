@@ -1,7 +1,7 @@
 -- The marks of blocks: which masks have a bit.
 use Rattle.std.proofs.Common.{[], ◌%◌, ◌*◌, ◌+◌, ◌-◌, ◌/◌, ◌<◌, ◌==◌, ◌^◌, ◌∙◌, ◌≡◌, ◌≤◌, ◌⊎◌, Bool, List, ap, arith, eqb-true, false, inl, inr, length, not, refl, sym, true, ℕ}
 use Rattle.base.proofs.Exports.{cases_lt, get_or_past, has-zero, has_least, least_below, least_lt, some_of}
-use Rattle.base.specs.Exports.{has, least_in}
+use Rattle.base.specs.Exports.{has, least_in_number_set}
 use Rattle.travelling.specs.SwitchIndex.{AreTravellerMarkLevels, AreTravellerBlockMarks, IsLeastTravellerMarked, IsNoTravellerMarked, has_traveller_marks, is_traveller_marked, traveller_mask_at}
 
 pub no_levels : AreTravellerMarkLevels [] [] []
@@ -68,7 +68,7 @@ module _ (masks : List ℕ) (block s : ℕ) (some : has_traveller_marks masks bl
         let more = some_of mask some in omega (arith, none, more))
 
   module _ (fits : mask < 2 ^ 64) where
-    few : least_in mask < 64
+    few : least_in_number_set mask < 64
     few = least_lt mask (some_of mask some) fits
 
     in_block : (k : ℕ) → k < 64 → is_traveller_marked masks (block * 64 + k) s ≡ has mask k
@@ -76,10 +76,10 @@ module _ (masks : List ℕ) (block s : ℕ) (some : has_traveller_marks masks bl
         (let high : (block * 64 + k) / 64 ≡ block = omega (arith, below) in high) ∙ ap (has mask)
         (let low : (block * 64 + k) % 64 ≡ k = omega (arith, below) in low)
 
-    pub first_marked : IsLeastTravellerMarked masks s (block * 64) (block * 64 + least_in mask)
+    pub first_marked : IsLeastTravellerMarked masks s (block * 64) (block * 64 + least_in_number_set mask)
     first_marked = (
       omega arith,
-      in_block (least_in mask) few ∙ has_least mask (some_of mask some) fits,
+      in_block (least_in_number_set mask) few ∙ has_least mask (some_of mask some) fits,
       λ i above before. let k = i - block * 64 in
           let is : i ≡ block * 64 + k = omega (arith, above) in
           ap (λ j. is_traveller_marked masks j s) is ∙ in_block k (omega (arith, before, few))

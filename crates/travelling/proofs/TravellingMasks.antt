@@ -1,7 +1,7 @@
 -- The masks of where packets stand.
 use Rattle.std.proofs.Common.{[], ◌%◌, ◌&&◌, ◌*◌, ◌+◌, ◌-◌, ◌/◌, ◌<◌, ◌==◌, ◌^◌, ◌∙◌, ◌≡◌, ◌≢◌, ◌≤◌, ◌⊎◌, ◌||◌, Bool, IsSomeAnd, List, None, ap, arith, bit_xor, eq-eqb, eqb-true, false, get_or, get_or-set_other, get_or-set_same, inl, inr, is_some, length, max, not, refl, set, shr-shr, subst, sym, true, ℕ}
 use Rattle.base.proofs.Exports.{bit_at, bit_at-lt, bit_at-pow_same, bit_at_xor, cases_lt, get_or_past, has-xor_other, has-zero, has_above, has_least, least_below, nat_tests, shr_le}
-use Rattle.base.specs.Exports.{has, least_in}
+use Rattle.base.specs.Exports.{has, least_in_number_set}
 use Rattle.travelling.specs.SwitchIndex.{traveller_mark_flipped_if, has_traveller_marks, is_traveller_marked}
 use Rattle.travelling.specs.Travelling.{Flight, AreTravellersMarked, Flights, stands_at, flight}
 
@@ -198,22 +198,22 @@ module _ (masks : List ℕ) (s next : ℕ) where
 
   module _ (some : 0 < rest) (fits : get_or masks (next / 64 * 64 + s) 0 < 2 ^ 64)
       (rest_fits : rest < 2 ^ 64) where
-    within : next % 64 + least_in rest < 64
-    within = by_place (cases_lt (next % 64 + least_in rest) 64) where
-      by_place : (next % 64 + least_in rest < 64) ⊎ (64 ≤ next % 64 + least_in rest)
-          → next % 64 + least_in rest < 64
+    within : next % 64 + least_in_number_set rest < 64
+    within = by_place (cases_lt (next % 64 + least_in_number_set rest) 64) where
+      by_place : (next % 64 + least_in_number_set rest < 64) ⊎ (64 ≤ next % 64 + least_in_number_set rest)
+          → next % 64 + least_in_number_set rest < 64
       by_place (inl below) = below
       by_place (inr past) = absurd (
-          let yes = sym (has-shr (get_or masks (next / 64 * 64 + s) 0) (next % 64) (least_in rest))
+          let yes = sym (has-shr (get_or masks (next / 64 * 64 + s) 0) (next % 64) (least_in_number_set rest))
           ∙ has_least rest some rest_fits in
-          let no = has_above (get_or masks (next / 64 * 64 + s) 0) (next % 64 + least_in rest) fits past in
+          let no = has_above (get_or masks (next / 64 * 64 + s) 0) (next % 64 + least_in_number_set rest) fits past in
           cc)
 
-    pub least_marked : is_traveller_marked masks (next + least_in rest) s ≡ true
-    least_marked = in_block (next + least_in rest) (omega arith) (omega (arith, within))
-        ∙ ap (has rest) (let e : next + least_in rest - next ≡ least_in rest = omega arith in e)
+    pub least_marked : is_traveller_marked masks (next + least_in_number_set rest) s ≡ true
+    least_marked = in_block (next + least_in_number_set rest) (omega arith) (omega (arith, within))
+        ∙ ap (has rest) (let e : next + least_in_number_set rest - next ≡ least_in_number_set rest = omega arith in e)
         ∙ has_least rest some rest_fits
 
-    pub none_before : (i : ℕ) → next ≤ i → i < next + least_in rest → is_traveller_marked masks i s ≡ false
+    pub none_before : (i : ℕ) → next ≤ i → i < next + least_in_number_set rest → is_traveller_marked masks i s ≡ false
     none_before i above below = in_block i above (omega (arith, within, below))
         ∙ least_below rest some rest_fits (i - next) (omega (arith, above, below))

@@ -56,8 +56,8 @@ pub record Standing : Type 0 where
   pub down : List ℕ
 
 -- a packet on its way, at a switch
-abbrev pub standing_at : ℕ → Flight → Standing
-standing_at switch flight = record {
+abbrev pub traveller_standing_at : ℕ → Flight → Standing
+traveller_standing_at switch flight = record {
   packet = flight.tunnel.packet;
   header = flight.tunnel.header;
   ingress = flight.tunnel.ingress;
@@ -66,8 +66,8 @@ standing_at switch flight = record {
 }
 
 -- the link from its switch to another was found down
-abbrev pub flight_marked_at : Standing → ℕ → Standing
-flight_marked_at at other = record at { down = with_link at.down at.switch other }
+abbrev pub traveller_found_down_at : Standing → ℕ → Standing
+traveller_found_down_at at other = record at { down = with_link at.down at.switch other }
 
 -- at the beginning of this route on its leg
 abbrev pub flight_begun_at : Standing → Leg → List ℕ → List ℕ → TunnelValue
@@ -136,7 +136,8 @@ AreTravellersMarked flights by_switch =
 abbrev pub TravellingStandBelow : Flights → Type 0
 TravellingStandBelow flights = (i s : ℕ) → 64 ≤ s → stands_at s (flight flights i) ≡ false
 
--- numbers have 32 bits, no packet below the first one travels, and each is marked where it is
+-- numbers have 32 bits, no packet below the first one travels, and each is marked where it is: at a
+-- switch below 64, which has room for its marks
 pub record IsTravellingTable (flights : Flights) (first : ℕ) (by_switch : List ℕ) : Type 0 where
   pub few : length flights ≤ 4_294_967_296
   pub none : (i : ℕ) → i < first → flight flights i ≡ None

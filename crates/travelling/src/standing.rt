@@ -1,7 +1,7 @@
 ghost use Rattle.std.specs.Prelude.{◌≡◌, ◌≢◌, ◌<◌, OnErr, OnOk, unwrap_or};
 ghost use Rattle.std.specs.Option.{option_copied};
 ghost use Rattle.failover.specs.Links.{no_links};
-ghost use Rattle.travelling.specs.Travelling.{flight_marked_at, traveller_standing_kept};
+ghost use Rattle.travelling.specs.Travelling.{traveller_found_down_at, traveller_standing_kept};
 
 use five_tuple::Header;
 use journal::{DownSet, SharedLinks};
@@ -33,7 +33,7 @@ impl Standing {
         requires here { self.old.switch < 64 }
         requires switch { other < 64 }
         ensures marked { OnOk result
-            (traveller_standing_kept self.new ≡ flight_marked_at (traveller_standing_kept self.old) other) }
+            (traveller_standing_kept self.new ≡ traveller_found_down_at (traveller_standing_kept self.old) other) }
         ensures rest { self.new ≡ record self.old { down = self.new.down } }
         ensures unchanged { OnErr result (self.new ≡ self.old) }
     {

@@ -1,6 +1,6 @@
 ghost use Rattle.std.specs.Prelude.{◌≡◌, ◌<◌, IfOk};
 ghost use Rattle.tunnel.specs.Moves.{here, next};
-ghost use Rattle.travelling.specs.Travelling.{FlightHasPlace, flight_begun_at, flight_placed_at, standing_at, traveller_standing_kept, travels_by};
+ghost use Rattle.travelling.specs.Travelling.{FlightHasPlace, flight_begun_at, flight_placed_at, traveller_standing_at, traveller_standing_kept, travels_by};
 
 use crate::standing::Standing;
 use five_tuple::Header;
@@ -66,7 +66,7 @@ impl StoredFlight {
     /// # Errors
     /// Only out of memory.
     pub fn standing(&self, switch: u32) -> Result<Standing, AllocError>
-        ensures at { IfOk result (λ at. traveller_standing_kept at ≡ standing_at switch self.now) }
+        ensures at { IfOk result (λ at. traveller_standing_kept at ≡ traveller_standing_at switch self.now) }
         ensures version { IfOk result (λ at. at.version ≡ self.now.version) }
         ensures rule { IfOk result (λ at. at.rule ≡ self.now.rule) }
     {

@@ -15,7 +15,7 @@ use std::marker::Model;
 
 /// The marks of where packets are. Contracts see the first level.
 #[derive(Drop)]
-pub struct SwitchIndex {
+pub struct TravellerSwitchIndex {
     packets: Vec<u64>,
     // Which blocks of packets have marks.
     blocks: Vec<u64>,
@@ -23,7 +23,7 @@ pub struct SwitchIndex {
     groups: Vec<u64>,
 }
 
-impl Model for SwitchIndex {
+impl Model for TravellerSwitchIndex {
     ghost use Rattle.std.specs.Prelude.{List, ℕ};
     ghost use Rattle.travelling.specs.SwitchIndex.{AreTravellerMarkLevels};
 
@@ -34,12 +34,12 @@ impl Model for SwitchIndex {
     ghost invariant = { λ m. AreTravellerMarkLevels m.packets.items m.blocks.items m.groups.items };
 }
 
-impl SwitchIndex {
+impl TravellerSwitchIndex {
     /// An index without marks; it allocates nothing yet.
-    pub fn new(alloc: Global) -> SwitchIndex
+    pub fn new(alloc: Global) -> TravellerSwitchIndex
         ensures { result ≡ [] }
     {
-        SwitchIndex {
+        TravellerSwitchIndex {
             packets: Vec::new(alloc),
             blocks: Vec::new(alloc),
             groups: Vec::new(alloc),
@@ -57,9 +57,9 @@ impl SwitchIndex {
         ensures grown { length self.old ≤ length self.new }
         ensures same { (j : ℕ) → slice_index_or self.new j 0 ≡ slice_index_or self.old j 0 }
     {
-        make_switch_masks(&mut self.groups, number / 64 / 64)?;
-        make_switch_masks(&mut self.blocks, number / 64)?;
-        make_switch_masks(&mut self.packets, number)
+        make_traveller_masks(&mut self.groups, number / 64 / 64)?;
+        make_traveller_masks(&mut self.blocks, number / 64)?;
+        make_traveller_masks(&mut self.packets, number)
     }
 
     /// Flips the mark of the slot's packet at the switch where it is.
@@ -97,18 +97,18 @@ impl SwitchIndex {
         requires { switch < 64 }
         ensures { IsNextTravellerMarked self.now switch from result }
     {
-        if let Some(packet) = next_mark_in_block(&self.packets, from, switch) {
+        if let Some(packet) = next_traveller_mark_in_block(&self.packets, from, switch) {
             return Some(packet);
         }
-        match next_mark_by_blocks(&self.blocks, &self.groups, from / 64 + 1, switch) {
-            Some(block) => Some(first_mark_of_block(&self.packets, block, switch)),
+        match next_traveller_by_blocks(&self.blocks, &self.groups, from / 64 + 1, switch) {
+            Some(block) => Some(first_traveller_of_block(&self.packets, block, switch)),
             None => None,
         }
     }
 }
 
 // Makes sure that there is a mask for this number at each switch.
-fn make_switch_masks(masks: &mut Vec<u64>, number: usize) -> Result<(), AllocError>
+fn make_traveller_masks(masks: &mut Vec<u64>, number: usize) -> Result<(), AllocError>
     requires { number < 4_294_967_296 }
     ensures room { OnOk result (number + 64 ≤ length masks.new.items) }
     ensures grown { length masks.old.items ≤ length masks.new.items }
@@ -144,29 +144,34 @@ fn turn(masks: &mut Vec<u64>, number: usize, switch: u32) -> bool
 
 // The least number at or above `from` that is marked at the switch, if there is one, by the marks
 // of the blocks. It looks at those of 64 blocks at once.
-fn next_mark_by_blocks(masks: &[u64], blocks: &[u64], from: usize, switch: u32) -> Option<usize>
+fn next_traveller_by_blocks(
+    masks: &[u64],
+    blocks: &[u64],
+    from: usize,
+    switch: u32,
+) -> Option<usize>
     requires blocks { AreTravellerBlockMarks masks.now blocks.now }
     requires switch { switch < 64 }
     ensures { IsNextTravellerMarked masks.now switch from result }
 {
-    if let Some(number) = next_mark_in_block(masks, from, switch) {
+    if let Some(number) = next_traveller_mark_in_block(masks, from, switch) {
         return Some(number);
     }
-    match next_mark(blocks, from / 64 + 1, switch) {
-        Some(block) => Some(first_mark_of_block(masks, block, switch)),
+    match next_traveller_mark(blocks, from / 64 + 1, switch) {
+        Some(block) => Some(first_traveller_of_block(masks, block, switch)),
         None => None,
     }
 }
 
 // The least number at or above `from` that is marked at the switch, if there is one. It looks at
 // 64 at once.
-fn next_mark(masks: &[u64], from: usize, switch: u32) -> Option<usize>
+fn next_traveller_mark(masks: &[u64], from: usize, switch: u32) -> Option<usize>
     requires { switch < 64 }
     ensures { IsNextTravellerMarked masks.now switch from result }
 {
     let mut next = from;
     while next / 64 * 64 + (switch as usize) < masks.len() {
-        if let Some(number) = next_mark_in_block(masks, next, switch) {
+        if let Some(number) = next_traveller_mark_in_block(masks, next, switch) {
             return Some(number);
         }
         next = (next / 64 + 1) * 64;
@@ -175,7 +180,7 @@ fn next_mark(masks: &[u64], from: usize, switch: u32) -> Option<usize>
 }
 
 // The same, if that number is in the block of `from`; otherwise `None`.
-fn next_mark_in_block(masks: &[u64], from: usize, switch: u32) -> Option<usize>
+fn next_traveller_mark_in_block(masks: &[u64], from: usize, switch: u32) -> Option<usize>
     requires { switch < 64 }
     ensures { IsNextTravellerInBlock masks.now switch from result }
 {
@@ -191,7 +196,7 @@ fn next_mark_in_block(masks: &[u64], from: usize, switch: u32) -> Option<usize>
 }
 
 // The least number of the block that is marked at the switch.
-fn first_mark_of_block(masks: &[u64], block: usize, switch: u32) -> usize
+fn first_traveller_of_block(masks: &[u64], block: usize, switch: u32) -> usize
     requires switch { switch < 64 }
     requires some { has_traveller_marks masks.now block switch ≡ true }
     ensures { IsLeastTravellerMarked masks.now switch (block * 64) result }

@@ -15,7 +15,7 @@ use crate::held_flight::HeldFlight;
 use crate::no_links::NoLinks;
 use crate::standing::Standing;
 use crate::stored_flight::StoredFlight;
-use crate::switch_index::SwitchIndex;
+use crate::switch_index::TravellerSwitchIndex;
 use journal::SharedLinks;
 use std::alloc::{AllocError, Global};
 use std::marker::Model;
@@ -27,7 +27,7 @@ pub struct Travelling {
     // No packet below it travels.
     first: usize,
     // Where packets are.
-    by_switch: SwitchIndex,
+    by_switch: TravellerSwitchIndex,
     // The empty set, which all packets share that found no link down.
     no_links: NoLinks,
 }
@@ -50,7 +50,7 @@ impl Travelling {
         Travelling {
             slots: Vec::new(alloc),
             first: 0,
-            by_switch: SwitchIndex::new(alloc),
+            by_switch: TravellerSwitchIndex::new(alloc),
             no_links: NoLinks::new(),
         }
     }
@@ -87,7 +87,7 @@ impl Travelling {
             number
         };
         self.by_switch.make_bits(number)?;
-        make_room(&mut self.slots, number)?;
+        make_traveller_slot(&mut self.slots, number)?;
         set_packet_slot(&mut self.slots, &mut self.by_switch, number, Some(held));
         self.first = first;
         Ok(())
@@ -160,7 +160,7 @@ impl Travelling {
 // Makes sure that there is a slot of this number. Each new one is pushed, so that n of them take
 // O(n) in all.
 #[tactic(auto, using(crate::proofs::TravellingTable::pushed_same))]
-fn make_room(slots: &mut Vec<Option<HeldFlight>>, number: usize) -> Result<(), AllocError>
+fn make_traveller_slot(slots: &mut Vec<Option<HeldFlight>>, number: usize) -> Result<(), AllocError>
     ensures room { OnOk result (number < length slots.new.items) }
     ensures few { length slots.new.items ≤ max (length slots.old.items) (number + 1) }
     ensures same { (i : ℕ) → flight slots.new.items i ≡ flight slots.old.items i }
@@ -188,7 +188,7 @@ fn first_held_packet(slots: &[Option<HeldFlight>], from: usize) -> usize
 // Replaces what the slot holds, and marks its packet where it is.
 fn set_packet_slot(
     slots: &mut Vec<Option<HeldFlight>>,
-    by_switch: &mut SwitchIndex,
+    by_switch: &mut TravellerSwitchIndex,
     number: usize,
     slot: Option<HeldFlight>,
 )
@@ -209,7 +209,7 @@ fn set_packet_slot(
 // Moves the packet of the slot to this place of its route, and marks it there.
 fn move_packet_slot(
     slots: &mut Vec<Option<HeldFlight>>,
-    by_switch: &mut SwitchIndex,
+    by_switch: &mut TravellerSwitchIndex,
     number: usize,
     place: u32,
 )

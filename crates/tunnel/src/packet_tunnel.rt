@@ -82,7 +82,7 @@ impl Tunnel {
         ensures more { IsSome result ↔ (self.now.place + 1 < length self.now.route) }
         ensures other { IfSome result (λ other. (other ≢ here self.now) × (other < 64)) }
     {
-        route_switch_after(&self.route, self.place)
+        tunnel_route_switch_after(&self.route, self.place)
     }
 
     /// Moves one place on.
@@ -122,7 +122,7 @@ impl Tunnel {
 }
 
 // The switch after this place on the route.
-fn route_switch_after(route: &Route, place: u32) -> Option<u32>
+fn tunnel_route_switch_after(route: &Route, place: u32) -> Option<u32>
     ensures { result ≡ slice_get route.now (place + 1) }
 {
     route.items().get(place as usize + 1).copied()

@@ -1,7 +1,7 @@
 -- Each block of a piece takes the next numbers.
 use Rattle.base.proofs.Exports.{⊤, flat_map-append, option_or, option_or-assoc, option_or-none, sum_by-append}
 use Rattle.std.proofs.Common.{[], ◌++◌, ◌+◌, ◌∙◌, ◌∷◌, ◌≡◌, ◌≤◌, Bool, List, None, Option, Some, ap, append-nil, append_assoc, arith, map, refl, subst, suc, sym, take, zero, ℕ}
-use Rattle.update_machine.specs.Exports.{Action, AuthorityRule, JournalBeginsAnswer, Body, Confirm, Crash, Deliver, Event, Exit, Expire, Forget, Found, JournalItemsHaveCauses, Header, Hop, How, Item, Leg, LinkDown, LinkUp, Lose, Message, Packet, Resend, Restart, Seek, Setting, Step, StepOfRow, MachineTakesNextNumber, Update, after_hello, journal_after_steps, journal_all_given, journal_leg_arrival_items, machine_arrive_items, machine_authority_items, journal_authority_rule, journal_cache_items, confirm_items, controller_items, count_of, journal_crash_items, current_items, deliver_items, machine_delivery_items, end_items, machine_expire_items, journal_first_given, folded_journal_from, journal_folded_value, forget_items, found_items, go_on, journal_packet_header_at, machine_hop_items, in_turn, machine_installs_to, machine_installs_to_all, is_packet, is_sending, journal_items_then, journal_last_given, machine_leg_items, journal_leg_of, journal_link_changes, machine_link_items, lookup_at, lookup_items, lose_items, move_items, journal_next_message, journal_next_packet, machine_open_items, packet_items, piece, journal_reroute_by, reroute_items, resend_items, restart_items, retired_items, send_items, machine_sends_or_nothing, machine_sent_items_from, settling, journal_stamp_of, step_items, submitted_items, journal_switch_items, update_items}
+use Rattle.update_machine.specs.Exports.{Action, AuthorityRule, JournalBeginsAnswer, Body, Confirm, Crash, Deliver, Event, Exit, Expire, Forget, Found, JournalItemsHaveCauses, Header, Hop, How, Item, Leg, LinkDown, LinkUp, Lose, Message, Packet, Resend, Restart, Seek, Setting, Step, StepOfRow, MachineTakesNextNumber, Update, machine_after_hello, journal_after_steps, journal_all_given, journal_leg_arrival_items, machine_arrive_items, machine_authority_items, journal_authority_rule, journal_cache_items, confirm_items, controller_items, count_of, journal_crash_items, current_items, deliver_items, machine_delivery_items, machine_end_items, machine_expire_items, journal_first_given, folded_journal_from, journal_folded_value, machine_forget_items, found_items, go_on, journal_packet_header_at, machine_hop_items, in_turn, machine_installs_to, machine_installs_to_all, is_packet, is_sending, journal_items_then, journal_last_given, machine_leg_items, journal_leg_of, journal_link_changes, machine_link_items, lookup_at, machine_lookup_items, lose_items, machine_move_items, journal_next_message, journal_next_packet, machine_open_items, machine_packet_items, piece, journal_reroute_by, machine_reroute_items, machine_resend_items, restart_items, machine_retired_items, send_items, machine_sends_or_nothing, machine_sent_items_from, settling, journal_stamp_of, machine_step_items, submitted_items, journal_switch_items, machine_update_items}
 
 -- ---- causes of items, for any table of causes
 
@@ -158,8 +158,8 @@ unfolding machine_leg_items
 leg_next setting journal i s leg = grind arith
 
 pub end_next : (setting : Setting) (i s : ℕ) (action : Action) (journal : List Item)
-    → Next journal (end_items setting i s action journal)
-unfolding end_items
+    → Next journal (machine_end_items setting i s action journal)
+unfolding machine_end_items
 end_next setting i s Action.Drop journal = grind arith
 end_next setting i s (Action.Out port) journal = grind (arith, leg_next)
 
@@ -175,7 +175,7 @@ authority_next setting i s None journal = tt
 authority_next setting i s (Some found) journal =
     let decided : Item = Item.Decided i found.version found.rule.rule found.rule.action
     (How.Authority s found.part.number) in
-    let blocks = journal_cache_items setting i s found ∷ end_items setting i s found.rule.action ∷ [] in
+    let blocks = journal_cache_items setting i s found ∷ machine_end_items setting i s found.rule.action ∷ [] in
     have_first MachineTakesNextNumber decided (in_turn blocks) journal tt
     (have_in_turn MachineTakesNextNumber blocks
     (cache_next setting i s found, (end_next setting i s found.rule.action, tt))
@@ -185,7 +185,7 @@ pub found_next : (setting : Setting) (i s : ℕ) (what : Found) (journal : List 
     → Next journal (found_items setting i s what journal)
 found_next setting i s (Found.Cached entry) journal =
     let decided = Item.Decided i entry.version entry.rule entry.action (How.Cached entry.message) in
-    have_first MachineTakesNextNumber decided (end_items setting i s entry.action) journal tt
+    have_first MachineTakesNextNumber decided (machine_end_items setting i s entry.action) journal tt
     (end_next setting i s entry.action (journal ++ decided ∷ []))
 found_next setting i s (Found.Authority partition place) journal = authority_next setting i s
     (journal_authority_rule setting journal (journal_stamp_of journal s) partition place) journal
@@ -193,8 +193,8 @@ found_next setting i s (Found.Redirect partition targets) journal = leg_next set
     (Seek (journal_stamp_of journal s) partition)
 
 pub lookup_next : (setting : Setting) (i s : ℕ) (journal : List Item)
-    → Next journal (lookup_items setting i s journal)
-unfolding lookup_items
+    → Next journal (machine_lookup_items setting i s journal)
+unfolding machine_lookup_items
 lookup_next setting i s journal = found_next setting i s
     (lookup_at setting journal s (journal_packet_header_at journal i)) journal
 
@@ -220,13 +220,13 @@ reroute_by_next setting i s None journal = tt
 reroute_by_next setting i s (Some leg) journal = grind (arith, have_put, go_on_next)
 
 reroute_next : (setting : Setting) (i s : ℕ) (journal : List Item)
-    → Next journal (reroute_items setting i s journal)
-unfolding reroute_items
+    → Next journal (machine_reroute_items setting i s journal)
+unfolding machine_reroute_items
 reroute_next setting i s journal = reroute_by_next setting i s (journal_leg_of journal i) journal
 
 pub move_next : (setting : Setting) (i s : ℕ) (journal : List Item)
-    → Next journal (move_items setting i s journal)
-unfolding move_items
+    → Next journal (machine_move_items setting i s journal)
+unfolding machine_move_items
 move_next setting i s journal = grind (arith, arrive_next, have_put, reroute_next)
 
 -- ---- the controller
@@ -241,15 +241,15 @@ unfolding machine_open_items
 open_next setting journal = sends_next journal _
 
 retired_next : (setting : Setting) (journal : List Item)
-    → Next journal (retired_items setting journal)
-unfolding retired_items
+    → Next journal (machine_retired_items setting journal)
+unfolding machine_retired_items
 retired_next setting journal = grind (arith, have_put, sends_next)
 
 pub settling_next : (setting : Setting) (journal : List Item)
     → Next journal (settling setting journal)
 unfolding settling
 settling_next setting journal =
-    have_in_turn MachineTakesNextNumber (current_items setting ∷ machine_open_items setting ∷ retired_items setting ∷ [])
+    have_in_turn MachineTakesNextNumber (current_items setting ∷ machine_open_items setting ∷ machine_retired_items setting ∷ [])
     (current_next setting, (open_next setting, (retired_next setting, tt))) journal
 
 installs_next : (setting : Setting) (s : ℕ) (journal : List Item)
@@ -285,7 +285,7 @@ switch_next setting before s (Body.Advertise advert) journal = grind (arith, sen
 switch_next setting before s _ journal = tt
 
 hello_next : (setting : Setting) (before : List Item) (body : Body) (journal : List Item)
-    → Next journal (after_hello setting before body journal)
+    → Next journal (machine_after_hello setting before body journal)
 hello_next setting before (Body.Hello s boot) journal = grind (arith, installs_next)
 hello_next setting before _ journal = tt
 
@@ -293,7 +293,7 @@ controller_next : (setting : Setting) (before : List Item) (body : Body) (journa
     → Next journal (controller_items setting before body journal)
 unfolding controller_items
 controller_next setting before body journal =
-    have_in_turn MachineTakesNextNumber (settling setting ∷ after_hello setting before body ∷ [])
+    have_in_turn MachineTakesNextNumber (settling setting ∷ machine_after_hello setting before body ∷ [])
     (settling_next setting, (hello_next setting before body, tt)) journal
 
 pub delivery_next : (setting : Setting) (before : List Item) (number : ℕ) (journal : List Item)
@@ -310,8 +310,8 @@ unfolding journal_next_packet
 packet_behind_row journal row step = rw (count_of_append is_packet journal) (omega arith)
 
 packet_next : (setting : Setting) (i s : ℕ) (header : Header) (journal : List Item)
-    → i ≡ journal_next_packet journal → Next journal (packet_items setting i s header journal)
-unfolding packet_items
+    → i ≡ journal_next_packet journal → Next journal (machine_packet_items setting i s header journal)
+unfolding machine_packet_items
 packet_next setting i s header journal next = grind (arith, have_first, lookup_next)
 
 lost_next : (packets : List ℕ) (journal : List Item) → Next journal (map Item.Lost packets)
@@ -334,9 +334,9 @@ sends_or_nothing_next journal [] = (tt, tt)
 sends_or_nothing_next journal (message ∷ messages) = sends_next journal (message ∷ messages)
 
 step_next : (setting : Setting) (before : List Item) (row : ℕ) (step : Step) → let behind =
-    before ++ Item.Row row step ∷ [] in Next behind (step_items setting before step behind)
-unfolding machine_hop_items lose_items deliver_items forget_items machine_expire_items update_items machine_link_items
-    journal_crash_items restart_items confirm_items resend_items
+    before ++ Item.Row row step ∷ [] in Next behind (machine_step_items setting before step behind)
+unfolding machine_hop_items lose_items deliver_items machine_forget_items machine_expire_items machine_update_items machine_link_items
+    journal_crash_items restart_items confirm_items machine_resend_items
 step_next setting before row (Packet switch header) = packet_next setting (journal_next_packet before)
     switch header _ (sym (packet_behind_row before row (Packet switch header)))
 step_next setting before row (Hop packet) = grind (arith, move_next)
@@ -356,4 +356,4 @@ pub piece_next : (setting : Setting) (journal : List Item) (row : ℕ) (step : S
     → Next journal (piece setting journal row step)
 unfolding piece
 piece_next setting journal row step = have_first MachineTakesNextNumber (Item.Row row step)
-    (step_items setting journal step) journal tt (step_next setting journal row step)
+    (machine_step_items setting journal step) journal tt (step_next setting journal row step)

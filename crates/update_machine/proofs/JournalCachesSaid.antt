@@ -1,6 +1,6 @@
 -- What caches and lookups are said to be, on journals of few items.
 use Rattle.std.proofs.Common.{[], ◌++◌, ◌∷◌, ◌≡◌, List, None, Ok, Some, codes, false, refl, ℕ}
-use Rattle.update_machine.specs.Exports.{Add, Body, CacheEntry, CacheRule, Change, Drop, Header, How, Is, Item, Net, Out, Redirect, Row, Rule, Setting, Stamp, Step, Whole, journal_boot_of, journal_cache_of, file_of, heard, is_up, lookup_at, message_of, journal_plan_at, policy_in, raised_from, journal_stamp_of, touched_by}
+use Rattle.update_machine.specs.Exports.{Add, Body, CacheEntry, CacheRule, Change, Drop, Header, How, Is, Item, Net, Out, Redirect, Row, Rule, Setting, Stamp, Step, Whole, journal_boot_of, journal_cache_of, file_of, heard, is_up, lookup_at, journal_message_of, journal_plan_at, policy_in, raised_from, journal_stamp_of, machine_touched_by}
 use Rattle.five_tuple.specs.Exports.{cover_of, header_of}
 use Rattle.policy_rules.specs.Exports.{word_of_row}
 use Rattle.switch_table.specs.Exports.{cache_all_touched, same_key}
@@ -40,14 +40,14 @@ entry number version word = record {
 -- two versions of one word are beside each other; the same version once more changes nothing
 pub by_version_and_word : (journal_cache_of moved (cached 1 1 web ++ cached 2 2 web ++ cached 3 1 web)
     0).entries ≡ entry 1 1 web ∷ entry 2 2 web ∷ []
-unfolding journal_cache_of journal_stamp_of heard is_up journal_boot_of message_of same_key
+unfolding journal_cache_of journal_stamp_of heard is_up journal_boot_of journal_message_of same_key
 by_version_and_word = refl
 
 -- a stamp removes what is of a lower version, and no more of it is taken in
 pub below_the_stamp : (journal_cache_of moved
     (cached 1 1 web ++ cached 2 2 web ++ stamped 3 2 ++ cached 4 1 any_word) 0).entries
     ≡ entry 2 2 web ∷ []
-unfolding journal_cache_of touched_by file_of policy_in meets journal_stamp_of heard is_up journal_boot_of message_of same_key
+unfolding journal_cache_of machine_touched_by file_of policy_in meets journal_stamp_of heard is_up journal_boot_of journal_message_of same_key
 below_the_stamp = refl
 
 -- an equal or a lower stamp, which comes late, doesn't rise and removes nothing
@@ -63,25 +63,25 @@ a_rise = refl
 pub second_expires : (journal_cache_of moved
     (cached 1 1 web ++ cached 2 1 any_word ++ Item.Expired 0 1 2 ∷ []) 0).entries
     ≡ entry 1 1 web ∷ []
-unfolding journal_cache_of journal_stamp_of heard is_up journal_boot_of message_of same_key
+unfolding journal_cache_of journal_stamp_of heard is_up journal_boot_of journal_message_of same_key
 second_expires = refl
 
 -- it has room for four
 pub first_goes : (journal_cache_of moved (cached 1 1 web ++ cached 2 1 any_word ++ cached 3 2 web
     ++ cached 4 2 any_word ++ cached 5 3 web) 0).entries
     ≡ entry 2 1 any_word ∷ entry 3 2 web ∷ entry 4 2 any_word ∷ entry 5 3 web ∷ []
-unfolding journal_cache_of journal_stamp_of heard is_up journal_boot_of message_of same_key
+unfolding journal_cache_of journal_stamp_of heard is_up journal_boot_of journal_message_of same_key
 first_goes = refl
 
 -- a crash empties it
 pub empty_after_crash :
     (journal_cache_of moved (cached 1 1 web ++ Item.Down 0 ∷ Item.Booted 0 2 ∷ []) 0).entries ≡ []
-unfolding journal_cache_of journal_stamp_of heard is_up journal_boot_of message_of same_key
+unfolding journal_cache_of journal_stamp_of heard is_up journal_boot_of journal_message_of same_key
 empty_after_crash = refl
 
 -- another switch's cache is its own
 pub empty_at_b : (journal_cache_of moved (cached 1 1 web) 1).entries ≡ []
-unfolding journal_cache_of journal_stamp_of heard is_up journal_boot_of message_of same_key
+unfolding journal_cache_of journal_stamp_of heard is_up journal_boot_of journal_message_of same_key
 empty_at_b = refl
 
 -- ---- a change: the second file adds `200,any,10.1.0.0/16,any,80,tcp,drop`
@@ -97,8 +97,8 @@ web_row = record (all_to Drop) {
 abbrev amended : Setting
 amended = record moved { files = Whole (all_to (Out 2) ∷ []) ∷ Change (Add web_row ∷ []) ∷ [] }
 
-pub touches_its_row : touched_by amended (Item.Submitted 2 2 ∷ []) 2 ≡ web ∷ []
-unfolding touched_by policy_in file_of cover_of word_of_row
+pub touches_its_row : machine_touched_by amended (Item.Submitted 2 2 ∷ []) 2 ≡ web ∷ []
+unfolding machine_touched_by policy_in file_of cover_of word_of_row
 touches_its_row = refl
 
 -- what the stamp of its version leaves of these entries
@@ -108,44 +108,44 @@ left_of entries = (journal_cache_of amended (entries ++ Item.Submitted 2 2
 
 -- what meets the row goes, what doesn't goes over, and the earlier one of its word before it
 pub goes_over_alone : left_of (cached 1 1 web ++ cached 2 1 apart) ≡ entry 2 2 apart ∷ []
-unfolding journal_cache_of touched_by policy_in file_of cover_of word_of_row meets journal_stamp_of heard is_up journal_boot_of message_of same_key
+unfolding journal_cache_of machine_touched_by policy_in file_of cover_of word_of_row meets journal_stamp_of heard is_up journal_boot_of journal_message_of same_key
 goes_over_alone = refl
 
 pub stays_before_it : left_of (cached 1 1 apart ++ cached 2 2 apart ++ cached 3 2 web)
     ≡ entry 2 2 apart ∷ entry 3 2 web ∷ []
-unfolding journal_cache_of touched_by policy_in file_of cover_of word_of_row meets journal_stamp_of heard is_up journal_boot_of message_of same_key
+unfolding journal_cache_of machine_touched_by policy_in file_of cover_of word_of_row meets journal_stamp_of heard is_up journal_boot_of journal_message_of same_key
 stays_before_it = refl
 
 -- ---- what a says of a header
 
 -- a version that was submitted says nothing before its stamp
 pub by_the_stamp : lookup_at moved (Item.Submitted 2 2 ∷ []) 0 one ≡ Redirect 0 (1 ∷ [])
-unfolding lookup_at journal_plan_at journal_cache_of journal_stamp_of heard is_up journal_boot_of message_of file_of policy_in holds
+unfolding lookup_at journal_plan_at journal_cache_of journal_stamp_of heard is_up journal_boot_of journal_message_of file_of policy_in holds
 by_the_stamp = refl
 
 pub by_the_next_stamp : lookup_at moved (Item.Submitted 2 2 ∷ stamped 1 2) 0 one ≡ Authority 0 0
-unfolding lookup_at journal_plan_at journal_cache_of touched_by meets journal_stamp_of heard is_up journal_boot_of message_of file_of policy_in holds
+unfolding lookup_at journal_plan_at journal_cache_of machine_touched_by meets journal_stamp_of heard is_up journal_boot_of journal_message_of file_of policy_in holds
 by_the_next_stamp = refl
 
 -- nor do entries of another version than the stamp
 pub no_entry_of_the_stamp :
     lookup_at moved (Item.Submitted 2 2 ∷ cached 1 2 any_word) 0 one ≡ Redirect 0 (1 ∷ [])
-unfolding lookup_at journal_plan_at journal_cache_of journal_stamp_of heard is_up journal_boot_of message_of file_of policy_in holds same_key
+unfolding lookup_at journal_plan_at journal_cache_of journal_stamp_of heard is_up journal_boot_of journal_message_of file_of policy_in holds same_key
 no_entry_of_the_stamp = refl
 
 pub entry_of_the_stamp : lookup_at moved (Item.Submitted 2 2 ∷ cached 1 2 any_word ++ stamped 2 2) 0
     one ≡ Cached (entry 1 2 any_word)
-unfolding lookup_at journal_plan_at journal_cache_of touched_by meets journal_stamp_of heard is_up journal_boot_of message_of file_of policy_in holds same_key
+unfolding lookup_at journal_plan_at journal_cache_of machine_touched_by meets journal_stamp_of heard is_up journal_boot_of journal_message_of file_of policy_in holds same_key
 entry_of_the_stamp = refl
 
 -- of two entries that hold a header the first one, and none where none holds it
 pub first_entry_first :
     lookup_at moved (cached 1 1 web ++ cached 2 1 any_word) 0 denied ≡ Cached (entry 1 1 web)
-unfolding lookup_at journal_plan_at journal_cache_of journal_stamp_of heard is_up journal_boot_of message_of file_of policy_in holds same_key
+unfolding lookup_at journal_plan_at journal_cache_of journal_stamp_of heard is_up journal_boot_of journal_message_of file_of policy_in holds same_key
 first_entry_first = refl
 
 pub entry_without_it : lookup_at moved (cached 1 1 web) 0 one ≡ Redirect 0 (1 ∷ [])
-unfolding lookup_at journal_plan_at journal_cache_of journal_stamp_of heard is_up journal_boot_of message_of file_of policy_in holds same_key
+unfolding lookup_at journal_plan_at journal_cache_of journal_stamp_of heard is_up journal_boot_of journal_message_of file_of policy_in holds same_key
 entry_without_it = refl
 
 -- ---- a whole day of a small campus, computed: cache rules, a link that fails, an update

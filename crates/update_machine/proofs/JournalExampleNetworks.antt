@@ -1,11 +1,11 @@
 -- Small networks, policies and messages on which the definitions are tried.
 use Rattle.std.proofs.Common.{[], ◌++◌, ◌-◌, ◌^◌, ◌∙◌, ◌∷◌, ◌≡◌, Bool, Err, IsTrue, List, None, Ok, Option, Result, Some, ap, arith, codes, false, inl, inr, leb-true, nat_le, refl, replicate, subst, sym, take, true, unwrap_or, ℕ}
-use Rattle.update_machine.specs.Exports.{Action, Advertise, Any, AreMachineLegTargets, Body, Cause, Drop, HasCause, SettingHasPlan, JournalItemsHaveCauses, Header, Hello, Install, Installed, IsSettingPlanOf, Item, Leads, Leaving, Leg, LinkRow, Message, Net, NoneConcern, OpenAt, Out, Place, PolicyFile, Row, Rule, Setting, Step, StepOfRow, SwitchRow, Whole, acked_stamp, journal_adverts_known, journal_after_steps, machine_arrive_items, machine_authority_items, journal_boot_of, journal_cache_items, journal_cache_of, journal_claim_of, item_concerns_policies, confirm_items, controller_heard, controller_items, journal_crash_items, current_items, journal_current_mark, journal_decision_of, deliver_items, machine_delivery_items, end_items, machine_expire_items, file_of, forget_items, journal_found_down, journal_handled_count, has_acked, journal_packet_header, heard, journal_held_adverts, holds_version, machine_hop_items, journal_ingress_of, machine_installs_to, machine_installs_to_all, is_cut_off_in_journal, is_deliverable, is_forgotten_in_journal, is_link_up_in_journal, is_member, is_open, is_over, is_up, journal_known_boot, machine_leg_items, journal_leg_of, journal_link_changes, machine_link_items, lookup_at, lookup_items, lose_items, message_of, move_items, near, journal_next_current, journal_next_message, journal_next_packet, journal_next_policy, journal_next_retired, next_switch, next_travelling, next_waiting, machine_open_items, opened_at, own_advert, journal_own_seq, packet_items, piece, journal_plan_at, policy_at, policy_in, journal_present_step, reroute_items, resend_items, journal_resent_by_controller, restart_items, retired_items, journal_retired_mark, journal_route_from, journal_route_in, route_place, sendings, machine_sent_items_from, serves, settling, journal_stamp_of, standing, journal_steps_in, journal_switch_items, touched_by, travels, update_items, journal_version_count, was_delivered}
+use Rattle.update_machine.specs.Exports.{Action, Advertise, Any, AreMachineLegTargets, Body, Cause, Drop, HasMachineCause, SettingHasPlan, JournalItemsHaveCauses, Header, Hello, Install, Installed, IsSettingPlanOf, Item, Leads, Leaving, Leg, LinkRow, Message, Net, NoneConcern, OpenAt, Out, Place, PolicyFile, Row, Rule, Setting, Step, StepOfRow, SwitchRow, Whole, acked_stamp, journal_adverts_known, journal_after_steps, machine_arrive_items, machine_authority_items, journal_boot_of, journal_cache_items, journal_cache_of, journal_claim_of, item_concerns_policies, confirm_items, journal_controller_heard, controller_items, journal_crash_items, current_items, journal_current_mark, journal_decision_of, deliver_items, machine_delivery_items, machine_end_items, machine_expire_items, file_of, machine_forget_items, journal_found_down, journal_handled_count, has_acked, journal_packet_header, heard, journal_held_adverts, holds_version, machine_hop_items, journal_ingress_of, machine_installs_to, machine_installs_to_all, is_cut_off_in_journal, is_deliverable, is_forgotten_in_journal, is_link_up_in_journal, is_member, is_open, is_over, is_up, journal_known_boot, machine_leg_items, journal_leg_of, journal_link_changes, machine_link_items, lookup_at, machine_lookup_items, lose_items, journal_message_of, machine_move_items, near, journal_next_current, journal_next_message, journal_next_packet, journal_next_policy, journal_next_retired, journal_next_switch, next_travelling, next_waiting, machine_open_items, journal_opened_at, own_advert, journal_own_seq, machine_packet_items, piece, journal_plan_at, policy_at, policy_in, journal_present_step, machine_reroute_items, machine_resend_items, journal_resent_by_controller, restart_items, machine_retired_items, journal_retired_mark, journal_route_from, journal_route_in, route_place, sendings, machine_sent_items_from, serves, settling, journal_stamp_of, standing, journal_steps_in, journal_switch_items, machine_touched_by, travels, machine_update_items, journal_version_count, was_delivered}
 use Rattle.policy_rules.specs.Exports.{NoPolicyPlan, TooManyLeaves, applied}
-use Rattle.base.specs.Exports.{has, least_in, small_number_mask, number_set_where, switches}
-use Rattle.failover.specs.Exports.{adverts_after_hearing, ball, first_adverts, first_route, grown_ball, has_link, is_isolated, is_link, is_news, known_links, least_neighbour_in, ball_links_away, neighbours_by_adverts, names_neighbour, no_links, route_path_after, route_of, route_to, with_link}
-use Rattle.ternary.specs.Exports.{WordValue, word_covers_of, free_of, holds, is_fixed_of, meet_of, meets}
-use Rattle.cache_maker.specs.Independent.{is_cache_word_apart, is_independent, widen, widening_of}
+use Rattle.base.specs.Exports.{has, least_in_number_set, small_number_mask, number_set_where, switches}
+use Rattle.failover.specs.Exports.{adverts_after_hearing, ball, first_adverts, first_route, grown_ball, has_route_link, is_isolated, is_route_link, is_news, known_links, least_neighbour_in, ball_links_away, neighbours_by_adverts, names_neighbour, no_links, route_path_after, route_of, route_to, with_link}
+use Rattle.ternary.specs.Exports.{WordValue, word_covers_of, ternary_with_bit_freed, holds, is_fixed_of, meet_of, meets}
+use Rattle.cache_maker.specs.Independent.{is_cache_word_apart, is_cache_word_independent, widen, widening_of}
 use Rattle.switch_table.specs.Exports.{same_key}
 use Rattle.five_tuple.specs.Exports.{header_of}
 use Rattle.partition.specs.Plan.{Hosted}
@@ -22,20 +22,20 @@ use Rattle.base.proofs.Exports.{⊤, All-from_recursion, cases_eq, nat_tests}
 unfoldable pub left_by : Setting → List StepOfRow → List Item
 unfolding journal_own_seq own_advert journal_adverts_known journal_held_adverts journal_route_from is_cut_off_in_journal journal_boot_of is_up
     serves heard journal_cache_of lookup_at journal_link_changes journal_switch_items controller_items machine_delivery_items
-    journal_handled_count is_link_up_in_journal near controller_heard journal_known_boot is_over opened_at is_member
+    journal_handled_count is_link_up_in_journal near journal_controller_heard journal_known_boot is_over journal_opened_at is_member
     has_acked acked_stamp journal_current_mark journal_retired_mark journal_next_current journal_next_retired journal_next_message
-    message_of is_forgotten_in_journal was_delivered is_deliverable next_waiting machine_sent_items_from machine_leg_items
-    end_items journal_cache_items machine_authority_items lookup_items machine_arrive_items reroute_items move_items
+    journal_message_of is_forgotten_in_journal was_delivered is_deliverable next_waiting machine_sent_items_from machine_leg_items
+    machine_end_items journal_cache_items machine_authority_items machine_lookup_items machine_arrive_items machine_reroute_items machine_move_items
     journal_next_packet journal_packet_header journal_ingress_of standing travels next_travelling journal_decision_of journal_leg_of journal_route_in
-    route_place next_switch journal_found_down packet_items machine_hop_items lose_items deliver_items
-    forget_items machine_expire_items update_items machine_link_items journal_crash_items restart_items confirm_items
-    resend_items piece sendings current_items machine_open_items retired_items settling machine_installs_to
-    machine_installs_to_all journal_resent_by_controller journal_steps_in journal_present_step journal_version_count file_of policy_in touched_by journal_next_policy applied journal_plan_at
-    journal_stamp_of holds_version has number_set_where small_number_mask switches least_in is_news adverts_after_hearing first_adverts
-    names_neighbour neighbours_by_adverts is_link known_links is_isolated grown_ball ball least_neighbour_in
+    route_place journal_next_switch journal_found_down machine_packet_items machine_hop_items lose_items deliver_items
+    machine_forget_items machine_expire_items machine_update_items machine_link_items journal_crash_items restart_items confirm_items
+    machine_resend_items piece sendings current_items machine_open_items machine_retired_items settling machine_installs_to
+    machine_installs_to_all journal_resent_by_controller journal_steps_in journal_present_step journal_version_count file_of policy_in machine_touched_by journal_next_policy applied journal_plan_at
+    journal_stamp_of holds_version has number_set_where small_number_mask switches least_in_number_set is_news adverts_after_hearing first_adverts
+    names_neighbour neighbours_by_adverts is_route_link known_links is_isolated grown_ball ball least_neighbour_in
     route_path_after ball_links_away route_to
-    first_route route_of has_link with_link holds meets meet_of word_covers_of is_fixed_of free_of
-    is_cache_word_apart is_independent widen widening_of same_key lib.Count.count_trailing_zeros
+    first_route route_of has_route_link with_link holds meets meet_of word_covers_of is_fixed_of ternary_with_bit_freed
+    is_cache_word_apart is_cache_word_independent widen widening_of same_key lib.Count.count_trailing_zeros
 left_by setting steps = journal_after_steps setting [] steps
 
 -- ---- example networks
@@ -334,7 +334,7 @@ unfolding serves is_link_up_in_journal
 from_a two is = grind (arith, nat_tests)
 
 from_b : (two : ℕ) → IsTrue (is_left 1 two) → two ≡ 0
-unfolding serves is_link_up_in_journal journal_claim_of message_of
+unfolding serves is_link_up_in_journal journal_claim_of journal_message_of
 from_b two is = grind (arith, nat_tests)
 
 keeps_to : (one two : ℕ) → IsTrue (nat_le one 1) → IsTrue (is_left one two) → IsTrue (nat_le two 1)
@@ -367,7 +367,7 @@ own_leg_there = (
   refl,
 )
 
-pub stuck_has_cause : JournalItemsHaveCauses (HasCause ring) [] round
+pub stuck_has_cause : JournalItemsHaveCauses (HasMachineCause ring) [] round
 unfolding standing serves is_link_up_in_journal journal_present_step
 stuck_has_cause = free (free (free (free (
   inl refl,
@@ -393,7 +393,7 @@ stuck_has_cause = free (free (free (free (
 ))))
 
 -- one packet is lost by its row, and another one with its switch
-pub lost_has_cause : JournalItemsHaveCauses (HasCause open_net) []
+pub lost_has_cause : JournalItemsHaveCauses (HasMachineCause open_net) []
     (Item.Entered 1 0 one ∷ Item.Entered 2 0 one ∷ Item.Row 3 (Step.Lose 1) ∷ Item.Lost 1
     ∷ Item.Row 4 (Step.Crash 0) ∷ Item.Down 0 ∷ Item.Lost 2 ∷ [])
 unfolding standing journal_present_step

@@ -1,7 +1,7 @@
 -- Of two lists of first steps of the same events, one begins the other.
 use Rattle.std.proofs.Common.{[], ◌++◌, ◌+◌, ◌∙◌, ◌∷◌, ◌≡◌, ◌⊎◌, List, None, Option, Some, ap, append-nil, append_assoc, arith, inl, inr, length, length-append, refl, subst, sym, ℕ}
 use Rattle.base.proofs.Exports.{same_Some}
-use Rattle.update_machine.specs.Exports.{Answers, JournalAnswersSoFar, AreAllMachineEventSteps, AreJournalFirstSteps, AreFirstStepsOf, AreFirstMachineEventSteps, AreMachineSteps, AreMachineStepsOf, Drain, Event, Flush, Item, One, Setting, Step, StepOfRow, journal_after_steps, journal_next_delivery, journal_next_hop, piece}
+use Rattle.update_machine.specs.Exports.{Answers, JournalAnswersSoFar, AreAllMachineEventSteps, AreJournalFirstSteps, AreFirstMachineStepsOf, AreFirstMachineEventSteps, AreMachineSteps, AreMachineStepsOf, Drain, Event, Flush, Item, One, Setting, Step, StepOfRow, journal_after_steps, journal_next_delivery, journal_next_hop, piece}
 
 -- ---- there is one answer to the events of a schedule
 
@@ -140,7 +140,7 @@ one_step_either step one other first (inl none) =
     inr (begins_along [] one other one none refl (begins_nil one))
 
 event_begins : (setting : Setting) (row : ℕ) (event : Event) (before : List Item)
-    (one all : List StepOfRow) → AreFirstStepsOf setting row event before one
+    (one all : List StepOfRow) → AreFirstMachineStepsOf setting row event before one
     → AreMachineStepsOf setting row event before all → Begins one all
 event_begins setting row (One step) before one all first second =
     one_step (record { row = row; step = step }) one all first second
@@ -150,8 +150,8 @@ event_begins setting row Drain before one all first second = some_of_all setting
     one all first second
 
 event_either : (setting : Setting) (row : ℕ) (event : Event) (before : List Item)
-    (one other : List StepOfRow) → AreFirstStepsOf setting row event before one
-    → AreFirstStepsOf setting row event before other → Begins one other ⊎ Begins other one
+    (one other : List StepOfRow) → AreFirstMachineStepsOf setting row event before one
+    → AreFirstMachineStepsOf setting row event before other → Begins one other ⊎ Begins other one
 event_either setting row (One step) before one other first second =
     one_step_either (record { row = row; step = step }) one other first second
 event_either setting row Flush before one other first second = some_either setting journal_next_delivery row

@@ -1,7 +1,7 @@
 -- Items that take the next numbers leave no gap.
 use Rattle.std.proofs.Common.{[], ◌++◌, ◌+◌, ◌∙◌, ◌∷◌, ◌≡◌, Bool, List, add-zero, ap, append-nil, append_assoc, arith, false, refl, subst, suc, sym, true, zero, ℕ}
 use Rattle.base.proofs.Exports.{range_with_len}
-use Rattle.update_machine.specs.Exports.{AreNumbered, JournalBeginsAnswer, Event, JournalItemsHaveCauses, Item, Setting, MachineTakesNextNumber, VersionsAreNumbered, journal_all_given, count_of, is_packet, is_sending, item_message_number, journal_next_message, journal_next_packet, machine_packet_number}
+use Rattle.update_machine.specs.Exports.{AreNumbered, JournalBeginsAnswer, Event, JournalItemsHaveCauses, Item, Setting, MachineTakesNextNumber, JournalVersionsAreNumbered, journal_all_given, count_of, is_packet, is_sending, item_message_number, journal_next_message, journal_next_packet, machine_packet_number}
 use Rattle.update_machine.proofs.JournalBlockNumbers.{all_given_append, begun_has, count_of_append, piece_next}
 use Rattle.update_machine.proofs.JournalVersionPolicies.{numbered_at_first, other_more, submitted_more}
 
@@ -60,7 +60,7 @@ message_more journal other next known = not_counted item_message_number is_sendi
     refl known
 
 version_more : (journal : List Item) (item : Item) → MachineTakesNextNumber journal item
-    → VersionsAreNumbered journal → VersionsAreNumbered (journal ++ item ∷ [])
+    → JournalVersionsAreNumbered journal → JournalVersionsAreNumbered (journal ++ item ∷ [])
 version_more journal (Item.Submitted file version) next known =
     submitted_more journal file version next known
 version_more journal other next known = other_more journal other refl known

@@ -1,17 +1,17 @@
 -- What a switch knows of the network's links, by the laws of adverts and routes.
 use Rattle.std.proofs.Common.{[], ◌&&◌, ◌++◌, ◌<◌, ◌==◌, ◌^◌, ◌||◌, ◌↔◌, ◌∙◌, ◌∷◌, ◌≡◌, ◌≢◌, ◌≤◌, ◌⊎◌, Bool, Contains, Err, IsFalse, IsTrue, List, None, Ok, Option, Result, Some, ap, arith, bit_or, false, filter, get_or, get_or-set_other, get_or-set_same, if◌then◌else◌, inl, inr, length, length-set, map, max, min, nat_lt, option_to_list, refl, rules, set, set-set, slice_index, slice_set, subst, sym, true, unwrap_or, ℕ}
 use Rattle.base.proofs.Exports.{AllByRecursion, any_filtered, any_weaker, cases_eq, cases_lt, false_from_ne_true, get_or-map-range_with_len, has-or, has-pow_other, has_mask, list_any, map-set, nat_tests, option_map_or, or-false, or_left, or_right, set-get_or, set_past}
-use Rattle.failover.specs.Exports.{AreAdvertsByOrigin, IsIsolated, IsNewestAdvert, IsPath, IsReachable, IsRoute, LinksLeadTo, adverts_after_hearing, after_hearing_all, first_advert, first_adverts, first_of, has_link, held_advert, is_link, known_links, route_links_at, neighbours_by_adverts, neighbours_named, no_adverts, no_links, with_link}
+use Rattle.failover.specs.Exports.{AreAdvertsByOrigin, IsIsolated, IsNewestAdvert, IsPath, IsReachable, IsRoute, LinksLeadTo, adverts_after_hearing, after_hearing_all, first_advert, first_adverts, first_of, has_route_link, held_advert, is_route_link, known_links, route_links_at, neighbours_by_adverts, neighbours_named_by_advert, no_adverts, no_links, with_link}
 use Rattle.failover.proofs.FailoverHeldAdverts.{by_origin-first, by_origin-hearing, by_origin-none, held-first}
-use Rattle.update_machine.specs.Exports.{Advert, Exit, Header, IsSettingPlanOf, Item, JournalKnownLinkLaws, LinkRow, JournalMessageStarts, Out, JournalPacketStarts, Row, Setting, StartLaws, acked_stamp, journal_advert_known, journal_adverts_begun, journal_adverts_heard, journal_adverts_known, journal_adverts_of_others, journal_boot_of, journal_cache_of, journal_can_use, item_changes_found, controller_heard, journal_current_mark, journal_decision_of, end_items, file_of, finds_down, folded_journal_from, journal_found_down, journal_handled_count, has_acked, journal_packet_header, heard, holds_version, setting_hosted_or_none, journal_ingress_of, is_cut_off_in_journal, is_deliverable, is_forgotten_in_journal, is_first_boot_in_journal, is_link_up_in_journal, is_member, is_over, is_up, is_usable_in_journal, journal_known_boot, journal_leaving_item, machine_leg_items, journal_leg_of, journal_links_known, lookup_at, message_of, near, journal_next_message, journal_next_packet, next_switch, next_travelling, next_waiting, no_switch, opened_at, own_advert, journal_own_advert_sent, journal_own_seq, owner, journal_plan_at, policy_in, journal_present_step, journal_retired_mark, journal_route_from, journal_route_in, route_place, sendings, serves, journal_stamp_of, standing, journal_steps_in, stuck_on_leg_items, switches_of, journal_tables_at, takes_route, travels, usable_links, journal_version_count, was_delivered}
-use Rattle.net_file.specs.Exports.{are_linked, joins, links_of, net_port_owner}
+use Rattle.update_machine.specs.Exports.{Advert, Exit, Header, IsSettingPlanOf, Item, JournalKnownLinkLaws, LinkRow, JournalMessageStarts, Out, JournalPacketStarts, Row, Setting, MachineStartLaws, acked_stamp, journal_advert_known, journal_adverts_begun, journal_adverts_heard, journal_adverts_known, journal_adverts_of_others, journal_boot_of, journal_cache_of, journal_can_use, item_changes_found, journal_controller_heard, journal_current_mark, journal_decision_of, machine_end_items, file_of, finds_down, folded_journal_from, journal_found_down, journal_handled_count, has_acked, journal_packet_header, heard, holds_version, setting_hosted_or_none, journal_ingress_of, is_cut_off_in_journal, is_deliverable, is_forgotten_in_journal, is_first_boot_in_journal, is_link_up_in_journal, is_member, is_over, is_up, is_usable_in_journal, journal_known_boot, journal_leaving_item, machine_leg_items, journal_leg_of, journal_links_known, lookup_at, journal_message_of, near, journal_next_message, journal_next_packet, journal_next_switch, next_travelling, next_waiting, no_switch, journal_opened_at, own_advert, journal_own_advert_sent, journal_own_seq, owner, journal_plan_at, policy_in, journal_present_step, journal_retired_mark, journal_route_from, journal_route_in, route_place, sendings, serves, journal_stamp_of, standing, journal_steps_in, machine_stuck_on_leg_item, setting_switches_of, journal_tables_at, machine_takes_route, travels, usable_links, journal_version_count, was_delivered}
+use Rattle.net_file.specs.Exports.{are_linked_in_net, joins, links_of, net_port_owner}
 use Rattle.switch_table.specs.Exports.{table_lookup}
 use Rattle.failover.proofs.FailoverNewestAdvert.{held_newest}
 use Rattle.failover.proofs.FailoverKnownLinks.{has_known, isolated_tells}
 use Rattle.failover.proofs.RouteSearch.{known_route_is_route}
 use Rattle.base.specs.Exports.{has, switches}
 use Rattle.failover.proofs.RouteLinkBalls.{or_cases}
-use Rattle.failover.proofs.FailoverLinkSets.{has_link-none}
+use Rattle.failover.proofs.FailoverLinkSets.{has_route_link-none}
 use Rattle.partition.specs.Plan.{Hosted}
 use Rattle.policy_rules.specs.Exports.{NoPolicyPlan}
 
@@ -36,7 +36,7 @@ unfolding own_advert journal_own_seq journal_boot_of is_up journal_steps_in
 advert_start setting s = ap (first_advert s) (near_start setting s)
 
 acked_start : (s v : ℕ) → has_acked [] s v ≡ (v == 1)
-unfolding has_acked journal_known_boot controller_heard
+unfolding has_acked journal_known_boot journal_controller_heard
 acked_start s v = or-false (v == 1)
 
 versions_start : (s v : ℕ) → holds_version [] s v ≡ (v == 1)
@@ -47,17 +47,17 @@ versions_start s v = by_test (v == 1) where
   by_test false = refl
 
 packet_starts : (i : ℕ) → JournalPacketStarts i
-unfolding journal_packet_header journal_ingress_of standing travels journal_decision_of journal_leg_of journal_route_in route_place next_switch
+unfolding journal_packet_header journal_ingress_of standing travels journal_decision_of journal_leg_of journal_route_in route_place journal_next_switch
     journal_found_down
 packet_starts i = search rules
 
 message_starts : (n : ℕ) → JournalMessageStarts n
-unfolding message_of was_delivered is_forgotten_in_journal is_deliverable
+unfolding journal_message_of was_delivered is_forgotten_in_journal is_deliverable
 message_starts n = search rules
 
 -- the own advert is the one that the switch began with
 own_first : (setting : Setting) (s : ℕ) → s < length setting.net.switches
-    → first_of (map (links_of setting.net.links) (switches_of setting))
+    → first_of (map (links_of setting.net.links) (setting_switches_of setting))
     (length setting.net.switches) s ≡ Some (first_advert s (links_of setting.net.links s))
 own_first setting s there =
     let below : nat_lt s (length setting.net.switches) ≡ true = grind (arith, nat_tests) in
@@ -67,10 +67,10 @@ own_first setting s there =
 
 adverts_start : (setting : Setting) (s : ℕ) → s < length setting.net.switches
     → length setting.net.switches ≤ 64 → journal_adverts_known setting [] s ≡ first_adverts
-    (map (links_of setting.net.links) (switches_of setting)) (length setting.net.switches)
+    (map (links_of setting.net.links) (setting_switches_of setting)) (length setting.net.switches)
 unfolding journal_adverts_known heard is_up journal_boot_of
 adverts_start setting s there few =
-    let near = map (links_of setting.net.links) (switches_of setting) in
+    let near = map (links_of setting.net.links) (setting_switches_of setting) in
     let count : ℕ = length setting.net.switches in
     rw (advert_start setting s) (ap (slice_set (first_adverts near count) s)
     (sym (held-first near count s (omega (arith, few, there)) ∙ own_first setting s there))
@@ -81,9 +81,9 @@ lookup_start : (setting : Setting) (s : ℕ) (header : Header) → lookup_at set
 unfolding lookup_at journal_cache_of journal_stamp_of heard is_up journal_boot_of
 lookup_start setting s header = refl
 
-pub start_laws : StartLaws
+pub start_laws : MachineStartLaws
 unfolding journal_boot_of is_up serves heard journal_stamp_of journal_version_count file_of journal_known_boot is_over is_member
-    opened_at controller_heard acked_stamp journal_current_mark journal_retired_mark is_link_up_in_journal journal_cache_of
+    journal_opened_at journal_controller_heard acked_stamp journal_current_mark journal_retired_mark is_link_up_in_journal journal_cache_of
     journal_handled_count journal_steps_in journal_next_packet next_travelling journal_next_message next_waiting sendings
     journal_present_step
 start_laws = search (
@@ -105,8 +105,8 @@ begun_by_origin : (setting : Setting) (journal : List Item) (s : ℕ)
     → AreAdvertsByOrigin (journal_adverts_begun setting journal s)
 begun_by_origin setting journal s = by_test (is_first_boot_in_journal journal s) where
   by_test : (b : Bool) → AreAdvertsByOrigin (if b then first_adverts (map (links_of setting.net.links)
-      (switches_of setting)) (length setting.net.switches) else no_adverts)
-  by_test true = by_origin-first (map (links_of setting.net.links) (switches_of setting))
+      (setting_switches_of setting)) (length setting.net.switches) else no_adverts)
+  by_test true = by_origin-first (map (links_of setting.net.links) (setting_switches_of setting))
       (length setting.net.switches)
   by_test false = by_origin-none
 
@@ -155,12 +155,12 @@ links_are setting journal s down =
     let others : List (Option Advert) = journal_adverts_of_others setting journal s in
     let own : Option Advert = journal_own_advert_sent (own_advert setting journal s) in
     ap (λ rows. map (route_links_at rows down) switches)
-    (sym (set-set (map neighbours_named others) s (neighbours_named own) (near setting journal s))
-    ∙ ap (λ rows. set rows s (near setting journal s)) (sym (map-set neighbours_named others s own)))
+    (sym (set-set (map neighbours_named_by_advert others) s (neighbours_named_by_advert own) (near setting journal s))
+    ∙ ap (λ rows. set rows s (near setting journal s)) (sym (map-set neighbours_named_by_advert others s own)))
 
 pub has_known_link : (setting : Setting) (journal : List Item) (s : ℕ) (down : List ℕ)
     (one other : ℕ) → one < 64 → other < 64
-    → has (slice_index (journal_links_known setting journal s down) one) other ≡ is_link
+    → has (slice_index (journal_links_known setting journal s down) one) other ≡ is_route_link
     (neighbours_by_adverts (journal_adverts_known setting journal s) s (near setting journal s)) down one other
 has_known_link setting journal s down one other one_small other_small =
     ap (λ links. has (slice_index links one) other) (links_are setting journal s down)
@@ -222,8 +222,8 @@ no_route links from (Some path) (inr is) = is.1
 
 portless_stuck : (setting : Setting) (journal : List Item) (i s port : ℕ) → s < 64
     → net_port_owner setting.net.switches port ≡ None
-    → end_items setting i s (Out port) journal ≡ stuck_on_leg_items setting journal i s (Exit port) ∷ []
-unfolding end_items machine_leg_items
+    → machine_end_items setting i s (Out port) journal ≡ machine_stuck_on_leg_item setting journal i s (Exit port) ∷ []
+unfolding machine_end_items machine_leg_items
 portless_stuck setting journal i s port small none =
     let elsewhere : (owner setting port == s) ≡ false =
     ap (λ o. unwrap_or o no_switch == s) none ∙ (grind (arith, nat_tests)) in
@@ -236,8 +236,8 @@ portless_stuck setting journal i s port small none =
       | false ↦ machine_leg_items setting journal i s (Exit port)
     ]) elsewhere
     ∙ ap (λ route. elim route [
-      | None ↦ stuck_on_leg_items setting journal i s (Exit port) ∷ []
-      | Some way ↦ takes_route i (Exit port) way ∷ []
+      | None ↦ machine_stuck_on_leg_item setting journal i s (Exit port) ∷ []
+      | Some way ↦ machine_takes_route i (Exit port) way ∷ []
     ]) stuck
 
 pub known_link_laws : JournalKnownLinkLaws
@@ -253,12 +253,12 @@ pub near_usable : (setting : Setting) (journal : List Item) (one two : ℕ) → 
     → has (near setting journal one) two ≡ journal_can_use setting journal one two
 unfolding near
 near_usable setting journal one two small =
-    has_mask (are_linked (usable_links setting journal) one) two small
+    has_mask (are_linked_in_net (usable_links setting journal) one) two small
     ∙ any_filtered (joins one two) (is_usable_in_journal journal) setting.net.links
 
 -- a usable link is of the network
 pub usable_linked : (setting : Setting) (journal : List Item) (one two : ℕ)
-    → IsTrue (journal_can_use setting journal one two) → IsTrue (are_linked setting.net.links one two)
+    → IsTrue (journal_can_use setting journal one two) → IsTrue (are_linked_in_net setting.net.links one two)
 usable_linked setting journal one two is =
     any_weaker (joins one two) (is_usable_in_journal journal) setting.net.links is
 
@@ -292,9 +292,9 @@ row_gained links low high k x is = elim (cases_lt low (length links)) [
   ]
 ]
 
-link_gained : (links : List ℕ) (one two x y : ℕ) → IsTrue (has_link (with_link links one two) x y)
-    → IsTrue (has_link links x y) ⊎ (((one == x && two == y) || (one == y && two == x)) ≡ true)
-unfolding has_link with_link
+link_gained : (links : List ℕ) (one two x y : ℕ) → IsTrue (has_route_link (with_link links one two) x y)
+    → IsTrue (has_route_link links x y) ⊎ (((one == x && two == y) || (one == y && two == x)) ≡ true)
+unfolding has_route_link with_link
 link_gained links one two x y is =
     elim (row_gained links (min one two) (max one two) (min x y) (max x y) is) [
       | inl old ↦ inl old
@@ -303,41 +303,41 @@ link_gained links one two x y is =
 
 -- each link that items add to a set was found down by one of them
 found_by : (i x y : ℕ) (before : List Item) (links : List ℕ) (items : List Item)
-    → IsTrue (has_link (folded_journal_from (item_changes_found i) before links items) x y)
-    → (has_link links x y || list_any (finds_down i x y) items) ≡ true
+    → IsTrue (has_route_link (folded_journal_from (item_changes_found i) before links items) x y)
+    → (has_route_link links x y || list_any (finds_down i x y) items) ≡ true
 found_by i x y before links [] is = or_left _ _ is
 found_by i x y before links (Item.FoundDown packet one two ∷ items) is = by_packet (packet == i)
     refl (found_by i x y (before ++ Item.FoundDown packet one two ∷ []) (item_changes_found i before
     links (Item.FoundDown packet one two)) items is)
   where
     by_packet : (b : Bool) → (packet == i) ≡ b
-        → (has_link (item_changes_found i before links (Item.FoundDown packet one two)) x y
-        || list_any (finds_down i x y) items) ≡ true → (has_link links x y
+        → (has_route_link (item_changes_found i before links (Item.FoundDown packet one two)) x y
+        || list_any (finds_down i x y) items) ≡ true → (has_route_link links x y
         || list_any (finds_down i x y) (Item.FoundDown packet one two ∷ items)) ≡ true
     by_packet false e rest = rw e (rw e at rest)
     by_packet true e rest = elim (or_cases _ _ (rw e at rest)) [
       | inl there ↦ elim (link_gained links one two x y there) [
         | inl old ↦ or_left _ _ old
-        | inr new ↦ or_right (has_link links x y) _ (rw (e, new) refl)
+        | inr new ↦ or_right (has_route_link links x y) _ (rw (e, new) refl)
       ]
-      | inr later ↦ or_right (has_link links x y) _
+      | inr later ↦ or_right (has_route_link links x y) _
           (or_right (finds_down i x y (Item.FoundDown packet one two)) _ later)
     ]
 found_by i x y before links (next ∷ items) is = found_by i x y (before ++ next ∷ []) links items is
 
 -- a link of the set was found down
 pub link_found : (journal : List Item) (i one two : ℕ)
-    → IsTrue (has_link (journal_found_down journal i) one two)
+    → IsTrue (has_route_link (journal_found_down journal i) one two)
     → IsTrue (list_any (finds_down i one two) journal)
 unfolding journal_found_down
 link_found journal i one two is =
-    cc (has_link-none one two, found_by i one two [] no_links journal is)
+    cc (has_route_link-none one two, found_by i one two [] no_links journal is)
 
 -- so what wasn't found down isn't in the set
 pub link_not_found : (journal : List Item) (i one two : ℕ)
     → IsFalse (list_any (finds_down i one two) journal)
-    → IsFalse (has_link (journal_found_down journal i) one two)
-link_not_found journal i one two none = false_from_ne_true (has_link (journal_found_down journal i) one two)
+    → IsFalse (has_route_link (journal_found_down journal i) one two)
+link_not_found journal i one two none = false_from_ne_true (has_route_link (journal_found_down journal i) one two)
     (λ is. let there = link_found journal i one two is in cc)
 
 -- ---- plans of versions

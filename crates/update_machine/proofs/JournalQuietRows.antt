@@ -1,7 +1,7 @@
 -- Quiet networks and others, computed.
 use Rattle.std.proofs.Common.{[], ◌++◌, ◌<◌, ◌||◌, ◌∙◌, ◌∷◌, ◌≡◌, ◌≤◌, ◌⊎◌, All, Bool, IsFalse, IsTrue, List, Some, arith, false, inl, inr, map, not, refl, suc, sym, true, true≢false, zero, ℕ}
 use Rattle.base.proofs.Exports.{All-from_recursion, All-weaker, AllByRecursion, list_any}
-use Rattle.update_machine.specs.Exports.{AreJournalMessagesReceived, AreMachineMarksSettled, Body, Drop, How, IsMachineQuiet, Item, MachineCurrentMayRise, Message, Step, Tables, acked_stamp, journal_boot_of, journal_can_use, journal_claim_of, controller_heard, journal_current_mark, finds_down, has_acked, is_joining, is_link_up_in_journal, is_member, is_over, is_up, is_waited_for, journal_known_boot, journal_knows_link, message_of, journal_next_current, journal_next_retired, opened_at, journal_retired_mark, serves, switches_of, journal_version_count, was_delivered}
+use Rattle.update_machine.specs.Exports.{AreMachineMessagesReceived, AreMachineMarksSettled, Body, Drop, How, IsQuietMachineJournal, Item, MachineCurrentMayRise, Message, Step, Tables, acked_stamp, journal_boot_of, journal_can_use, journal_claim_of, journal_controller_heard, journal_current_mark, finds_down, has_acked, is_joining, is_link_up_in_journal, is_member, is_over, is_up, is_waited_for, journal_known_boot, journal_knows_link, journal_message_of, journal_next_current, journal_next_retired, journal_opened_at, journal_retired_mark, serves, setting_switches_of, journal_version_count, was_delivered}
 use Rattle.update_machine.proofs.JournalExampleNetworks.{advert, answered, any_word, at, delivered, left_by, one, open_net, plan_q, ring, round, tables_of, to, to_controller}
 use Rattle.switch_table.specs.Exports.{cache_all_touched}
 
@@ -24,12 +24,12 @@ journals = [] ∷ round ∷ (round ++ Item.Delivered 1 ∷ []) ∷ again ∷ (ag
 -- of a link of others switch a goes by what it heard; of its own it sees its own end too
 pub known_rows : map (λ journal. journal_knows_link ring journal 0 1 3) journals
     ≡ true ∷ true ∷ false ∷ false ∷ false ∷ true ∷ true ∷ []
-unfolding journal_claim_of is_link_up_in_journal message_of serves
+unfolding journal_claim_of is_link_up_in_journal journal_message_of serves
 known_rows = refl
 
 pub own_known_rows : map (λ journal. journal_knows_link ring journal 0 2 0) journals
     ≡ true ∷ false ∷ false ∷ false ∷ false ∷ false ∷ false ∷ []
-unfolding journal_claim_of is_link_up_in_journal message_of serves
+unfolding journal_claim_of is_link_up_in_journal journal_message_of serves
 own_known_rows = refl
 
 -- it can use a link that is up, between switches that serve, from either end
@@ -49,13 +49,13 @@ found_rows = refl
 
 -- no switch is joining, so none that is acknowledged current
 none_joins : (journal : List Item)
-    → AllByRecursion (λ s. is_joining journal s ≡ false) (switches_of open_net)
+    → AllByRecursion (λ s. is_joining journal s ≡ false) (setting_switches_of open_net)
     → All (λ s. IsTrue (is_joining journal s)
-    → IsFalse (has_acked journal s (journal_current_mark journal))) (switches_of open_net)
+    → IsFalse (has_acked journal s (journal_current_mark journal))) (setting_switches_of open_net)
 none_joins journal none = All-weaker (λ s. is_joining journal s ≡ false)
     (λ s. IsTrue (is_joining journal s) → IsFalse (has_acked journal s (journal_current_mark journal)))
-    (λ s not_joining joins. absurd (true≢false (sym joins ∙ not_joining))) (switches_of open_net)
-    (All-from_recursion (λ s. is_joining journal s ≡ false) (switches_of open_net) none)
+    (λ s not_joining joins. absurd (true≢false (sym joins ∙ not_joining))) (setting_switches_of open_net)
+    (All-from_recursion (λ s. is_joining journal s ≡ false) (setting_switches_of open_net) none)
 
 only_two : (v : ℕ) → 1 < v → v ≤ 2 → v ≡ 2
 only_two v above below = omega (arith, above, below)
@@ -69,8 +69,8 @@ installing = Item.Submitted 2 2 ∷ Item.Sent 1 (to 0 (Body.Install 1 (tables_of
 
 -- current waits
 pub settled_before : AreMachineMarksSettled open_net installing
-unfolding journal_known_boot controller_heard is_over opened_at is_member has_acked acked_stamp
-    journal_current_mark journal_retired_mark journal_next_current journal_next_retired journal_version_count message_of
+unfolding journal_known_boot journal_controller_heard is_over journal_opened_at is_member has_acked acked_stamp
+    journal_current_mark journal_retired_mark journal_next_current journal_next_retired journal_version_count journal_message_of
 settled_before = record {
   current = inr refl;
   joining = none_joins installing (refl, (refl, tt));
@@ -82,8 +82,8 @@ abbrev acknowledged : List Item
 acknowledged = installing ++ Item.Delivered 4 ∷ []
 
 pub may_rise : MachineCurrentMayRise open_net acknowledged 2
-unfolding journal_known_boot controller_heard is_over opened_at is_member has_acked acked_stamp
-    journal_current_mark journal_retired_mark journal_next_current journal_next_retired journal_version_count message_of
+unfolding journal_known_boot journal_controller_heard is_over journal_opened_at is_member has_acked acked_stamp
+    journal_current_mark journal_retired_mark journal_next_current journal_next_retired journal_version_count journal_message_of
 may_rise = record {
   rises = omega arith;
   there = omega arith;
@@ -92,8 +92,8 @@ may_rise = record {
 
 -- before that nothing is settled
 pub not_settled : AreMachineMarksSettled open_net acknowledged → ⊥
-unfolding journal_known_boot controller_heard is_over opened_at is_member has_acked acked_stamp
-    journal_current_mark journal_retired_mark journal_next_current journal_next_retired journal_version_count message_of
+unfolding journal_known_boot journal_controller_heard is_over journal_opened_at is_member has_acked acked_stamp
+    journal_current_mark journal_retired_mark journal_next_current journal_next_retired journal_version_count journal_message_of
 not_settled settled = elim settled.current [
   | inl last ↦ absurd (omega (arith, last))
   | inr waits ↦ true≢false waits
@@ -101,8 +101,8 @@ not_settled settled = elim settled.current [
 
 -- it does, and is settled
 pub settled_behind : AreMachineMarksSettled open_net (acknowledged ++ Item.Current 2 ∷ [])
-unfolding journal_known_boot controller_heard is_over opened_at is_member has_acked acked_stamp
-    journal_current_mark journal_retired_mark journal_next_current journal_next_retired journal_version_count message_of
+unfolding journal_known_boot journal_controller_heard is_over journal_opened_at is_member has_acked acked_stamp
+    journal_current_mark journal_retired_mark journal_next_current journal_next_retired journal_version_count journal_message_of
 settled_behind = record {
   current = inl refl;
   joining = none_joins (acknowledged ++ Item.Current 2 ∷ []) (refl, (refl, tt));
@@ -115,13 +115,13 @@ stamped = acknowledged ++ Item.Current 2 ∷ Item.Sent 5 (to_controller (Body.St
     ∷ Item.Sent 6 (to_controller (Body.Stamped 1 1 2)) ∷ Item.Delivered 5 ∷ []
 
 pub retires_none : journal_next_retired open_net stamped ≡ 0
-unfolding journal_known_boot controller_heard is_over opened_at is_member has_acked acked_stamp
-    journal_current_mark journal_retired_mark journal_next_current journal_next_retired journal_version_count message_of
+unfolding journal_known_boot journal_controller_heard is_over journal_opened_at is_member has_acked acked_stamp
+    journal_current_mark journal_retired_mark journal_next_current journal_next_retired journal_version_count journal_message_of
 retires_none = refl
 
 pub retires_first : journal_next_retired open_net (stamped ++ Item.Delivered 6 ∷ []) ≡ 1
-unfolding journal_known_boot controller_heard is_over opened_at is_member has_acked acked_stamp
-    journal_current_mark journal_retired_mark journal_next_current journal_next_retired journal_version_count message_of
+unfolding journal_known_boot journal_controller_heard is_over journal_opened_at is_member has_acked acked_stamp
+    journal_current_mark journal_retired_mark journal_next_current journal_next_retired journal_version_count journal_message_of
 retires_first = refl
 
 -- ---- an update, computed
@@ -155,10 +155,10 @@ update_rows = refl
 
 by_parts : (journal : List Item)
     → AllByRecursion (λ s. IsTrue (is_up journal s || not (is_waited_for journal s)))
-    (switches_of open_net) → AreJournalMessagesReceived open_net journal journal → IsMachineQuiet open_net journal
+    (setting_switches_of open_net) → AreMachineMessagesReceived open_net journal journal → IsQuietMachineJournal open_net journal
 by_parts journal switches messages = record {
   switches = All-from_recursion (λ s. IsTrue (is_up journal s || not (is_waited_for journal s)))
-      (switches_of open_net) switches;
+      (setting_switches_of open_net) switches;
   messages = messages;
 }
 
@@ -181,16 +181,16 @@ unmet delivered (inr none) lacks = absurd none
 
 -- ---- switches
 
-pub quiet_at_first : IsMachineQuiet open_net []
+pub quiet_at_first : IsQuietMachineJournal open_net []
 unfolding was_delivered is_up journal_boot_of journal_current_mark
 quiet_at_first = by_parts _ (refl, (refl, tt)) tt
 
 -- a is down, and waited for until it is confirmed
-pub waits_for_a : IsMachineQuiet open_net (Item.Row 1 (Step.Crash 0) ∷ Item.Down 0 ∷ []) → ⊥
+pub waits_for_a : IsQuietMachineJournal open_net (Item.Row 1 (Step.Crash 0) ∷ Item.Down 0 ∷ []) → ⊥
 unfolding was_delivered is_up journal_boot_of journal_current_mark
 waits_for_a quiet = true≢false (sym (quiet.switches 0 0 (omega arith)))
 
-pub quiet_without_a : IsMachineQuiet open_net
+pub quiet_without_a : IsQuietMachineJournal open_net
     (Item.Row 1 (Step.Crash 0) ∷ Item.Down 0 ∷ Item.Row 2 (Step.Confirm 0) ∷ Item.OverNow 0 ∷ [])
 unfolding was_delivered is_up journal_boot_of journal_current_mark
 quiet_without_a = by_parts _ (refl, (refl, tt)) tt
@@ -198,7 +198,7 @@ quiet_without_a = by_parts _ (refl, (refl, tt)) tt
 -- ---- messages
 
 -- nothing of an update was delivered
-pub update_waits : IsMachineQuiet open_net (Item.Row 1 (Step.Update 2) ∷ Item.Submitted 2 2
+pub update_waits : IsQuietMachineJournal open_net (Item.Row 1 (Step.Update 2) ∷ Item.Submitted 2 2
     ∷ Item.Sent 1 (to 0 (Body.Install 1 (tables_of plan_q 2 0)))
     ∷ Item.Sent 2 (to 1 (Body.Install 1 (tables_of plan_q 2 1))) ∷ []) → ⊥
 unfolding was_delivered is_up journal_boot_of journal_current_mark
@@ -208,7 +208,7 @@ update_waits quiet = elim (quiet.messages.0 0 (omega arith) refl) [
 ]
 
 -- all but a cache rule was, which doesn't matter
-pub quiet_once_updated : IsMachineQuiet open_net updated
+pub quiet_once_updated : IsQuietMachineJournal open_net updated
 unfolding was_delivered is_up journal_boot_of journal_current_mark
 quiet_once_updated = by_parts _ (refl, (refl, tt)) (
   λ s there m. inl refl,
@@ -245,7 +245,7 @@ restarted = Item.Row 1 (Step.Resend 0) ∷ Item.Sent 1 (to 0 (advert 1 1 1 1))
     ∷ Item.Row 4 (Step.Deliver 3) ∷ Item.Delivered 3 ∷ Item.Sent 4 (to 0 (Body.Stamp 1 1 []))
     ∷ Item.Sent 5 (to_controller (Body.Stamped 0 1 1)) ∷ []
 
-pub quiet_in_boot_2 : IsMachineQuiet open_net restarted
+pub quiet_in_boot_2 : IsQuietMachineJournal open_net restarted
 unfolding was_delivered is_up journal_boot_of journal_current_mark
 quiet_in_boot_2 = by_parts _ (refl, (refl, tt)) (
   neither _ _ refl refl,
@@ -256,17 +256,17 @@ quiet_in_boot_2 = by_parts _ (refl, (refl, tt)) (
 )
 
 -- an advert that was sent since does matter
-pub advert_waits : IsMachineQuiet open_net (restarted ++ Item.Sent 6 (to 0 (advert 1 1 2 1)) ∷ []) → ⊥
+pub advert_waits : IsQuietMachineJournal open_net (restarted ++ Item.Sent 6 (to 0 (advert 1 1 2 1)) ∷ []) → ⊥
 unfolding was_delivered is_up journal_boot_of journal_current_mark
 advert_waits quiet = unmet _ (quiet.messages.1.1.1.1.1.0 0 (omega arith) refl) refl
 
 -- nor does what was sent before a boot began that has the number of the one before
-pub boot_begins : IsMachineQuiet open_net (Item.Sent 1 (to 0 (Body.Stamp 1 1 [])) ∷ Item.Booted 0 1 ∷ [])
+pub boot_begins : IsQuietMachineJournal open_net (Item.Sent 1 (to 0 (Body.Stamp 1 1 [])) ∷ Item.Booted 0 1 ∷ [])
 unfolding was_delivered is_up journal_boot_of journal_current_mark
 boot_begins = by_parts _ (refl, (refl, tt)) (neither _ _ refl refl, tt)
 
 -- tables of a version below the current one, and their acknowledgement, don't matter
-pub quiet_without_old_tables : IsMachineQuiet open_net
+pub quiet_without_old_tables : IsQuietMachineJournal open_net
     (Item.Sent 1 (to 0 (Body.Install 1 (tables_of plan_q 1 0)))
     ∷ Item.Sent 2 (to_controller (Body.Installed 0 1 1)) ∷ Item.Current 2 ∷ [])
 unfolding was_delivered is_up journal_boot_of journal_current_mark
@@ -277,14 +277,14 @@ quiet_without_old_tables = by_parts _ (refl, (refl, tt)) (
 
 -- a delivery before its sending delivers nothing
 pub delivered_too_early :
-    IsMachineQuiet open_net (Item.Delivered 1 ∷ Item.Sent 1 (to_controller (Body.Hello 0 1)) ∷ []) → ⊥
+    IsQuietMachineJournal open_net (Item.Delivered 1 ∷ Item.Sent 1 (to_controller (Body.Hello 0 1)) ∷ []) → ⊥
 unfolding was_delivered is_up journal_boot_of journal_current_mark
 delivered_too_early quiet = unmet _ (quiet.messages.0 0 (omega arith) refl) refl
 
 -- ---- replaced messages
 
 -- a later equal message, a stamp of a greater version and a newer advert replace those before them
-pub quiet_by_later : IsMachineQuiet open_net
+pub quiet_by_later : IsQuietMachineJournal open_net
     (Item.Sent 1 (to_controller (Body.Hello 1 1)) ∷ Item.Sent 2 (to 0 (Body.Stamp 1 2 []))
     ∷ Item.Sent 3 (to 0 (advert 1 1 1 1)) ∷ Item.Sent 4 (to_controller (Body.Hello 1 1))
     ∷ Item.Sent 5 (to 0 (Body.Stamp 1 3 [])) ∷ Item.Sent 6 (to 0 (advert 1 1 2 0))
@@ -308,13 +308,13 @@ hello = to_controller (Body.Hello 1 1)
 
 -- the earlier of two equal messages doesn't replace the later one
 pub later_waits :
-    IsMachineQuiet open_net (Item.Sent 1 hello ∷ Item.Sent 2 hello ∷ Item.Delivered 1 ∷ []) → ⊥
+    IsQuietMachineJournal open_net (Item.Sent 1 hello ∷ Item.Sent 2 hello ∷ Item.Delivered 1 ∷ []) → ⊥
 unfolding was_delivered is_up journal_boot_of journal_current_mark
 later_waits quiet = unmet _ (quiet.messages.1.0 1 (omega arith) refl) refl
 
 -- other tables of the same version don't replace those before them
 pub other_tables_wait : (one other : Tables) → one.version ≡ 1 → (one ≡ other → ⊥)
-    → IsMachineQuiet open_net (Item.Sent 1 (to 0 (Body.Install 1 one))
+    → IsQuietMachineJournal open_net (Item.Sent 1 (to 0 (Body.Install 1 one))
     ∷ Item.Sent 2 (to 0 (Body.Install 1 other)) ∷ Item.Delivered 2 ∷ []) → ⊥
 unfolding was_delivered is_up journal_boot_of journal_current_mark
 other_tables_wait one other version apart quiet =

@@ -3,10 +3,10 @@
 use Rattle.std.proofs.Common.{[], ◌++◌, ◌+◌, ◌-◌, ◌==◌, ◌||◌, ◌∙◌, ◌∷◌, ◌≡◌, ◌≤◌, All, Bool, Err, IfSome, IsFalse, IsOk, IsTrue, List, None, Ok, Option, Result, Some, ap, arith, false, if◌then◌else◌, length, nat_lt, ne_eqb, option_and_then, refl, slice_get, subst, suc, sym, true, unwrap_or, zero, ℕ}
 use Rattle.base.proofs.Exports.{All-cons, All-nil, get_or_from_slice_get, list_any, nat_tests, result_ok, slice_get_within}
 use Rattle.net_file.specs.Exports.{IsNet}
-use Rattle.update_machine.specs.Exports.{Change, SettingHasPlan, Header, Inapplicable, IsSetting, Item, NamesSettingPort, Net, PolicyFile, Row, Setting, VersionsAreNumbered, Whole, machine_apply_code, setting_file_at, file_of, setting_hosted_or_none, made_by, machine_marks_code, journal_next_policy, journal_next_touched, journal_plan_at, machine_plan_code, policy_at, policy_by, policy_in, machine_rows_code, setting_of, touched_by, touched_of, machine_update_code, journal_version_count}
+use Rattle.update_machine.specs.Exports.{Change, SettingHasPlan, Header, Inapplicable, IsSetting, Item, NamesSettingPort, Net, PolicyFile, Row, Setting, JournalVersionsAreNumbered, Whole, machine_apply_code, setting_file_at, file_of, setting_hosted_or_none, made_by, machine_marks_code, journal_next_policy, journal_next_touched, journal_plan_at, machine_plan_code, policy_at, setting_policy_by, policy_in, machine_rows_code, setting_of, machine_touched_by, touched_of, machine_update_code, journal_version_count}
 use Rattle.partition.specs.Plan.{Hosted, IsPartitionPlan, partition_plan_of}
 use Rattle.partition.proofs.PartitionCallerLemmas.{plan_holds}
-use Rattle.policy_rules.specs.Exports.{PolicyRulesGiveOnly, IsPolicy, IsPolicyOrAmendment, NoPolicyPlan, applied, scan, touched_policy_words}
+use Rattle.policy_rules.specs.Exports.{PolicyFileRowsAre, IsPolicy, IsPolicyRulesOrAmendment, NoPolicyPlan, applied, scan, touched_policy_words}
 use Rattle.policy_rules.proofs.PolicyRulesCallerLemmas.{All-additions, All-applied, IsPolicy-applied, scan-apart}
 use Rattle.update_machine.proofs.JournalVersionPolicies.{file_kept, first_is, next_file, of_its_policy, policy_in_stays}
 use Rattle.five_tuple.specs.Exports.{IsHeader, number_of}
@@ -17,8 +17,8 @@ use Rattle.ternary.specs.Exports.{WordValue, holds, meets}
 -- ---- the first policy
 
 pub setting_begun : (net : Net) (files : List PolicyFile) (first : List Row) (plan : List Hosted)
-    → IsNet net → slice_get files 0 ≡ Some (Whole first) → All IsPolicyOrAmendment files
-    → All (PolicyRulesGiveOnly (λ row. NamesSettingPort (setting_of net files) row.action)) files
+    → IsNet net → slice_get files 0 ≡ Some (Whole first) → All IsPolicyRulesOrAmendment files
+    → All (PolicyFileRowsAre (λ row. NamesSettingPort (setting_of net files) row.action)) files
     → partition_plan_of first net ≡ Ok plan → IsSetting (setting_of net files)
 setting_begun net files first plan sound whole given ports is = record {
   net = sound;
@@ -63,8 +63,8 @@ no_rows_own setting = (
 
 -- what a file makes of such a policy, or of none, is one too
 own_by : (setting : Setting) (file : Option PolicyFile) (earlier : Option (List Row))
-    (rows : List Row) → IfSome file IsPolicyOrAmendment
-    → IfSome file (PolicyRulesGiveOnly (λ row. NamesSettingPort setting row.action))
+    (rows : List Row) → IfSome file IsPolicyRulesOrAmendment
+    → IfSome file (PolicyFileRowsAre (λ row. NamesSettingPort setting row.action))
     → IfSome earlier (IsOwn setting) → made_by file earlier ≡ Ok rows → IsOwn setting rows
 own_by setting None earlier rows sound ports own made = absurd cc
 own_by setting (Some (Whole given)) earlier rows sound ports own made =
@@ -78,22 +78,22 @@ own_by setting (Some (Change edits)) (Some old) rows sound ports own made = (
 
 -- a file of a sound setting
 pub file_is_sound : (setting : Setting) → IsSetting setting → (file : ℕ)
-    → IfSome (setting_file_at setting file) IsPolicyOrAmendment
-    × IfSome (setting_file_at setting file) (PolicyRulesGiveOnly (λ row. NamesSettingPort setting row.action))
+    → IfSome (setting_file_at setting file) IsPolicyRulesOrAmendment
+    × IfSome (setting_file_at setting file) (PolicyFileRowsAre (λ row. NamesSettingPort setting row.action))
 file_is_sound setting is file = by_number (file == 0) where
   at_place : (k : ℕ) (o : Option PolicyFile) → slice_get setting.files k ≡ o
-      → IfSome o IsPolicyOrAmendment × IfSome o (PolicyRulesGiveOnly (λ row. NamesSettingPort setting row.action))
+      → IfSome o IsPolicyRulesOrAmendment × IfSome o (PolicyFileRowsAre (λ row. NamesSettingPort setting row.action))
   at_place k None there = (tt, tt)
   at_place k (Some given) there =
       let within = slice_get_within setting.files k given there in
       let at = get_or_from_slice_get setting.files k given given there in (
-        subst IsPolicyOrAmendment at (is.sound k given within),
-        subst (PolicyRulesGiveOnly (λ row. NamesSettingPort setting row.action)) at (is.ports k given within),
+        subst IsPolicyRulesOrAmendment at (is.sound k given within),
+        subst (PolicyFileRowsAre (λ row. NamesSettingPort setting row.action)) at (is.ports k given within),
       )
 
   by_number : (zero : Bool) → IfSome (if zero then None else slice_get setting.files (file - 1))
-      IsPolicyOrAmendment × IfSome (if zero then None else slice_get setting.files (file - 1))
-      (PolicyRulesGiveOnly (λ row. NamesSettingPort setting row.action))
+      IsPolicyRulesOrAmendment × IfSome (if zero then None else slice_get setting.files (file - 1))
+      (PolicyFileRowsAre (λ row. NamesSettingPort setting row.action))
   by_number true = (tt, tt)
   by_number false = at_place (file - 1) (slice_get setting.files (file - 1)) refl
 
@@ -107,7 +107,7 @@ own_in setting journal is (suc version) =
   where
     by_rows : IfSome (policy_in setting journal version) (IsOwn setting) → (file : ℕ)
         (made : Result (List Row) Inapplicable)
-        → policy_by setting (policy_in setting journal version) file ≡ made
+        → setting_policy_by setting (policy_in setting journal version) file ≡ made
         → IfSome (result_ok made) (IsOwn setting)
     by_rows earlier file (Err why) e = tt
     by_rows earlier file (Ok rows) e = let given = file_is_sound setting is file in
@@ -116,10 +116,10 @@ own_in setting journal is (suc version) =
 
     by_file : IfSome (policy_in setting journal version) (IsOwn setting) → (o : Option ℕ)
         → IfSome (option_and_then (λ file. result_ok
-        (policy_by setting (policy_in setting journal version) file)) o) (IsOwn setting)
+        (setting_policy_by setting (policy_in setting journal version) file)) o) (IsOwn setting)
     by_file earlier None = tt
     by_file earlier (Some file) =
-        by_rows earlier file (policy_by setting (policy_in setting journal version) file) refl
+        by_rows earlier file (setting_policy_by setting (policy_in setting journal version) file) refl
 
 pub versions_own : (setting : Setting) (journal : List Item) (version : ℕ) → IsSetting setting
     → IsPolicy (policy_at setting journal version)
@@ -207,9 +207,9 @@ allowed_next setting journal file allowed = by_rows (journal_next_policy setting
 
 -- where all versions before it are there
 pub touched_stays : (setting : Setting) (before items : List Item) (v : ℕ)
-    → VersionsAreNumbered before → v ≤ journal_version_count before
-    → touched_by setting (before ++ items) v ≡ touched_by setting before v
-unfolding touched_by
+    → JournalVersionsAreNumbered before → v ≤ journal_version_count before
+    → machine_touched_by setting (before ++ items) v ≡ machine_touched_by setting before v
+unfolding machine_touched_by
 touched_stays setting before items zero are below = refl
 touched_stays setting before items (suc v) are below = ap (λ file. touched_of
     (option_and_then (setting_file_at setting) file) (policy_in setting (before ++ items) v))
@@ -224,16 +224,16 @@ none_before (Some (Whole rows)) = refl
 none_before None = refl
 
 pub first_touched : (setting : Setting) (journal : List Item)
-    → touched_by setting journal 1 ≡ cache_all_touched
-unfolding touched_by policy_in
+    → machine_touched_by setting journal 1 ≡ cache_all_touched
+unfolding machine_touched_by policy_in
 first_touched setting journal = none_before (option_and_then (setting_file_at setting) (file_of journal 1))
 
 -- the version that is submitted next touches what its file does
 pub next_touched_is : (setting : Setting) (journal : List Item) (file version : ℕ)
-    → VersionsAreNumbered journal → version ≡ journal_version_count journal + 1
-    → touched_by setting (journal ++ Item.Submitted file version ∷ []) version
+    → JournalVersionsAreNumbered journal → version ≡ journal_version_count journal + 1
+    → machine_touched_by setting (journal ++ Item.Submitted file version ∷ []) version
     ≡ journal_next_touched setting journal file
-unfolding touched_by
+unfolding machine_touched_by
 next_touched_is setting journal file zero are next = absurd (omega (arith, next))
 next_touched_is setting journal file (suc newest) are next =
     let after : List Item = journal ++ Item.Submitted file (suc newest) ∷ [] in
@@ -261,8 +261,8 @@ of_few (Some (Whole rows)) earlier = omega arith
 of_few None earlier = omega arith
 
 pub touched_few : (setting : Setting) (journal : List Item) (v : ℕ)
-    → length (touched_by setting journal v) ≤ 16
-unfolding touched_by
+    → length (machine_touched_by setting journal v) ≤ 16
+unfolding machine_touched_by
 touched_few setting journal zero = omega arith
 touched_few setting journal (suc v) =
     of_few (option_and_then (setting_file_at setting) (file_of journal (suc v)))
@@ -305,7 +305,7 @@ module _ (setting : Setting) (journal : List Item) (v : ℕ) (word : WordValue) 
   Same new = scan new header ≡ scan (policy_at setting journal v) header
 
   by_change : (file : Option PolicyFile) (earlier : Option (List Row)) (new : List Row)
-      → IfSome file IsPolicyOrAmendment → policy_in setting journal v ≡ earlier
+      → IfSome file IsPolicyRulesOrAmendment → policy_in setting journal v ≡ earlier
       → result_ok (made_by file earlier) ≡ Some new
       → cache_word_meets_touched (touched_of file earlier) word ≡ false → Same new
   by_change (Some (Change edits)) (Some rows) new of before made apart =
@@ -322,7 +322,7 @@ module _ (setting : Setting) (journal : List Item) (v : ℕ) (word : WordValue) 
   by_change None earlier new of before made apart = let met = meets_all word in absurd cc
 
   by_file : (file : Option ℕ) (new : List Row)
-      → option_and_then (λ f. result_ok (policy_by setting (policy_in setting journal v) f)) file
+      → option_and_then (λ f. result_ok (setting_policy_by setting (policy_in setting journal v) f)) file
       ≡ Some new → cache_word_meets_touched (touched_of (option_and_then (setting_file_at setting) file)
       (policy_in setting journal v)) word ≡ false → Same new
   by_file None new made apart = absurd (cc made)
@@ -332,10 +332,10 @@ module _ (setting : Setting) (journal : List Item) (v : ℕ) (word : WordValue) 
 pub touched_apart : (setting : Setting) (journal : List Item) (v : ℕ) (word : WordValue)
     (header : Header) → IsSetting setting
     → policy_in setting journal (suc v) ≡ Some (policy_at setting journal (suc v))
-    → cache_word_meets_touched (touched_by setting journal (suc v)) word ≡ false → IsHeader header
+    → cache_word_meets_touched (machine_touched_by setting journal (suc v)) word ≡ false → IsHeader header
     → IsTrue (holds word (number_of header))
     → scan (policy_at setting journal (suc v)) header ≡ scan (policy_at setting journal v) header
-unfolding touched_by policy_in
+unfolding machine_touched_by policy_in
 touched_apart setting journal v word header is there apart sound held =
     by_file setting journal v word header is sound held (file_of journal (suc v))
     (policy_at setting journal (suc v)) there apart

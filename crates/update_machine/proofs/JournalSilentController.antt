@@ -1,6 +1,6 @@
 -- Items that don't concern the controller leave what it knows as it is.
 use Rattle.std.proofs.Common.{[], ◌++◌, ◌+◌, ◌≡◌, IsFalse, List, None, ap, append-nil, arith, false, refl, ℕ}
-use Rattle.update_machine.specs.Exports.{Body, JournalControllerKeeps, Item, NoneConcern, OpenAt, acked_stamp, journal_body_to_controller, changes_controller_heard, item_changes_over, concerns_controller, controller_heard, journal_current_mark, gives_current, item_gives_retired, has_acked, is_member, is_journal_controller_message, is_machine_opening_body, is_over, is_submission, journal_known_boot, machine_open_version_in, machine_open_sent, opened_at, journal_retired_mark, journal_version_count}
+use Rattle.update_machine.specs.Exports.{Body, JournalControllerKeeps, Item, NoneConcern, OpenAt, acked_stamp, journal_body_to_controller, changes_controller_heard, item_changes_over, concerns_controller, journal_controller_heard, journal_current_mark, gives_current, machine_item_gives_retired, has_acked, is_member, is_journal_controller_message, is_machine_opening_body, is_over, is_journal_submission, journal_known_boot, machine_open_version_in, machine_open_sent, journal_opened_at, journal_retired_mark, journal_version_count}
 use Rattle.update_machine.proofs.JournalSilentSteps.{Keeps, Silent, Stays, count_stays, folded_stays, given_stays, last_or_stays}
 
 -- a message for a switch says nothing to the controller
@@ -32,27 +32,27 @@ current_silent : Silent concerns_controller gives_current None
 current_silent before (Item.Current version) apart = cc
 current_silent before _ apart = refl
 
-retired_silent : Silent concerns_controller item_gives_retired None
+retired_silent : Silent concerns_controller machine_item_gives_retired None
 retired_silent before (Item.Retired version) apart = cc
 retired_silent before _ apart = refl
 
-submission_silent : Silent concerns_controller is_submission false
+submission_silent : Silent concerns_controller is_journal_submission false
 submission_silent before (Item.Submitted file version) apart = cc
 submission_silent before _ apart = refl
 
 known_stays : (s : ℕ) → Stays concerns_controller (λ js. journal_known_boot js s)
-unfolding journal_known_boot controller_heard
+unfolding journal_known_boot journal_controller_heard
 known_stays s before items none = rw (folded_stays _ [] _ told_silent before items none) refl
 
-opened_stays : (s : ℕ) → Stays concerns_controller (λ js. opened_at js s)
-unfolding opened_at
+opened_stays : (s : ℕ) → Stays concerns_controller (λ js. journal_opened_at js s)
+unfolding journal_opened_at
 opened_stays s before items none =
     let sent = given_stays _ _ (open_silent s (journal_known_boot before s)) before items none in
     rw ((known_stays s before items none), sent) refl
 
 pub controller_keeps : (before items : List Item) → NoneConcern concerns_controller before items
     → JournalControllerKeeps before (before ++ items)
-unfolding controller_heard is_over is_member has_acked acked_stamp journal_current_mark journal_retired_mark
+unfolding journal_controller_heard is_over is_member has_acked acked_stamp journal_current_mark journal_retired_mark
     journal_version_count
 controller_keeps before items none =
     let told = folded_stays _ [] _ told_silent before items none in
@@ -60,7 +60,7 @@ controller_keeps before items none =
     λ s. known_stays s before items none in
     let over : (s : ℕ) → is_over (before ++ items) s ≡ is_over before s =
     λ s. folded_stays _ false _ (over_silent s) before items none in
-    let opened : (s : ℕ) → opened_at (before ++ items) s ≡ opened_at before s =
+    let opened : (s : ℕ) → journal_opened_at (before ++ items) s ≡ journal_opened_at before s =
     λ s. opened_stays s before items none in record {
       heard = told;
       known = known;

@@ -1,7 +1,7 @@
 -- Items that don't concern the links leave as they are the adverts that switches tell, and those
 -- that don't concern a switch either, what it knows of the network.
 use Rattle.std.proofs.Common.{[], ◌&&◌, ◌++◌, ◌+◌, ◌==◌, ◌∙◌, ◌∷◌, ◌≡◌, ◌≤◌, Bool, IsFalse, IsTrue, List, None, Some, ap, append_assoc, arith, count_by, eq-eqb, false, find, if◌then◌else◌, nat_lt, not, option_and_then, refl, suc, sym, true, unwrap_or, zero, ℕ}
-use Rattle.update_machine.specs.Exports.{Header, Item, JournalKnownKeeps, Leads, MachineLinksKeep, MachineMessageKeeps, JournalMessagesKeep, NoneConcern, JournalPacketsKeep, JournalPoliciesKeep, Setting, StepItems, journal_adverts_known, journal_boot_of, item_changes_sendings, item_concerns_known, concerns_links, item_concerns_lookups, concerns_message, concerns_messages, item_concerns_packets, item_concerns_policies, concerns_steps, concerns_switch, item_concerns_waiting, count_of, file_of, journal_first_given, item_gives_boot, item_gives_file, item_gives_message, item_gives_step, item_gives_travelling, item_gives_switch_up, gives_waited_for, journal_step_changes_links, heard, journal_held_adverts, setting_hosted_or_none, is_cut_off_in_journal, is_deliverable, is_delivery_item, is_forgetting, is_forgotten_in_journal, is_packet, is_sending, is_submission, is_up, is_waited_for, is_waiting, lookup_at, message_of, near, journal_next_message, journal_next_packet, journal_next_policy, next_travelling, next_waiting, own_advert, journal_own_seq, journal_plan_at, policy_at, policy_by, policy_in, journal_present_step, journal_route_from, sendings, journal_stamp_of, journal_steps_in, touched_by, travels, journal_version_count, was_delivered}
+use Rattle.update_machine.specs.Exports.{Header, Item, JournalKnownKeeps, Leads, MachineLinksKeep, MachineMessageKeeps, JournalMessagesKeep, NoneConcern, MachineKeepsJournalPackets, JournalPoliciesKeep, Setting, StepItems, journal_adverts_known, journal_boot_of, changes_journal_sendings, item_concerns_known, concerns_links, item_concerns_journal_lookups, item_concerns_message, concerns_messages, item_concerns_packets, item_concerns_policies, item_concerns_steps, concerns_switch, item_concerns_waiting, count_of, file_of, journal_first_given, machine_item_gives_boot, machine_item_gives_file, machine_item_gives_message, machine_item_gives_step, machine_item_gives_travelling, machine_item_gives_switch_up, gives_journal_waited_for, journal_step_changes_links, heard, journal_held_adverts, setting_hosted_or_none, is_cut_off_in_journal, is_deliverable, is_delivery_item, is_journal_forgetting, is_forgotten_in_journal, is_packet, is_sending, is_journal_submission, is_up, is_waited_for, is_waiting, lookup_at, journal_message_of, near, journal_next_message, journal_next_packet, journal_next_policy, next_travelling, next_waiting, own_advert, journal_own_seq, journal_plan_at, policy_at, setting_policy_by, policy_in, journal_present_step, journal_route_from, sendings, journal_stamp_of, journal_steps_in, machine_touched_by, travels, journal_version_count, was_delivered}
 use Rattle.base.proofs.Exports.{option_map_or, range_with_len, result_ok}
 use Rattle.update_machine.proofs.JournalSilentSteps.{Keeps, Silent, Stays, count_stays, fewer, first_stays, folded_stays, last_or_stays, last_stays, link_stays, near_stays, neither_left, neither_right, stays, switch_keeps, weight_stays}
 use Rattle.policy_rules.proofs.PolicyRulesCallerLemmas.{find_same}
@@ -20,22 +20,22 @@ ends_within joined within keeps at (next ∷ path) target here leads =
 
 -- ---- the number of the own advert
 
-boot_silent : (s : ℕ) → Silent concerns_links (item_gives_boot s) None
+boot_silent : (s : ℕ) → Silent concerns_links (machine_item_gives_boot s) None
 boot_silent s before (Item.Booted switch boot) apart = cc
 boot_silent s before _ apart = refl
 
-up_silent : (s : ℕ) → Silent concerns_links (item_gives_switch_up s) None
+up_silent : (s : ℕ) → Silent concerns_links (machine_item_gives_switch_up s) None
 up_silent s before (Item.Booted switch boot) apart = cc
 up_silent s before (Item.Down switch) apart = cc
 up_silent s before _ apart = refl
 
 boot_stays : (s : ℕ) → Stays concerns_links (λ js. journal_boot_of js s)
 unfolding journal_boot_of
-boot_stays s = last_or_stays (item_gives_boot s) 1 concerns_links (boot_silent s)
+boot_stays s = last_or_stays (machine_item_gives_boot s) 1 concerns_links (boot_silent s)
 
 up_stays : (s : ℕ) → Stays concerns_links (λ js. is_up js s)
 unfolding is_up
-up_stays s = last_or_stays (item_gives_switch_up s) true concerns_links (up_silent s)
+up_stays s = last_or_stays (machine_item_gives_switch_up s) true concerns_links (up_silent s)
 
 abbrev once : Bool → ℕ
 once b = if b then 1 else 0
@@ -143,21 +143,21 @@ known_keeps setting s before items none =
 
 -- ---- policies, and what a switch says of a header
 
-file_silent : (v : ℕ) → Silent item_concerns_policies (item_gives_file v) None
+file_silent : (v : ℕ) → Silent item_concerns_policies (machine_item_gives_file v) None
 file_silent v before (Item.Submitted file version) apart = cc
 file_silent v before _ apart = refl
 
-count_silent : Silent item_concerns_policies is_submission false
+count_silent : Silent item_concerns_policies is_journal_submission false
 count_silent before item apart = apart
 
 file_stays : (before items : List Item) → NoneConcern item_concerns_policies before items → (v : ℕ)
     → file_of (before ++ items) v ≡ file_of before v
 unfolding file_of
 file_stays before items none v = by_test (v == 1) where
-  by_test : (b : Bool) → (if b then Some 1 else journal_first_given (item_gives_file v) (before ++ items))
-      ≡ (if b then Some 1 else journal_first_given (item_gives_file v) before)
+  by_test : (b : Bool) → (if b then Some 1 else journal_first_given (machine_item_gives_file v) (before ++ items))
+      ≡ (if b then Some 1 else journal_first_given (machine_item_gives_file v) before)
   by_test true = refl
-  by_test false = first_stays (item_gives_file v) item_concerns_policies (file_silent v) before items none
+  by_test false = first_stays (machine_item_gives_file v) item_concerns_policies (file_silent v) before items none
 
 -- where the versions up to this one have the same files, it has the same policy
 pub policy_by_files : (setting : Setting) (one other : List Item) (v : ℕ)
@@ -166,15 +166,15 @@ pub policy_by_files : (setting : Setting) (one other : List Item) (v : ℕ)
 unfolding policy_in
 policy_by_files setting one other zero same = refl
 policy_by_files setting one other (suc v) same =
-    ap (λ o. option_and_then (λ file. result_ok (policy_by setting o file)) (file_of one (suc v)))
+    ap (λ o. option_and_then (λ file. result_ok (setting_policy_by setting o file)) (file_of one (suc v)))
     (policy_by_files setting one other v (λ k first last. same k first (omega (arith, last))))
-    ∙ ap (option_and_then (λ file. result_ok (policy_by setting (policy_in setting other v) file)))
+    ∙ ap (option_and_then (λ file. result_ok (setting_policy_by setting (policy_in setting other v) file)))
     (same (suc v) (omega arith) (omega arith))
 
 policy_count_stays : Stays item_concerns_policies journal_version_count
 unfolding journal_version_count
 policy_count_stays before items none =
-    rw (count_stays is_submission item_concerns_policies count_silent before items none) refl
+    rw (count_stays is_journal_submission item_concerns_policies count_silent before items none) refl
 
 policy_in_keeps : (setting : Setting) (before items : List Item)
     → NoneConcern item_concerns_policies before items → (v : ℕ)
@@ -184,8 +184,8 @@ policy_in_keeps setting before items none v = policy_by_files setting (before ++
 
 touched_keeps : (before items : List Item) → NoneConcern item_concerns_policies before items
     → (setting : Setting) (v : ℕ)
-    → touched_by setting (before ++ items) v ≡ touched_by setting before v
-unfolding touched_by
+    → machine_touched_by setting (before ++ items) v ≡ machine_touched_by setting before v
+unfolding machine_touched_by
 touched_keeps before items none setting zero = refl
 touched_keeps before items none setting (suc v) =
     cc (file_stays before items none (suc v), policy_in_keeps setting before items none v)
@@ -201,55 +201,55 @@ policies_keep before items none = record {
   plan = λ setting v. ap (λ o. option_map_or (λ rows. setting_hosted_or_none (setting.plan rows)) o [])
       (policy_in_keeps setting before items none v);
   touched = touched_keeps before items none;
-  next = λ setting file. ap (λ v. policy_by setting (policy_in setting (before ++ items) v) file)
-      (policy_count_stays before items none) ∙ ap (λ o. policy_by setting o file)
+  next = λ setting file. ap (λ v. setting_policy_by setting (policy_in setting (before ++ items) v) file)
+      (policy_count_stays before items none) ∙ ap (λ o. setting_policy_by setting o file)
       (policy_in_keeps setting before items none (journal_version_count before));
 }
 
 pub lookup_stays : (setting : Setting) (s : ℕ) (header : Header)
-    → Stays (item_concerns_lookups s) (λ js. lookup_at setting js s header)
+    → Stays (item_concerns_journal_lookups s) (λ js. lookup_at setting js s header)
 unfolding lookup_at journal_plan_at
 lookup_stays setting s header before items none =
-    let switch = switch_keeps setting s before items (fewer (concerns_switch s) (item_concerns_lookups s)
+    let switch = switch_keeps setting s before items (fewer (concerns_switch s) (item_concerns_journal_lookups s)
     (λ js item apart. neither_left (concerns_switch s js item) (item_concerns_policies js item) apart)
     before items none) in
     let policy : policy_in setting (before ++ items) (journal_stamp_of before s)
     ≡ policy_in setting before (journal_stamp_of before s) =
-    policy_in_keeps setting before items (fewer item_concerns_policies (item_concerns_lookups s)
+    policy_in_keeps setting before items (fewer item_concerns_policies (item_concerns_journal_lookups s)
     (λ js item apart. neither_right (concerns_switch s js item) (item_concerns_policies js item) apart)
     before items none) (journal_stamp_of before s) in
     rw (switch.stamp, switch.cache, policy) refl
 
 -- ---- switches that are waited for
 
-waited_silent : (s : ℕ) → Silent (item_concerns_waiting s) (gives_waited_for s) None
+waited_silent : (s : ℕ) → Silent (item_concerns_waiting s) (gives_journal_waited_for s) None
 waited_silent s before (Item.Down switch) apart = rw apart refl
 waited_silent s before (Item.OverNow switch) apart = rw apart refl
 waited_silent s before _ apart = refl
 
 pub waited_stays : (s : ℕ) → Stays (item_concerns_waiting s) (λ js. is_waited_for js s)
-waited_stays s = last_or_stays (gives_waited_for s) false (item_concerns_waiting s) (waited_silent s)
+waited_stays s = last_or_stays (gives_journal_waited_for s) false (item_concerns_waiting s) (waited_silent s)
 
 -- ---- items that don't concern a message, all messages, all packets or the steps leave their facts
 -- as they are.
 
 -- ---- a message
 
-message_silent : (n : ℕ) → Silent (concerns_message n) (item_gives_message n) None
+message_silent : (n : ℕ) → Silent (item_concerns_message n) (machine_item_gives_message n) None
 message_silent n before (Item.Sent number message) apart = rw apart refl
 message_silent n before _ apart = refl
 
-delivery_silent : (n : ℕ) → Silent (concerns_message n) (is_delivery_item n) false
+delivery_silent : (n : ℕ) → Silent (item_concerns_message n) (is_delivery_item n) false
 delivery_silent n before (Item.Delivered number) apart = apart
 delivery_silent n before _ apart = refl
 
-forgetting_silent : (n : ℕ) → Silent (concerns_message n) (is_forgetting n) false
+forgetting_silent : (n : ℕ) → Silent (item_concerns_message n) (is_journal_forgetting n) false
 forgetting_silent n before (Item.Forgotten number) apart = apart
 forgetting_silent n before _ apart = refl
 
 pub message_keeps : (n : ℕ) (before items : List Item)
-    → NoneConcern (concerns_message n) before items → MachineMessageKeeps n before (before ++ items)
-unfolding message_of was_delivered is_forgotten_in_journal is_deliverable
+    → NoneConcern (item_concerns_message n) before items → MachineMessageKeeps n before (before ++ items)
+unfolding journal_message_of was_delivered is_forgotten_in_journal is_deliverable
 message_keeps n before items none =
     let message = last_stays _ _ (message_silent n) before items none in
     let forgotten = ap (nat_lt 0) (count_stays _ _ (forgetting_silent n) before items none) in
@@ -266,12 +266,12 @@ sending_silent : Silent concerns_messages is_sending false
 sending_silent before (Item.Sent number message) apart = apart
 sending_silent before _ apart = refl
 
-sendings_silent : Keeps concerns_messages item_changes_sendings
+sendings_silent : Keeps concerns_messages changes_journal_sendings
 sendings_silent before sent (Item.Sent number message) apart = cc
 sendings_silent before sent _ apart = refl
 
 pub each_silent : (n : ℕ) (before : List Item) (item : Item) → IsFalse (concerns_messages before item)
-    → IsFalse (concerns_message n before item)
+    → IsFalse (item_concerns_message n before item)
 each_silent n before (Item.Sent number message) apart = cc
 each_silent n before (Item.Delivered number) apart = cc
 each_silent n before (Item.Forgotten number) apart = cc
@@ -292,7 +292,7 @@ first_stays_of count test concerns counts tests before items none =
 waiting_same : (n : ℕ) → Stays concerns_messages (λ js. is_waiting js n)
 waiting_same n before items none =
     let keeps = message_keeps n before items
-    (fewer (concerns_message n) concerns_messages (each_silent n) before items none) in
+    (fewer (item_concerns_message n) concerns_messages (each_silent n) before items none) in
     rw (keeps.deliverable, keeps.delivered) refl
 
 pub messages_keep : (before items : List Item) → NoneConcern concerns_messages before items
@@ -311,7 +311,7 @@ packet_silent before (Item.Entered packet switch header) apart = apart
 packet_silent before (Item.Closed packet switch) apart = apart
 packet_silent before _ apart = refl
 
-travel_silent : (i : ℕ) → Silent item_concerns_packets (item_gives_travelling i) None
+travel_silent : (i : ℕ) → Silent item_concerns_packets (machine_item_gives_travelling i) None
 travel_silent i before (Item.Entered packet switch header) apart = cc
 travel_silent i before (Item.Dropped packet) apart = cc
 travel_silent i before (Item.Left packet port leaving) apart = cc
@@ -321,13 +321,13 @@ travel_silent i before _ apart = refl
 
 travels_stay : (i : ℕ) → Stays item_concerns_packets (λ js. travels js i)
 unfolding travels
-travels_stay i = last_or_stays (item_gives_travelling i) false item_concerns_packets (travel_silent i)
+travels_stay i = last_or_stays (machine_item_gives_travelling i) false item_concerns_packets (travel_silent i)
 
 packet_count_stays : Stays item_concerns_packets (count_of is_packet)
 packet_count_stays = count_stays is_packet item_concerns_packets packet_silent
 
 pub packets_keep : (before items : List Item) → NoneConcern item_concerns_packets before items
-    → JournalPacketsKeep before (before ++ items)
+    → MachineKeepsJournalPackets before (before ++ items)
 unfolding journal_next_packet next_travelling
 packets_keep before items none = record {
   next = ap (λ k. k + 1) (packet_count_stays before items none);
@@ -336,10 +336,10 @@ packets_keep before items none = record {
 
 -- ---- steps
 
-step_silent : Silent concerns_steps item_gives_step None
+step_silent : Silent item_concerns_steps machine_item_gives_step None
 step_silent before (Item.Row row step) apart = cc
 step_silent before _ apart = refl
 
-pub step_stays : Stays concerns_steps journal_present_step
+pub step_stays : Stays item_concerns_steps journal_present_step
 unfolding journal_present_step
-step_stays = last_stays item_gives_step concerns_steps step_silent
+step_stays = last_stays machine_item_gives_step item_concerns_steps step_silent

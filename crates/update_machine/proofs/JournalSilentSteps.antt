@@ -1,7 +1,7 @@
 -- What is counted over the steps of a journal stays as it is behind items that don't concern it.
 use Rattle.std.proofs.Common.{[], ◌++◌, ◌+◌, ◌||◌, ◌∙◌, ◌∷◌, ◌≡◌, Bool, IsFalse, List, None, Option, add-zero, ap, append-nil, append_assoc, arith, false, if◌then◌else◌, refl, subst, sum_by, sym, true, unwrap_or, ℕ}
 use Rattle.base.proofs.Exports.{⊤, filter_agree, list_any, option_or, option_or-none, sum_by-cons}
-use Rattle.update_machine.specs.Exports.{Hop, Item, LinkRow, NoneConcern, JournalPacketKeeps, Setting, StepItems, JournalSwitchKeeps, journal_all_given, journal_body_to_switch, journal_boot_of, journal_cache_of, changes_journal_cache, item_changes_found, changes_heard, changes_hops, changes_journal_leg, item_changes_steps, item_concerns_calls, concerns_links, concerns_packet, concerns_switch, count_of, journal_decision_of, journal_first_given, folded_journal_from, journal_folded_value, journal_found_down, item_gives_boot, item_gives_decision, item_gives_header, item_gives_ingress, gives_journal_link, item_gives_route, item_gives_serving, item_gives_standing, item_gives_travelling, item_gives_switch_up, journal_handled_count, journal_packet_header, heard, holds_version, journal_hop_calls, journal_ingress_of, is_machine_entry_at, is_link_up_in_journal, is_journal_message_to, is_packet_move, is_up, is_usable_in_journal, journal_last_given, journal_leg_of, near, next_switch, journal_route_in, route_place, serves, journal_stamp_of, standing, journal_stays_on_way, journal_steps_in, stuck_at_link, travels, journal_travels_at, steps_with_item}
+use Rattle.update_machine.specs.Exports.{Hop, Item, LinkRow, NoneConcern, MachinePacketKeeps, Setting, StepItems, JournalSwitchKeeps, journal_all_given, journal_body_to_switch, journal_boot_of, journal_cache_of, changes_journal_cache, item_changes_found, changes_journal_heard, changes_hops, changes_journal_leg, item_changes_steps, item_concerns_calls, concerns_links, concerns_packet, concerns_switch, count_of, journal_decision_of, journal_first_given, folded_journal_from, journal_folded_value, journal_found_down, machine_item_gives_boot, machine_item_gives_decision, machine_item_gives_header, machine_item_gives_ingress, gives_journal_link, machine_item_gives_route, machine_item_gives_serving, machine_item_gives_standing, machine_item_gives_travelling, machine_item_gives_switch_up, journal_handled_count, journal_packet_header, heard, holds_version, journal_hop_calls, journal_ingress_of, is_machine_entry_at, is_link_up_in_journal, is_journal_message_to, is_machine_packet_move, is_up, is_usable_in_journal, journal_last_given, journal_leg_of, near, journal_next_switch, journal_route_in, route_place, serves, journal_stamp_of, standing, journal_hop_stays_on_way, journal_steps_in, machine_stuck_at_link, travels, journal_travels_at, machine_steps_with_item}
 use Rattle.update_machine.proofs.JournalBlockNumbers.{all_given_append, count_of_append, first_given_append, folded_append, last_given_append}
 use Rattle.failover.specs.Exports.{no_links}
 
@@ -97,7 +97,7 @@ EndsWith journal [] = ⊤
 EndsWith journal (newest ∷ steps) = newest.before ++ newest.items ≡ journal
 
 with_ends : (journal : List Item) (item : Item) (steps : List StepItems) → EndsWith journal steps
-    → EndsWith (journal ++ item ∷ []) (steps_with_item steps item)
+    → EndsWith (journal ++ item ∷ []) (machine_steps_with_item steps item)
 with_ends journal item [] ends = tt
 with_ends journal item (newest ∷ steps) ends =
     cc (append_assoc newest.before newest.items (item ∷ []), ends)
@@ -159,22 +159,22 @@ is_still (Item.Stuck packet switch cause leg down) = false
 is_still _ = true
 
 move_more : (last : Item) → is_still last ≡ true → (items : List Item)
-    → list_any is_packet_move (items ++ last ∷ []) ≡ list_any is_packet_move items
+    → list_any is_machine_packet_move (items ++ last ∷ []) ≡ list_any is_machine_packet_move items
 move_more last still [] = none last still where
-  none : (one : Item) → is_still one ≡ true → list_any is_packet_move (one ∷ []) ≡ false
+  none : (one : Item) → is_still one ≡ true → list_any is_machine_packet_move (one ∷ []) ≡ false
   none (Item.Hopped packet switch) still = cc
   none _ still = refl
-move_more last still (first ∷ items) = ap (λ b. is_packet_move first || b) (move_more last still items)
+move_more last still (first ∷ items) = ap (λ b. is_machine_packet_move first || b) (move_more last still items)
 
 stuck_more : (last : Item) → is_still last ≡ true → (items : List Item)
-    → stuck_at_link (items ++ last ∷ []) ≡ stuck_at_link items
+    → machine_stuck_at_link (items ++ last ∷ []) ≡ machine_stuck_at_link items
 stuck_more last still [] = none last where
-  none : (one : Item) → stuck_at_link (one ∷ []) ≡ false
+  none : (one : Item) → machine_stuck_at_link (one ∷ []) ≡ false
   none (Item.FoundDown packet one two) = refl
   none _ = refl
 stuck_more last still (Item.FoundDown packet one two ∷ []) = none last still where
   none : (last : Item) → is_still last ≡ true
-      → stuck_at_link (Item.FoundDown packet one two ∷ last ∷ []) ≡ false
+      → machine_stuck_at_link (Item.FoundDown packet one two ∷ last ∷ []) ≡ false
   none (Item.Stuck i s cause leg down) still = cc
   none (Item.FoundDown i a b) still = refl
   none _ still = refl
@@ -191,7 +191,7 @@ calls_more s newest more other still row_less [] = refl
 calls_more s newest more last still row_less (Item.Row row (Hop packet) ∷ items) =
     ap (λ b. if journal_travels_at newest.before s packet then (if b then 1 else 2) else 0) same
   where
-    same : journal_stays_on_way (items ++ last ∷ []) ≡ journal_stays_on_way items
+    same : journal_hop_stays_on_way (items ++ last ∷ []) ≡ journal_hop_stays_on_way items
     same = rw (move_more last still items, stuck_more last still items) refl
 calls_more s newest more last still row_less (first ∷ items) = refl
 
@@ -233,16 +233,16 @@ calls_stay s before items none =
 
 -- ---- items that don't concern a switch, or the links, leave its facts as they are
 
-boot_silent : (s : ℕ) → Silent (concerns_switch s) (item_gives_boot s) None
+boot_silent : (s : ℕ) → Silent (concerns_switch s) (machine_item_gives_boot s) None
 boot_silent s before (Item.Booted switch boot) apart = rw apart refl
 boot_silent s before _ apart = refl
 
-up_silent : (s : ℕ) → Silent (concerns_switch s) (item_gives_switch_up s) None
+up_silent : (s : ℕ) → Silent (concerns_switch s) (machine_item_gives_switch_up s) None
 up_silent s before (Item.Booted switch boot) apart = rw apart refl
 up_silent s before (Item.Down switch) apart = rw apart refl
 up_silent s before _ apart = refl
 
-serving_silent : (s : ℕ) → Silent (concerns_switch s) (item_gives_serving s) None
+serving_silent : (s : ℕ) → Silent (concerns_switch s) (machine_item_gives_serving s) None
 serving_silent s before (Item.Booted switch boot) apart = rw apart refl
 serving_silent s before (Item.Down switch) apart = rw apart refl
 serving_silent s before (Item.Opened switch version) apart = rw apart refl
@@ -253,7 +253,7 @@ said_nothing : (before : List Item) (s number : ℕ) → IsFalse (is_journal_mes
     → journal_body_to_switch before s number ≡ None
 said_nothing before s number apart = grind arith
 
-heard_silent : (s : ℕ) → Keeps (concerns_switch s) (changes_heard s)
+heard_silent : (s : ℕ) → Keeps (concerns_switch s) (changes_journal_heard s)
 heard_silent s before bodies (Item.Booted switch boot) apart = rw apart refl
 heard_silent s before bodies (Item.Down switch) apart = rw apart refl
 heard_silent s before bodies (Item.Delivered number) apart = rw (said_nothing before s number apart)
@@ -286,7 +286,7 @@ switch_keeps setting s before items none =
 
 -- ---- links
 
-served_silent : (s : ℕ) → Silent concerns_links (item_gives_serving s) None
+served_silent : (s : ℕ) → Silent concerns_links (machine_item_gives_serving s) None
 served_silent s before (Item.Booted switch boot) apart = cc
 served_silent s before (Item.Down switch) apart = cc
 served_silent s before (Item.Opened switch version) apart = cc
@@ -328,20 +328,20 @@ near_stays setting s before items none = near_same setting before
 
 -- ---- items that don't concern a packet leave its facts as they are
 
-header_silent : (i : ℕ) → Silent (concerns_packet i) (item_gives_header i) None
+header_silent : (i : ℕ) → Silent (concerns_packet i) (machine_item_gives_header i) None
 header_silent i before (Item.Entered packet switch header) apart = rw apart refl
 header_silent i before _ apart = refl
 
-ingress_silent : (i : ℕ) → Silent (concerns_packet i) (item_gives_ingress i) None
+ingress_silent : (i : ℕ) → Silent (concerns_packet i) (machine_item_gives_ingress i) None
 ingress_silent i before (Item.Entered packet switch header) apart = rw apart refl
 ingress_silent i before _ apart = refl
 
-standing_silent : (i : ℕ) → Silent (concerns_packet i) (item_gives_standing i) None
+standing_silent : (i : ℕ) → Silent (concerns_packet i) (machine_item_gives_standing i) None
 standing_silent i before (Item.Entered packet switch header) apart = rw apart refl
 standing_silent i before (Item.Hopped packet switch) apart = rw apart refl
 standing_silent i before _ apart = refl
 
-travel_silent : (i : ℕ) → Silent (concerns_packet i) (item_gives_travelling i) None
+travel_silent : (i : ℕ) → Silent (concerns_packet i) (machine_item_gives_travelling i) None
 travel_silent i before (Item.Entered packet switch header) apart = rw apart refl
 travel_silent i before (Item.Dropped packet) apart = rw apart refl
 travel_silent i before (Item.Left packet port leaving) apart = rw apart refl
@@ -349,7 +349,7 @@ travel_silent i before (Item.Lost packet) apart = rw apart refl
 travel_silent i before (Item.Stuck packet switch cause leg down) apart = rw apart refl
 travel_silent i before _ apart = refl
 
-decision_silent : (i : ℕ) → Silent (concerns_packet i) (item_gives_decision i) None
+decision_silent : (i : ℕ) → Silent (concerns_packet i) (machine_item_gives_decision i) None
 decision_silent i before (Item.Decided packet version rule action how) apart = rw apart refl
 decision_silent i before _ apart = refl
 
@@ -358,7 +358,7 @@ leg_silent i before leg (Item.Seeking packet version partition route) apart = rw
 leg_silent i before leg (Item.Exiting packet route) apart = rw apart refl
 leg_silent i before leg _ apart = refl
 
-route_silent : (i : ℕ) → Silent (concerns_packet i) (item_gives_route i) None
+route_silent : (i : ℕ) → Silent (concerns_packet i) (machine_item_gives_route i) None
 route_silent i before (Item.Seeking packet version partition route) apart = rw apart refl
 route_silent i before (Item.Exiting packet route) apart = rw apart refl
 route_silent i before (Item.Rerouted packet route) apart = rw apart refl
@@ -376,8 +376,8 @@ found_silent i before links (Item.FoundDown packet one two) apart = rw apart ref
 found_silent i before links _ apart = refl
 
 pub packet_keeps : (i : ℕ) (before items : List Item) → NoneConcern (concerns_packet i) before items
-    → JournalPacketKeeps i before (before ++ items)
-unfolding journal_packet_header journal_ingress_of standing travels journal_decision_of journal_leg_of journal_route_in route_place next_switch
+    → MachinePacketKeeps i before (before ++ items)
+unfolding journal_packet_header journal_ingress_of standing travels journal_decision_of journal_leg_of journal_route_in route_place journal_next_switch
     journal_found_down
 packet_keeps i before items none =
     let route = last_or_stays _ [] _ (route_silent i) before items none in

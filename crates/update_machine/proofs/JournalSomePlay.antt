@@ -1,7 +1,7 @@
 -- Where there is an answer there is a play: all of it, or the steps before the first one that would
 -- begin full.
 use Rattle.std.proofs.Common.{[], ◌++◌, ◌+◌, ◌↔◌, ◌∙◌, ◌∷◌, ◌≡◌, ◌≤◌, ◌⊎◌, All, List, None, Option, Some, ap, append_assoc, arith, inl, inr, length, option_map, refl, subst, suc, sym, take_all, ℕ}
-use Rattle.update_machine.specs.Exports.{Answers, JournalAnswersSoFar, JournalAnswersWithRoom, AreAllMachineEventSteps, AreAnsweredByJournal, AreJournalFirstSteps, AreFirstStepsOf, AreFirstMachineEventSteps, AreMachineSteps, AreMachineStepsOf, JournalBeginsAnswer, Deliver, Drain, Event, Flush, HasMachinePlay, HasRoom, MachineJournalsHaveRoom, Hop, IsJournalFull, IsMachinePlay, Item, One, Setting, Step, StepOfRow, JournalStopsFull, journal_after_steps, count_of, machine_journal_full_at, is_sending, journal_next_delivery, journal_next_hop, journal_next_message, next_travelling, next_waiting, piece}
+use Rattle.update_machine.specs.Exports.{Answers, JournalAnswersSoFar, JournalAnswersWithRoom, AreAllMachineEventSteps, AreAnsweredByJournal, AreJournalFirstSteps, AreFirstMachineStepsOf, AreFirstMachineEventSteps, AreMachineSteps, AreMachineStepsOf, JournalBeginsAnswer, Deliver, Drain, Event, Flush, HasMachinePlay, HasRoom, MachineJournalsHaveRoom, Hop, IsMachineJournalFull, IsMachinePlay, Item, One, Setting, Step, StepOfRow, JournalStopsFull, journal_after_steps, count_of, machine_journal_full_at, is_sending, journal_next_delivery, journal_next_hop, journal_next_message, next_travelling, next_waiting, piece}
 use Rattle.base.proofs.Exports.{⊤, AllByRecursion, cases_lt}
 use Rattle.policy_rules.proofs.PolicyRulesCallerLemmas.{append_not_nil}
 use Rattle.update_machine.proofs.JournalFirstSteps.{Begins, begins_cons, begins_nil, first_begin_all, first_steps_either, one_answer}
@@ -85,7 +85,7 @@ some_are Is setting next are row before (first ∷ steps) some = (
 
 pub firsts_are : (Is : Step → Type 0) → HasNexts Is → (setting : Setting) (row : ℕ) (event : Event)
     (before : List Item) (steps : List StepOfRow) → IsEventOf Is event
-    → AreFirstStepsOf setting row event before steps → AreOf Is steps
+    → AreFirstMachineStepsOf setting row event before steps → AreOf Is steps
 firsts_are Is has setting row (One step) before steps is (inl none) = subst (AreOf Is) (sym none) tt
 firsts_are Is has setting row (One step) before steps is (inr one) = rw one (is, tt)
 firsts_are Is has setting row Flush before steps is are =
@@ -106,7 +106,7 @@ all_some setting next row before (first ∷ steps) all = (
 
 pub all_first : (setting : Setting) (row : ℕ) (event : Event) (before : List Item)
     (steps : List StepOfRow) → AreMachineStepsOf setting row event before steps
-    → AreFirstStepsOf setting row event before steps
+    → AreFirstMachineStepsOf setting row event before steps
 all_first setting row (One step) before steps all = inr all
 all_first setting row Flush before steps all = all_some setting journal_next_delivery row before steps all
 all_first setting row Drain before steps all = all_some setting journal_next_hop row before steps all
@@ -131,7 +131,7 @@ first_steps_are Is has setting row (event ∷ events) before steps is (inr are) 
 
 -- ---- there is one play of the events of a schedule
 
-pub full_by_count : (journal : List Item) → IsJournalFull journal ↔ machine_journal_full_at ≤ count_of is_sending journal
+pub full_by_count : (journal : List Item) → IsMachineJournalFull journal ↔ machine_journal_full_at ≤ count_of is_sending journal
 unfolding journal_next_message
 full_by_count journal = (λ full. omega (arith, full), λ many. omega (arith, many))
 
@@ -154,7 +154,7 @@ room_before setting before (x ∷ xs) y zs room =
 
 -- so none of them is where a play stops
 none_stops : {X : Type 0} (setting : Setting) (xs : List StepOfRow) (x : StepOfRow)
-    (ys : List StepOfRow) → IsJournalFull (journal_after_steps setting [] xs) → MachineJournalsHaveRoom setting [] ys
+    (ys : List StepOfRow) → IsMachineJournalFull (journal_after_steps setting [] xs) → MachineJournalsHaveRoom setting [] ys
     → Begins (xs ++ x ∷ []) ys → X
 none_stops setting xs x ys full room begins =
     let there : HasRoom (journal_after_steps setting [] xs) = room_before setting [] xs x begins.rest
@@ -200,8 +200,8 @@ stops_same : (setting : Setting) (events : List Event) (one other : List Item) (
 stops_same setting events one other row last first second begins =
     by (whole_or_front (first.steps ++ first.next ∷ []) second.steps second.next begins)
   where
-    full : IsJournalFull (journal_after_steps setting [] first.steps)
-    full = subst IsJournalFull first.written first.full
+    full : IsMachineJournalFull (journal_after_steps setting [] first.steps)
+    full = subst IsMachineJournalFull first.written first.full
 
     by : (first.steps ++ first.next ∷ [] ≡ second.steps ++ second.next ∷ [])
         ⊎ Begins (first.steps ++ first.next ∷ []) second.steps → (one ≡ other) × (row ≡ last)
@@ -231,7 +231,7 @@ one_stop setting events one other row last first second =
 not_both : {X : Type 0} (setting : Setting) (events : List Event) (one other : List Item) (row : ℕ)
     → JournalAnswersWithRoom setting events one → JournalStopsFull setting events other row → X
 not_both setting events one other row whole stop = none_stops setting stop.steps stop.next
-    whole.answers.steps (subst IsJournalFull stop.written stop.full) whole.room (first_begin_all setting 1
+    whole.answers.steps (subst IsMachineJournalFull stop.written stop.full) whole.room (first_begin_all setting 1
     events [] (stop.steps ++ stop.next ∷ []) whole.answers.steps stop.allowed whole.answers.allowed)
 
 pub one_play : (setting : Setting) (events : List Event) (one other : List Item)
@@ -269,8 +269,8 @@ one_front step (x ∷ xs) ys (inr one) = let tail : [] ≡ xs ++ ys = cc one in
     inr (ap (λ zs. x ∷ zs) (nil_front xs ys tail) ∙ ap (λ z. z ∷ []) (cc one))
 
 event_front : (setting : Setting) (row : ℕ) (event : Event) (before : List Item)
-    (xs ys : List StepOfRow) → AreFirstStepsOf setting row event before (xs ++ ys)
-    → AreFirstStepsOf setting row event before xs
+    (xs ys : List StepOfRow) → AreFirstMachineStepsOf setting row event before (xs ++ ys)
+    → AreFirstMachineStepsOf setting row event before xs
 event_front setting row (One step) before xs ys first =
     one_front (record { row = row; step = step }) xs ys first
 event_front setting row Flush before xs ys first =
@@ -347,7 +347,7 @@ record FirstFull (setting : Setting) (before : List Item) (steps : List StepOfRo
   rest : List StepOfRow
   split : steps ≡ done ++ next ∷ rest
   room : MachineJournalsHaveRoom setting before done
-  full : IsJournalFull (journal_after_steps setting before done)
+  full : IsMachineJournalFull (journal_after_steps setting before done)
 
 room_or_full : (setting : Setting) (before : List Item) (steps : List StepOfRow)
     → MachineJournalsHaveRoom setting before steps ⊎ FirstFull setting before steps

@@ -1,6 +1,6 @@
 -- What switches, links and messages are said to be, on journals of few items.
 use Rattle.std.proofs.Common.{[], ◌++◌, ◌∷◌, ◌≡◌, List, None, Some, false, refl, true, ℕ}
-use Rattle.update_machine.specs.Exports.{Body, Collect, Install, Item, Stamp, Step, journal_advert_known, journal_adverts_known, journal_boot_of, heard, holds_version, is_deliverable, is_forgotten_in_journal, is_link_up_in_journal, is_up, message_of, near, next_travelling, next_waiting, own_advert, journal_own_seq, serves, journal_stamp_of, journal_steps_in, travels, was_delivered}
+use Rattle.update_machine.specs.Exports.{Body, Collect, Install, Item, Stamp, Step, journal_advert_known, journal_adverts_known, journal_boot_of, heard, holds_version, is_deliverable, is_forgotten_in_journal, is_link_up_in_journal, is_up, journal_message_of, near, next_travelling, next_waiting, own_advert, journal_own_seq, serves, journal_stamp_of, journal_steps_in, travels, was_delivered}
 use Rattle.failover.specs.Exports.{adverts_after_hearing, first_adverts, is_news}
 use Rattle.base.specs.Exports.{small_number_mask, number_set_where, switches}
 use Rattle.update_machine.proofs.JournalExampleNetworks.{advert, one, open_net, plan_p, ring, tables_of, to}
@@ -34,21 +34,21 @@ serves_once_opened = refl
 -- advert is for any boot
 pub hears_again : heard (restarted ++ told 2 (Stamp 1 3 []) ++ told 3 (Stamp 2 3 [])
     ++ told 4 (advert 1 1 2 1)) 0 ≡ Stamp 2 3 [] ∷ advert 1 1 2 1 ∷ []
-unfolding heard is_up journal_boot_of message_of
+unfolding heard is_up journal_boot_of journal_message_of
 hears_again = refl
 
 pub hears_nothing_down : heard (Item.Down 0 ∷ told 1 (Stamp 1 2 [])) 0 ≡ []
-unfolding heard is_up journal_boot_of message_of
+unfolding heard is_up journal_boot_of journal_message_of
 hears_nothing_down = refl
 
 -- ---- versions
 
 pub greatest_stamp : journal_stamp_of (told 1 (Stamp 1 3 []) ++ told 2 (Stamp 1 2 [])) 0 ≡ 3
-unfolding journal_stamp_of heard is_up journal_boot_of message_of
+unfolding journal_stamp_of heard is_up journal_boot_of journal_message_of
 greatest_stamp = refl
 
 pub no_stamp_in_boot_2 : journal_stamp_of restarted 0 ≡ 0
-unfolding journal_stamp_of heard is_up journal_boot_of message_of
+unfolding journal_stamp_of heard is_up journal_boot_of journal_message_of
 no_stamp_in_boot_2 = refl
 
 -- it holds what was installed, but for what was collected
@@ -59,7 +59,7 @@ collected = told 1 (Install 1 (tables_of plan_p 2 0)) ++ told 2 (Install 1 (tabl
 pub holds : (holds_version (told 1 (Install 1 (tables_of plan_p 2 0))) 0 2 ≡ true)
     × (holds_version collected 0 1 ≡ false) × (holds_version collected 0 2 ≡ false)
     × (holds_version collected 0 3 ≡ true) × (holds_version restarted 0 1 ≡ false)
-unfolding holds_version heard is_up journal_boot_of message_of
+unfolding holds_version heard is_up journal_boot_of journal_message_of
 holds = (refl, refl, refl, refl, refl)
 
 -- ---- links
@@ -103,7 +103,7 @@ pub adverts_of_a :
     × (journal_advert_known open_net (told 1 (advert 0 1 9 0)) 0 0
     ≡ Some (record { origin = 0; boot = 1; seq = 1; up = 2 }))
 unfolding journal_adverts_known own_advert journal_own_seq journal_steps_in near is_link_up_in_journal serves is_up journal_boot_of heard
-    message_of first_adverts adverts_after_hearing is_news switches small_number_mask number_set_where
+    journal_message_of first_adverts adverts_after_hearing is_news switches small_number_mask number_set_where
 adverts_of_a = (refl, refl, refl, refl, refl, refl)
 
 -- ---- messages
@@ -113,24 +113,24 @@ sent = Item.Sent 1 (to 0 (Stamp 1 1 [])) ∷ Item.Sent 2 (to 0 (Stamp 1 1 []))
     ∷ Item.Sent 3 (to 0 (Stamp 1 1 [])) ∷ Item.Forgotten 1 ∷ Item.Delivered 2 ∷ []
 
 pub forgotten_is_gone : is_deliverable sent 1 ≡ false
-unfolding is_deliverable is_forgotten_in_journal message_of
+unfolding is_deliverable is_forgotten_in_journal journal_message_of
 forgotten_is_gone = refl
 
 pub delivered_may_come_again : is_deliverable sent 2 ≡ true
-unfolding is_deliverable is_forgotten_in_journal message_of
+unfolding is_deliverable is_forgotten_in_journal journal_message_of
 delivered_may_come_again = refl
 
 pub unsent_is_none : is_deliverable sent 4 ≡ false
-unfolding is_deliverable is_forgotten_in_journal message_of
+unfolding is_deliverable is_forgotten_in_journal journal_message_of
 unsent_is_none = refl
 
 pub third_waits : next_waiting sent ≡ Some 3
-unfolding next_waiting is_deliverable is_forgotten_in_journal was_delivered message_of
+unfolding next_waiting is_deliverable is_forgotten_in_journal was_delivered journal_message_of
 third_waits = refl
 
 pub first_waits_first :
     next_waiting (Item.Sent 1 (to 0 (Stamp 1 1 [])) ∷ Item.Sent 2 (to 0 (Stamp 1 1 [])) ∷ []) ≡ Some 1
-unfolding next_waiting is_deliverable is_forgotten_in_journal was_delivered message_of
+unfolding next_waiting is_deliverable is_forgotten_in_journal was_delivered journal_message_of
 first_waits_first = refl
 
 -- ---- packets

@@ -3,7 +3,7 @@ use Rattle.std.proofs.Common.{[], ◌++◌, ◌+◌, ◌-◌, ◌<◌, ◌==◌,
 use Rattle.base.proofs.Exports.{cases_eq, nat_tests, option_map_or, option_or, result_ok}
 use Rattle.partition.specs.Plan.{Hosted}
 use Rattle.policy_rules.specs.Exports.{NoPolicyPlan}
-use Rattle.update_machine.specs.Exports.{SettingHasPlan, IsSetting, Item, Machine, JournalPoliciesKeep, Row, Setting, Takes, VersionsAreNumbered, Whole, setting_file_at, file_of, journal_first_given, first_machine, item_gives_file, setting_hosted_or_none, is_submission, is_version, made_by, journal_next_policy, journal_plan_at, policy_at, policy_by, policy_in, submitted_policy, journal_version_count}
+use Rattle.update_machine.specs.Exports.{SettingHasPlan, IsSetting, Item, Machine, JournalPoliciesKeep, Row, Setting, Takes, JournalVersionsAreNumbered, Whole, setting_file_at, file_of, journal_first_given, first_machine, machine_item_gives_file, setting_hosted_or_none, is_journal_submission, is_version, made_by, journal_next_policy, journal_plan_at, policy_at, setting_policy_by, policy_in, machine_submitted_policy, journal_version_count}
 use Rattle.update_machine.proofs.JournalBlockNumbers.{count_of_append, first_given_append}
 use Rattle.update_machine.proofs.JournalSilentLinks.{policies_keep, policy_by_files}
 
@@ -14,11 +14,11 @@ pub file_append : (before items : List Item) (v : ℕ)
     → file_of (before ++ items) v ≡ option_or (file_of before v) (file_of items v)
 unfolding file_of
 file_append before items v = by_test (v == 1) where
-  by_test : (b : Bool) → (if b then Some 1 else journal_first_given (item_gives_file v) (before ++ items))
-      ≡ option_or (if b then Some 1 else journal_first_given (item_gives_file v) before)
-      (if b then Some 1 else journal_first_given (item_gives_file v) items)
+  by_test : (b : Bool) → (if b then Some 1 else journal_first_given (machine_item_gives_file v) (before ++ items))
+      ≡ option_or (if b then Some 1 else journal_first_given (machine_item_gives_file v) before)
+      (if b then Some 1 else journal_first_given (machine_item_gives_file v) items)
   by_test true = refl
-  by_test false = first_given_append (item_gives_file v) before items
+  by_test false = first_given_append (machine_item_gives_file v) before items
 
 pub file_kept : (before items : List Item) (v : ℕ) → IsTrue (is_version before v)
     → file_of (before ++ items) v ≡ file_of before v
@@ -37,19 +37,19 @@ version_kept before items v there = ap is_some (file_kept before items v there) 
 
 -- the versions up to the count keep their policies, where all of them are there
 pub policy_in_stays : (setting : Setting) (before items : List Item) (v : ℕ)
-    → VersionsAreNumbered before → v ≤ journal_version_count before
+    → JournalVersionsAreNumbered before → v ≤ journal_version_count before
     → policy_in setting (before ++ items) v ≡ policy_in setting before v
 policy_in_stays setting before items v are below = policy_by_files setting (before ++ items) before
     v (λ k first last. file_kept before items k ((are k).1 (first, omega (arith, last, below))))
 
 pub policy_stays : (setting : Setting) (before items : List Item) (v : ℕ)
-    → VersionsAreNumbered before → v ≤ journal_version_count before
+    → JournalVersionsAreNumbered before → v ≤ journal_version_count before
     → policy_at setting (before ++ items) v ≡ policy_at setting before v
 unfolding policy_at
 policy_stays setting before items v are below =
     ap (λ o. unwrap_or o []) (policy_in_stays setting before items v are below)
 
-pub plan_stays : (setting : Setting) (before items : List Item) (v : ℕ) → VersionsAreNumbered before
+pub plan_stays : (setting : Setting) (before items : List Item) (v : ℕ) → JournalVersionsAreNumbered before
     → v ≤ journal_version_count before → journal_plan_at setting (before ++ items) v ≡ journal_plan_at setting before v
 unfolding journal_plan_at
 plan_stays setting before items v are below = cc (policy_in_stays setting before items v are below)
@@ -69,12 +69,12 @@ pub count_submitted : (journal : List Item) (file version : ℕ)
     → journal_version_count (journal ++ Item.Submitted file version ∷ []) ≡ journal_version_count journal + 1
 unfolding journal_version_count
 count_submitted journal file version =
-    rw (count_of_append is_submission journal (Item.Submitted file version ∷ [])) (omega arith)
+    rw (count_of_append is_journal_submission journal (Item.Submitted file version ∷ [])) (omega arith)
 
 -- the next version is there, and no other is new
 pub submitted_more : (journal : List Item) (file version : ℕ)
-    → version ≡ journal_version_count journal + 1 → VersionsAreNumbered journal
-    → VersionsAreNumbered (journal ++ Item.Submitted file version ∷ [])
+    → version ≡ journal_version_count journal + 1 → JournalVersionsAreNumbered journal
+    → JournalVersionsAreNumbered (journal ++ Item.Submitted file version ∷ [])
 unfolding file_of
 submitted_more journal file version next are v = rw (file_append, count_submitted)
     (by (file_of journal v) (are v))
@@ -86,12 +86,12 @@ submitted_more journal file version next are v = rw (file_append, count_submitte
         (λ there. (omega (arith, low), omega (arith, low)), λ within. refl)
     by None known = (λ there. grind (arith, nat_tests), λ within. grind (arith, nat_tests))
 
-pub other_more : (journal : List Item) (item : Item) → IsFalse (is_submission item)
-    → VersionsAreNumbered journal → VersionsAreNumbered (journal ++ item ∷ [])
+pub other_more : (journal : List Item) (item : Item) → IsFalse (is_journal_submission item)
+    → JournalVersionsAreNumbered journal → JournalVersionsAreNumbered (journal ++ item ∷ [])
 other_more journal item apart are v =
     let keep = policies_keep journal (item ∷ []) (apart, tt) in rw (keep.file v, keep.count) (are v)
 
-pub numbered_at_first : VersionsAreNumbered []
+pub numbered_at_first : JournalVersionsAreNumbered []
 unfolding file_of journal_version_count
 numbered_at_first v = grind (arith, nat_tests)
 
@@ -116,7 +116,7 @@ planned_of setting journal v rows policy = by_plan (setting.plan rows) refl wher
   by_plan (Ok plan) is ok = has_plan setting journal v rows plan policy is
 
 pub has_plan_stays : (setting : Setting) (before items : List Item) (v : ℕ)
-    → VersionsAreNumbered before → v ≤ journal_version_count before
+    → JournalVersionsAreNumbered before → v ≤ journal_version_count before
     → SettingHasPlan setting before v → SettingHasPlan setting (before ++ items) v
 has_plan_stays setting before items v are below has =
     has_plan setting (before ++ items) v (policy_at setting before v) (journal_plan_at setting before v)
@@ -171,10 +171,10 @@ first_there : (journal : List Item) → IsTrue (is_version journal 1)
 unfolding file_of
 first_there journal = refl
 
-pub count_above : (journal : List Item) → VersionsAreNumbered journal → 1 ≤ journal_version_count journal
+pub count_above : (journal : List Item) → JournalVersionsAreNumbered journal → 1 ≤ journal_version_count journal
 count_above journal are = ((are 1).0 (first_there journal)).1
 
-pub next_file : (journal : List Item) (file version : ℕ) → VersionsAreNumbered journal
+pub next_file : (journal : List Item) (file version : ℕ) → JournalVersionsAreNumbered journal
     → version ≡ journal_version_count journal + 1
     → file_of (journal ++ Item.Submitted file version ∷ []) version ≡ Some file
 next_file journal file version are next =
@@ -191,7 +191,7 @@ next_file journal file version are next =
 
 -- what its file makes of the policy of the newest version
 pub next_made : (setting : Setting) (journal : List Item) (file version : ℕ)
-    → VersionsAreNumbered journal → version ≡ journal_version_count journal + 1
+    → JournalVersionsAreNumbered journal → version ≡ journal_version_count journal + 1
     → policy_in setting (journal ++ Item.Submitted file version ∷ []) version
     ≡ result_ok (journal_next_policy setting journal file)
 unfolding policy_in journal_next_policy
@@ -199,14 +199,14 @@ next_made setting journal file zero are next = absurd (omega (arith, next))
 next_made setting journal file (suc newest) are next =
     let after : List Item = journal ++ Item.Submitted file (suc newest) ∷ [] in
     let same : newest ≡ journal_version_count journal = omega (arith, next) in
-    ap (option_and_then (λ f. result_ok (policy_by setting (policy_in setting after newest) f)))
+    ap (option_and_then (λ f. result_ok (setting_policy_by setting (policy_in setting after newest) f)))
     (next_file journal file (suc newest) are next)
-    ∙ ap (λ o. result_ok (policy_by setting o file))
+    ∙ ap (λ o. result_ok (setting_policy_by setting o file))
     (policy_in_stays setting journal (Item.Submitted file (suc newest) ∷ []) newest are
     (omega (arith, same)) ∙ ap (policy_in setting journal) same)
 
 pub next_policy_in : (setting : Setting) (journal : List Item) (file version : ℕ)
-    (rows : List Row) → VersionsAreNumbered journal → version ≡ journal_version_count journal + 1
+    (rows : List Row) → JournalVersionsAreNumbered journal → version ≡ journal_version_count journal + 1
     → journal_next_policy setting journal file ≡ Ok rows
     → policy_in setting (journal ++ Item.Submitted file version ∷ []) version ≡ Some rows
 next_policy_in setting journal file version rows are next policy =
@@ -214,7 +214,7 @@ next_policy_in setting journal file version rows are next policy =
 
 -- it has the next policy, and its plan
 pub next_is : (setting : Setting) (journal : List Item) (file version : ℕ) (rows : List Row)
-    → VersionsAreNumbered journal
+    → JournalVersionsAreNumbered journal
     → version ≡ journal_version_count journal + 1 → journal_next_policy setting journal file ≡ Ok rows
     → (policy_at setting (journal ++ Item.Submitted file version ∷ []) version ≡ rows) × (journal_plan_at
     setting (journal ++ Item.Submitted file version ∷ []) version ≡ setting_hosted_or_none (setting.plan rows))
@@ -223,7 +223,7 @@ next_is setting journal file version rows are next policy =
     (next_policy_in setting journal file version rows are next policy)
 
 pub next_has_plan : (setting : Setting) (journal : List Item) (file version : ℕ) (rows : List Row)
-    → VersionsAreNumbered journal → version ≡ journal_version_count journal + 1
+    → JournalVersionsAreNumbered journal → version ≡ journal_version_count journal + 1
     → journal_next_policy setting journal file ≡ Ok rows → IsOk (setting.plan rows)
     → SettingHasPlan setting (journal ++ Item.Submitted file version ∷ []) version
 next_has_plan setting journal file version rows are next policy planned =
@@ -243,7 +243,7 @@ part_there setting journal (suc version) partition hosted is =
   where
     by_file : (o : Option ℕ)
         → slice_get (option_map_or (λ rows. setting_hosted_or_none (setting.plan rows)) (option_and_then (λ file.
-        result_ok (policy_by setting (policy_in setting journal version) file)) o) []) partition
+        result_ok (setting_policy_by setting (policy_in setting journal version) file)) o) []) partition
         ≡ Some hosted → IsTrue (is_some o)
     by_file None is = absurd cc
     by_file (Some file) is = refl
@@ -309,7 +309,7 @@ snoc_new (y ∷ xs) x = snoc_new xs x
 -- the newest one is that of the newest version
 newest_is : (setting : Setting) (machine : Machine) (journal : List Item)
     → ArePolicies setting machine.policies journal → 1 ≤ journal_version_count journal
-    → submitted_policy machine (length machine.policies)
+    → machine_submitted_policy machine (length machine.policies)
     ≡ policy_in setting journal (journal_version_count journal)
 newest_is setting machine journal are some =
     cc (are.count, are.each (journal_version_count journal) some (omega arith))
@@ -323,7 +323,7 @@ pub record TakesVersion (setting : Setting) (machine : Machine) (journal : List 
       (journal ++ Item.Submitted file version ∷ [])
 
 pub takes_version : (setting : Setting) (machine : Machine) (journal : List Item)
-    (file version : ℕ) (rows : List Row) → VersionsAreNumbered journal
+    (file version : ℕ) (rows : List Row) → JournalVersionsAreNumbered journal
     → ArePolicies setting machine.policies journal → version ≡ journal_version_count journal + 1
     → journal_next_policy setting journal file ≡ Ok rows
     → TakesVersion setting machine journal file version rows

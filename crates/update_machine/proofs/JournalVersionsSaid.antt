@@ -2,7 +2,7 @@
 use Rattle.std.proofs.Common.{[], ◌∙◌, ◌∷◌, ◌≡◌, ◌≤◌, Err, List, None, Ok, Some, ap, arith, length, refl, slice_get, sym, true}
 use Rattle.base.proofs.Exports.{All-from_recursion, option_map_or, result_ok, same_Some}
 use Rattle.policy_rules.specs.Exports.{IsFirstMatch, NoRoom, applied}
-use Rattle.update_machine.specs.Exports.{Absent, Action, Add, Change, Decides, Drop, SettingHasPlan, How, IsJournalReached, IsRun, Item, Machine, Out, Remove, Row, Setting, Step, StepOfRow, MachineSubmits, Taken, Takes, VersionsAreNumbered, Whole, setting_file_at, file_of, first_machine, forget_items, is_deliverable, is_version, message_of, journal_next_policy, piece, journal_plan_at, policy_at, policy_by, policy_in, journal_retired_mark, submitted_policy, machine_update_code, journal_version_count}
+use Rattle.update_machine.specs.Exports.{Absent, Action, Add, Change, Decides, Drop, SettingHasPlan, How, IsJournalReached, IsMachineRun, Item, Machine, Out, Remove, Row, Setting, Step, StepOfRow, MachineSubmits, Taken, Takes, JournalVersionsAreNumbered, Whole, setting_file_at, file_of, first_machine, machine_forget_items, is_deliverable, is_version, journal_message_of, journal_next_policy, piece, journal_plan_at, policy_at, setting_policy_by, policy_in, journal_retired_mark, machine_submitted_policy, machine_update_code, journal_version_count}
 use Rattle.update_machine.specs.Machine.{Packet}
 use Rattle.update_machine.proofs.JournalExampleNetworks.{all_to, at, by_action, leaving, one, open_net, out_or_drop, plan_p, plan_q, two_switches, versions}
 use Rattle.steps.specs.Exports.{IsStep}
@@ -24,7 +24,7 @@ first_match_of action = (
 
 -- a packet is decided by version 1; then version 2 comes and 1 is retired, and another packet is
 -- decided by version 2
-pub is_run : IsRun open_net (Item.Row 1 (Step.Packet 0 one) ∷ Item.Entered 1 0 one ∷ Item.Decided 1
+pub is_run : IsMachineRun open_net (Item.Row 1 (Step.Packet 0 one) ∷ Item.Entered 1 0 one ∷ Item.Decided 1
     1 (Some 100) (Out 2) (How.Authority 1 0) ∷ Item.Left 1 2 (leaving 1 one 1 (Some 100))
     ∷ Item.Submitted 2 2 ∷ Item.Retired 1 ∷ Item.Entered 2 0 one
     ∷ Item.Decided 2 2 (Some 100) Drop (How.Authority 1 0) ∷ Item.Dropped 2 ∷ [])
@@ -258,7 +258,7 @@ pub numbered : (is_version submitted 2 ≡ true) × (is_version submitted 3 ≡ 
 unfolding file_of
 numbered = (refl, refl)
 
-pub not_numbered : VersionsAreNumbered (Item.Submitted 1 3 ∷ []) → ⊥
+pub not_numbered : JournalVersionsAreNumbered (Item.Submitted 1 3 ∷ []) → ⊥
 unfolding file_of journal_version_count
 not_numbered are = cc ((are 2).1 (omega arith, omega arith))
 
@@ -282,7 +282,7 @@ next_of_3 = refl
 
 -- the machine takes no policy of a file that isn't there
 pub nothing_submitted : (old new : Machine) → MachineSubmits old 2
-    (result_ok (policy_by open_net (submitted_policy old (length old.policies)) 3)) new → ⊥
+    (result_ok (setting_policy_by open_net (machine_submitted_policy old (length old.policies)) 3)) new → ⊥
 nothing_submitted old new submits = cc submits.there
 
 -- ---- refusals
@@ -322,7 +322,7 @@ all_there = refl
 -- ---- steps of the network
 
 pub reached : IsJournalReached open_net (Item.Row 1 (Step.Forget 1) ∷ Item.Nothing ∷ [])
-unfolding piece forget_items is_deliverable message_of
+unfolding piece machine_forget_items is_deliverable journal_message_of
 reached = record {
   steps = at 1 (Step.Forget 1) ∷ [];
   own = All-from_recursion (λ (next : StepOfRow). IsStep open_net.net (length open_net.files)

@@ -61,11 +61,11 @@ AreMachineStepsOf setting row Flush before steps = AreAllMachineEventSteps setti
 AreMachineStepsOf setting row Drain before steps = AreAllMachineEventSteps setting journal_next_hop row before steps
 
 -- after this journal, these are first steps of the event of the row
-abbrev pub AreFirstStepsOf : Setting → ℕ → Event → List Item → List StepOfRow → Type 0
-AreFirstStepsOf setting row (One step) before steps =
+abbrev pub AreFirstMachineStepsOf : Setting → ℕ → Event → List Item → List StepOfRow → Type 0
+AreFirstMachineStepsOf setting row (One step) before steps =
     (steps ≡ []) ⊎ (steps ≡ record { row = row; step = step } ∷ [])
-AreFirstStepsOf setting row Flush before steps = AreFirstMachineEventSteps setting journal_next_delivery row before steps
-AreFirstStepsOf setting row Drain before steps = AreFirstMachineEventSteps setting journal_next_hop row before steps
+AreFirstMachineStepsOf setting row Flush before steps = AreFirstMachineEventSteps setting journal_next_delivery row before steps
+AreFirstMachineStepsOf setting row Drain before steps = AreFirstMachineEventSteps setting journal_next_hop row before steps
 
 -- the steps are these of one event and then those of others
 pub record MachineEventStepsSplit (mine rest steps : List StepOfRow) : Type 0 where
@@ -84,7 +84,7 @@ AreMachineSteps setting row (event ∷ events) before steps =
 abbrev pub AreJournalFirstSteps : Setting → ℕ → List Event → List Item → List StepOfRow → Type 0
 AreJournalFirstSteps setting row [] before steps = steps ≡ []
 AreJournalFirstSteps setting row (event ∷ events) before steps =
-    AreFirstStepsOf setting row event before steps
+    AreFirstMachineStepsOf setting row event before steps
     ⊎ ((mine : List StepOfRow) × (rest : List StepOfRow) × MachineEventStepsSplit mine rest steps
     × AreMachineStepsOf setting row event before mine
     × AreJournalFirstSteps setting (row + 1) events (journal_after_steps setting before mine) rest)

@@ -13,7 +13,7 @@ use Rattle.journal.specs.declared.item.Item.TheVariants as item
 use Rattle.update_machine.specs.Boots.{journal_body_to_switch}
 use Rattle.update_machine.specs.Folds.{journal_folded_value}
 use Rattle.update_machine.specs.Setting.{Setting}
-use Rattle.update_machine.specs.Touched.{touched_by}
+use Rattle.update_machine.specs.Touched.{machine_touched_by}
 use Rattle.update_machine.specs.Versions.{journal_stamp_of, journal_tables_at}
 
 -- a stamp that rises removes the entries of lower versions
@@ -51,7 +51,7 @@ changes_journal_cache setting s before cache (item.Expired switch place message)
 changes_journal_cache setting s before cache (item.Delivered number) =
     let stamp = journal_stamp_of (before ++ item.Delivered number ∷ []) s in
     option_map_or
-    (machine_cache_after (touched_by setting before) (journal_stamp_of before s) stamp number cache)
+    (machine_cache_after (machine_touched_by setting before) (journal_stamp_of before s) stamp number cache)
     (journal_body_to_switch before s number)
     cache
 changes_journal_cache setting s before cache _ = cache

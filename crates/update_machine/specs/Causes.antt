@@ -2,7 +2,7 @@
 use Rattle.std.specs.Prelude.{[], ◌&&◌, ◌++◌, ◌==◌, ◌||◌, ◌∷◌, ◌≡◌, ◌⊎◌, All, Bool, Contains, IsFalse, IsTrue, List, None, Option, Some, false, not, option_to_list, true, ℕ, ⊤}
 use Rattle.base.specs.Exports.{list_any}
 use Rattle.five_tuple.specs.declared.header.Header.{Header}
-use Rattle.net_file.specs.Exports.{are_linked, net_port_owner}
+use Rattle.net_file.specs.Exports.{are_linked_in_net, net_port_owner}
 use Rattle.policy_rules.specs.Exports.{Hosted, is_in_policy_partition}
 use Rattle.policy_rules.specs.declared.packet.Leaving.{Leaving}
 use Rattle.policy_rules.specs.declared.packet.Leg.{Leg}
@@ -17,13 +17,13 @@ use Rattle.update_machine.specs.Links.{journal_can_use, journal_knows_link, serv
 use Rattle.update_machine.specs.Packets.{Decision, journal_decision_of, journal_packet_header, standing}
 use Rattle.update_machine.specs.Setting.{Setting, IsSettingPlanOf}
 
-abbrev pub item_gives_step : Item → Option Step
-item_gives_step (item.Row row step) = Some step
-item_gives_step _ = None
+abbrev pub machine_item_gives_step : Item → Option Step
+machine_item_gives_step (item.Row row step) = Some step
+machine_item_gives_step _ = None
 
 -- the step that is being taken
 unfoldable pub journal_present_step : List Item → Option Step
-journal_present_step journal = journal_last_given item_gives_step journal
+journal_present_step journal = journal_last_given machine_item_gives_step journal
 
 -- a packet leaves where it is, by a port of that switch, with its own header, version and rule
 pub record MachineLeavesRightly (setting : Setting) (before : List Item) (packet port : ℕ)
@@ -42,13 +42,13 @@ pub record IsLostWithMachineSwitch (before : List Item) (packet : ℕ) : Type 0 
   pub crashes : journal_present_step before ≡ Some (Crash switch)
   pub stands : standing before packet ≡ Some switch
 
-abbrev pub IsRightMachineLoss : List Item → ℕ → Type 0
-IsRightMachineLoss before packet = (journal_present_step before ≡ Some (Lose packet)) ⊎ IsLostWithMachineSwitch before packet
+abbrev pub MachineLosesRightly : List Item → ℕ → Type 0
+MachineLosesRightly before packet = (journal_present_step before ≡ Some (Lose packet)) ⊎ IsLostWithMachineSwitch before packet
 
 -- a packet finds a link of the network down, from where it is: that switch can't use it
 pub record MachineFindsDown (setting : Setting) (before : List Item) (packet one two : ℕ) : Type 0 where
   pub stands : standing before packet ≡ Some one
-  pub linked : IsTrue (are_linked setting.net.links one two)
+  pub linked : IsTrue (are_linked_in_net setting.net.links one two)
   pub unusable : IsFalse (journal_can_use setting before one two)
 
 -- the item says that this packet found the link of these switches down
@@ -81,7 +81,7 @@ AreMachineLegTargets setting before packet (Exit port) targets =
 
 -- a packet is stuck where it is, at a switch that serves: over the links that the switch knows,
 -- except those that the packet found down, no walk leads to any target of its leg
-pub record IsRightMachineStuck (setting : Setting) (before : List Item) (packet switch : ℕ) (leg : Leg)
+pub record IsMachineStuckRightly (setting : Setting) (before : List Item) (packet switch : ℕ) (leg : Leg)
     : Type 0 where
   pub stands : standing before packet ≡ Some switch
   pub serving : IsTrue (serves before switch)
@@ -96,19 +96,19 @@ IsMachineLinkStep step one two true = (step ≡ Some (LinkUp one two)) ⊎ (step
 IsMachineLinkStep step one two false = (step ≡ Some (LinkDown one two)) ⊎ (step ≡ Some (LinkDown two one))
 
 -- ends, links found down, failures, boots and submitted versions have their causes before them
-abbrev pub HasCause : Setting → List Item → Item → Type 0
-HasCause setting before (item.Left packet port leaving) =
+abbrev pub HasMachineCause : Setting → List Item → Item → Type 0
+HasMachineCause setting before (item.Left packet port leaving) =
     MachineLeavesRightly setting before packet port leaving
-HasCause setting before (item.Lost packet) = IsRightMachineLoss before packet
-HasCause setting before (item.FoundDown packet one two) = MachineFindsDown setting before packet one two
-HasCause setting before (item.Stuck packet switch cause leg down) =
-    IsRightMachineStuck setting before packet switch leg
-HasCause setting before (item.Down switch) = journal_present_step before ≡ Some (Crash switch)
-HasCause setting before (item.Booted switch boot) =
+HasMachineCause setting before (item.Lost packet) = MachineLosesRightly before packet
+HasMachineCause setting before (item.FoundDown packet one two) = MachineFindsDown setting before packet one two
+HasMachineCause setting before (item.Stuck packet switch cause leg down) =
+    IsMachineStuckRightly setting before packet switch leg
+HasMachineCause setting before (item.Down switch) = journal_present_step before ≡ Some (Crash switch)
+HasMachineCause setting before (item.Booted switch boot) =
     (journal_present_step before ≡ Some (Restart switch)) × IsFalse (serves before switch)
-HasCause setting before (item.LinkIs one two up) = IsMachineLinkStep (journal_present_step before) one two up
-HasCause setting before (item.Submitted file version) = journal_present_step before ≡ Some (Update file)
-HasCause setting before _ = ⊤
+HasMachineCause setting before (item.LinkIs one two up) = IsMachineLinkStep (journal_present_step before) one two up
+HasMachineCause setting before (item.Submitted file version) = journal_present_step before ≡ Some (Update file)
+HasMachineCause setting before _ = ⊤
 
 -- after this journal, each item has its cause in what comes before it: for any table of causes
 abbrev pub JournalItemsHaveCauses : (List Item → Item → Type 0) → List Item → List Item → Type 0

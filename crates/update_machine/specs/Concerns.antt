@@ -10,9 +10,9 @@ use Rattle.steps.specs.declared.step.Step.TheVariants.{Hop}
 use Rattle.update_machine.specs.Causes.{JournalItemsHaveCauses}
 use Rattle.update_machine.specs.Messages.{is_to_controller}
 use Rattle.update_machine.specs.Travels.{journal_travels_at}
-use Rattle.update_machine.specs.Versions.{is_submission}
+use Rattle.update_machine.specs.Versions.{is_journal_submission}
 use Rattle.update_machine.specs.Boots.{is_journal_receiver_switch}
-use Rattle.update_machine.specs.Links.{message_of}
+use Rattle.update_machine.specs.Links.{journal_message_of}
 
 -- none of these items, after this journal, is one that concerns it
 abbrev pub NoneConcern : (List Item → Item → Bool) → List Item → List Item → Type 0
@@ -22,7 +22,7 @@ NoneConcern concerns before items =
 -- the message of this number is for switch s
 abbrev pub is_journal_message_to : List Item → ℕ → ℕ → Bool
 is_journal_message_to before s number =
-    option_map_or (λ message. is_journal_receiver_switch s message.to) (message_of before number) false
+    option_map_or (λ message. is_journal_receiver_switch s message.to) (journal_message_of before number) false
 
 -- its boots, its openings, its expired entries and what is delivered to it
 abbrev pub concerns_switch : ℕ → List Item → Item → Bool
@@ -58,7 +58,7 @@ concerns_links before _ = false
 
 abbrev pub is_journal_controller_message : List Item → ℕ → Bool
 is_journal_controller_message before number =
-    option_map_or (λ message. is_to_controller message.to) (message_of before number) false
+    option_map_or (λ message. is_to_controller message.to) (journal_message_of before number) false
 
 -- a body after which a switch may serve
 abbrev pub is_machine_opening_body : Body → Bool
@@ -84,11 +84,11 @@ item_concerns_known s before item = concerns_switch s before item || concerns_li
 
 -- a policy becomes a version
 abbrev pub item_concerns_policies : List Item → Item → Bool
-item_concerns_policies before item = is_submission item
+item_concerns_policies before item = is_journal_submission item
 
 -- what the switch has, and by which policy: what it says about a header
-abbrev pub item_concerns_lookups : ℕ → List Item → Item → Bool
-item_concerns_lookups s before item = concerns_switch s before item || item_concerns_policies before item
+abbrev pub item_concerns_journal_lookups : ℕ → List Item → Item → Bool
+item_concerns_journal_lookups s before item = concerns_switch s before item || item_concerns_policies before item
 
 -- it went down, or the controller no longer waits for it
 abbrev pub item_concerns_waiting : ℕ → List Item → Item → Bool
@@ -96,7 +96,8 @@ item_concerns_waiting s before (item.Down switch) = switch == s
 item_concerns_waiting s before (item.OverNow switch) = switch == s
 item_concerns_waiting s before _ = false
 
--- the calls of a switch: packets that enter there, hops of those there, and how a hop ends
+-- the calls of a switch: packets that enter or are closed there, hops of those there, and how a hop
+-- ends
 abbrev pub item_concerns_calls : ℕ → List Item → Item → Bool
 item_concerns_calls s before (item.Entered packet switch header) = switch == s
 item_concerns_calls s before (item.Closed packet switch) = switch == s
@@ -118,11 +119,11 @@ item_concerns_packets before (item.Stuck packet switch cause leg down) = true
 item_concerns_packets before _ = false
 
 -- the message of this number is sent, delivered or forgotten
-abbrev pub concerns_message : ℕ → List Item → Item → Bool
-concerns_message n before (item.Sent number message) = number == n
-concerns_message n before (item.Delivered number) = number == n
-concerns_message n before (item.Forgotten number) = number == n
-concerns_message n before _ = false
+abbrev pub item_concerns_message : ℕ → List Item → Item → Bool
+item_concerns_message n before (item.Sent number message) = number == n
+item_concerns_message n before (item.Delivered number) = number == n
+item_concerns_message n before (item.Forgotten number) = number == n
+item_concerns_message n before _ = false
 
 -- some message is sent, delivered or forgotten
 abbrev pub concerns_messages : List Item → Item → Bool
@@ -132,6 +133,6 @@ concerns_messages before (item.Forgotten number) = true
 concerns_messages before _ = false
 
 -- a step begins
-abbrev pub concerns_steps : List Item → Item → Bool
-concerns_steps before (item.Row row step) = true
-concerns_steps before _ = false
+abbrev pub item_concerns_steps : List Item → Item → Bool
+item_concerns_steps before (item.Row row step) = true
+item_concerns_steps before _ = false

@@ -18,19 +18,19 @@ use Rattle.update_machine.specs.Marks.{journal_known_boot}
 use Rattle.update_machine.specs.Messages.{send_items}
 use Rattle.update_machine.specs.Moves.{in_turn, journal_items_then}
 use Rattle.update_machine.specs.Setting.{Setting}
-use Rattle.update_machine.specs.SwitchNumbers.{switches_of}
+use Rattle.update_machine.specs.SwitchNumbers.{setting_switches_of}
 use Rattle.update_machine.specs.Settling.{machine_installs_to, settling, machine_message_to_switch}
 use Rattle.update_machine.specs.Versions.{journal_stamp_of}
-use Rattle.update_machine.specs.Links.{serves, message_of}
+use Rattle.update_machine.specs.Links.{serves, journal_message_of}
 
 -- ---- link changes: `before` is the journal before the step
 
 -- the switches of a mask, ascending
 abbrev pub setting_switches_in : Setting → ℕ → List ℕ
-setting_switches_in setting mask = filter (has mask) (switches_of setting)
+setting_switches_in setting mask = filter (has mask) (setting_switches_of setting)
 
-abbrev pub advert_to : ℕ → Advert → Message
-advert_to s advert = machine_message_to_switch s (Advertise advert)
+abbrev pub machine_advert_to : ℕ → Advert → Message
+machine_advert_to s advert = machine_message_to_switch s (Advertise advert)
 
 -- the switch is up, and the mask of its usable links changed
 abbrev pub journal_usable_links_changed : Setting → List Item → List Item → ℕ → Bool
@@ -41,8 +41,8 @@ journal_usable_links_changed setting before journal s =
 -- any other one only its own
 abbrev pub machine_messages_over_link : Setting → List Item → List Item → ℕ → ℕ → List Message
 machine_messages_over_link setting before journal s neighbour = elim (has (near setting before s) neighbour) [
-  | true ↦ advert_to neighbour (own_advert setting journal s) ∷ []
-  | false ↦ map (advert_to neighbour) (journal_held_adverts setting journal s)
+  | true ↦ machine_advert_to neighbour (own_advert setting journal s) ∷ []
+  | false ↦ map (machine_advert_to neighbour) (journal_held_adverts setting journal s)
 ]
 
 abbrev pub machine_messages_of : Setting → List Item → List Item → ℕ → List Message
@@ -54,14 +54,14 @@ unfoldable pub journal_link_changes : Setting → List Item → List Item → Li
 journal_link_changes setting before journal =
     send_items journal
     (flat_map (machine_messages_of setting before journal)
-    (filter (journal_usable_links_changed setting before journal) (switches_of setting)))
+    (filter (journal_usable_links_changed setting before journal) (setting_switches_of setting)))
 
 -- ---- at a switch
 
 -- the switch passes an advert on to its neighbours
 abbrev pub machine_advert_passed_on : Setting → List Item → ℕ → Advert → List Message
 machine_advert_passed_on setting journal s advert =
-    map (λ neighbour. advert_to neighbour advert)
+    map (λ neighbour. machine_advert_to neighbour advert)
     (setting_switches_in setting (near setting journal s))
 
 -- the advert is of another switch, and newer than the one that the switch knew, if any
@@ -94,16 +94,16 @@ abbrev pub is_new_boot_in_journal : List Item → ℕ → ℕ → Bool
 is_new_boot_in_journal before s boot = nat_lt (journal_known_boot before s) boot
 
 -- after such a hello the controller sends the switch its tables
-abbrev pub after_hello : Setting → List Item → Body → List Item → List Item
-after_hello setting before (Hello s boot) journal = elim (is_new_boot_in_journal before s boot) [
+abbrev pub machine_after_hello : Setting → List Item → Body → List Item → List Item
+machine_after_hello setting before (Hello s boot) journal = elim (is_new_boot_in_journal before s boot) [
   | true ↦ machine_installs_to setting s journal
   | false ↦ []
 ]
-after_hello setting before _ journal = []
+machine_after_hello setting before _ journal = []
 
 unfoldable pub controller_items : Setting → List Item → Body → List Item → List Item
 controller_items setting before body journal =
-    in_turn (settling setting ∷ after_hello setting before body ∷ []) journal
+    in_turn (settling setting ∷ machine_after_hello setting before body ∷ []) journal
 
 -- ---- a delivery
 
@@ -119,7 +119,7 @@ machine_received_items setting before number message journal = elim message.to [
 ]
 
 unfoldable pub machine_delivery_items : Setting → List Item → ℕ → List Item → List Item
-machine_delivery_items setting before number journal = elim (message_of before number) [
+machine_delivery_items setting before number journal = elim (journal_message_of before number) [
   | None ↦ []
   | Some message ↦ machine_received_items setting before number message journal
 ]

@@ -12,21 +12,21 @@ use Rattle.update_machine.specs.LinkMasks.{near, journal_links_known}
 use Rattle.update_machine.specs.Packets.{Decision, journal_decision_of, journal_packet_header, standing}
 use Rattle.update_machine.specs.Setting.{Setting}
 use Rattle.update_machine.specs.Versions.{journal_plan_at}
-use Rattle.update_machine.specs.PacketRoutes.{journal_found_down, next_switch, targets_of}
+use Rattle.update_machine.specs.PacketRoutes.{journal_found_down, journal_next_switch, journal_leg_targets}
 
 -- the link from where the packet is to the next switch of its route exists, and isn't usable
 pub record MachineFindsNextDown (setting : Setting) (before : List Item) (packet one two : ℕ) : Type 0 where
   pub stands : standing before packet ≡ Some one
-  pub next : next_switch before packet ≡ Some two
+  pub next : journal_next_switch before packet ≡ Some two
   pub unusable : IsFalse (has (near setting before one) two)
 
 -- the leg is to the partition that holds the packet's header, or to the port of its decision
-abbrev pub SeeksOwnInJournal : Setting → List Item → ℕ → Leg → Type 0
-SeeksOwnInJournal setting before packet (Seek version partition) =
+abbrev pub MachineLegSeeksOwn : Setting → List Item → ℕ → Leg → Type 0
+MachineLegSeeksOwn setting before packet (Seek version partition) =
     (header : Header) × (journal_packet_header before packet ≡ Some header)
     × (option_map (λ hosted. hosted.0.number)
     (find (λ hosted. is_in_policy_partition header hosted.0) (journal_plan_at setting before version)) ≡ Some partition)
-SeeksOwnInJournal setting before packet (Exit port) =
+MachineLegSeeksOwn setting before packet (Exit port) =
     (decision : Decision) × (journal_decision_of before packet ≡ Some decision)
     × (decision.action ≡ Out port)
 
@@ -35,6 +35,6 @@ SeeksOwnInJournal setting before packet (Exit port) =
 pub record MachineFindsNoPath (setting : Setting) (before : List Item) (packet switch : ℕ) (leg : Leg)
     : Type 0 where
   pub stands : standing before packet ≡ Some switch
-  pub own_leg : SeeksOwnInJournal setting before packet leg
+  pub own_leg : MachineLegSeeksOwn setting before packet leg
   pub no_path : (let links = journal_links_known setting before switch (journal_found_down before packet) in
-      All (λ target. ¬ IsReachable links switch target) (targets_of setting before leg))
+      All (λ target. ¬ IsReachable links switch target) (journal_leg_targets setting before leg))

@@ -13,8 +13,8 @@ machine_journal_full_at = 990_000
 
 -- so many messages were sent that no step begins after this journal: messages are numbered from 1,
 -- so the next one has a number above their count
-abbrev pub IsJournalFull : List Item → Type 0
-IsJournalFull journal = machine_journal_full_at < journal_next_message journal
+abbrev pub IsMachineJournalFull : List Item → Type 0
+IsMachineJournalFull journal = machine_journal_full_at < journal_next_message journal
 
 -- a step may begin after this journal
 abbrev pub HasRoom : List Item → Type 0
@@ -41,7 +41,7 @@ pub record JournalStopsFull (setting : Setting) (events : List Event) (journal :
   pub allowed : AreJournalFirstSteps setting 1 events [] (steps ++ next ∷ [])
   pub written : journal ≡ journal_after_steps setting [] steps
   pub room : MachineJournalsHaveRoom setting [] steps
-  pub full : IsJournalFull journal
+  pub full : IsMachineJournalFull journal
   pub of_row : next.row ≡ row
 
 -- the result of a play of the events: its journal, and the row at which it stopped full, if it did

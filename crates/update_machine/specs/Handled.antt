@@ -16,24 +16,24 @@ is_machine_entry_at s (item.Closed packet switch) = switch == s
 is_machine_entry_at s _ = false
 
 -- a packet moved on
-abbrev pub is_packet_move : Item → Bool
-is_packet_move (item.Hopped packet switch) = true
-is_packet_move _ = false
+abbrev pub is_machine_packet_move : Item → Bool
+is_machine_packet_move (item.Hopped packet switch) = true
+is_machine_packet_move _ = false
 
 -- a link was found down, and the packet got stuck right there
-abbrev pub stuck_at_link : List Item → Bool
-stuck_at_link (item.FoundDown packet one two ∷ item.Stuck i s cause leg down ∷ items) = true
-stuck_at_link (other ∷ items) = stuck_at_link items
-stuck_at_link [] = false
+abbrev pub machine_stuck_at_link : List Item → Bool
+machine_stuck_at_link (item.FoundDown packet one two ∷ item.Stuck i s cause leg down ∷ items) = true
+machine_stuck_at_link (other ∷ items) = machine_stuck_at_link items
+machine_stuck_at_link [] = false
 
 -- the items of a hop that moved its packet on, or found it stuck before it arrived
-abbrev pub journal_stays_on_way : List Item → Bool
-journal_stays_on_way items = list_any is_packet_move items || stuck_at_link items
+abbrev pub journal_hop_stays_on_way : List Item → Bool
+journal_hop_stays_on_way items = list_any is_machine_packet_move items || machine_stuck_at_link items
 
 -- a hop of a packet that was at the switch is a call there, and another one if it arrives
 abbrev pub journal_hop_calls : ℕ → StepItems → List Item → ℕ
 journal_hop_calls s step (item.Row row (Hop packet) ∷ items) =
-    if journal_travels_at step.before s packet then (if journal_stays_on_way items then 1 else 2) else 0
+    if journal_travels_at step.before s packet then (if journal_hop_stays_on_way items then 1 else 2) else 0
 journal_hop_calls s step _ = 0
 
 -- the greatest number that is counted

@@ -10,23 +10,23 @@ use Rattle.journal.specs.declared.item.Item.{Item}
 use Rattle.update_machine.specs.Adverts.{journal_advert_known, journal_adverts_known, journal_held_adverts, is_cut_off_in_journal, own_advert, journal_own_advert_sent, journal_own_seq, journal_route_from}
 use Rattle.update_machine.specs.Boots.{journal_boot_of, heard, is_up}
 use Rattle.update_machine.specs.Caches.{journal_cache_of, lookup_at}
-use Rattle.update_machine.specs.Concerns.{NoneConcern, item_concerns_calls, concerns_controller, item_concerns_known, concerns_links, item_concerns_lookups, concerns_message, concerns_messages, concerns_packet, item_concerns_packets, item_concerns_policies, concerns_steps, concerns_switch, item_concerns_waiting}
+use Rattle.update_machine.specs.Concerns.{NoneConcern, item_concerns_calls, concerns_controller, item_concerns_known, concerns_links, item_concerns_journal_lookups, item_concerns_message, concerns_messages, concerns_packet, item_concerns_packets, item_concerns_policies, item_concerns_steps, concerns_switch, item_concerns_waiting}
 use Rattle.update_machine.specs.Handled.{journal_handled_count}
-use Rattle.update_machine.specs.Links.{is_link_up_in_journal, serves, message_of}
-use Rattle.update_machine.specs.Marks.{acked_stamp, controller_heard, journal_current_mark, has_acked, is_member, is_over, journal_known_boot, opened_at, journal_retired_mark}
+use Rattle.update_machine.specs.Links.{is_link_up_in_journal, serves, journal_message_of}
+use Rattle.update_machine.specs.Marks.{acked_stamp, journal_controller_heard, journal_current_mark, has_acked, is_member, is_over, journal_known_boot, journal_opened_at, journal_retired_mark}
 use Rattle.update_machine.specs.Messages.{is_deliverable, is_forgotten_in_journal, journal_next_message, next_waiting, was_delivered}
-use Rattle.update_machine.specs.Moves.{end_items, stuck_on_leg_items}
+use Rattle.update_machine.specs.Moves.{machine_end_items, machine_stuck_on_leg_item}
 use Rattle.update_machine.specs.Packets.{journal_decision_of, journal_packet_header, journal_next_packet, standing}
 use Rattle.update_machine.specs.Quiet.{is_waited_for}
 use Rattle.update_machine.specs.Sendings.{sendings}
 use Rattle.update_machine.specs.Setting.{Setting, file_of, policy_in}
-use Rattle.update_machine.specs.SwitchNumbers.{switches_of}
+use Rattle.update_machine.specs.SwitchNumbers.{setting_switches_of}
 use Rattle.update_machine.specs.Causes.{journal_present_step}
 use Rattle.update_machine.specs.Versions.{holds_version, policy_at, journal_stamp_of, journal_tables_at, journal_version_count, journal_next_policy, journal_plan_at}
 use Rattle.update_machine.specs.Travels.{journal_ingress_of, journal_leg_of, next_travelling, travels}
-use Rattle.update_machine.specs.PacketRoutes.{journal_found_down, next_switch, journal_route_in, route_place}
+use Rattle.update_machine.specs.PacketRoutes.{journal_found_down, journal_next_switch, journal_route_in, route_place}
 use Rattle.update_machine.specs.LinkMasks.{near, journal_adverts_begun, journal_adverts_heard, journal_links_known}
-use Rattle.update_machine.specs.Touched.{touched_by}
+use Rattle.update_machine.specs.Touched.{machine_touched_by}
 
 -- a journal without items says nothing about the packet
 pub record JournalPacketStarts (i : ℕ) : Type 0 where
@@ -38,18 +38,18 @@ pub record JournalPacketStarts (i : ℕ) : Type 0 where
   pub leg : journal_leg_of [] i ≡ None
   pub route : journal_route_in [] i ≡ []
   pub route_place : route_place [] i ≡ 0
-  pub next : next_switch [] i ≡ None
+  pub next : journal_next_switch [] i ≡ None
   pub found : journal_found_down [] i ≡ no_links
 
 -- a journal without items says nothing about the message
 pub record JournalMessageStarts (n : ℕ) : Type 0 where
-  pub message : message_of [] n ≡ None
+  pub message : journal_message_of [] n ≡ None
   pub delivered : was_delivered [] n ≡ false
   pub forgotten : is_forgotten_in_journal [] n ≡ false
   pub deliverable : is_deliverable [] n ≡ false
 
 -- what a journal without items says
-pub record StartLaws : Type 0 where
+pub record MachineStartLaws : Type 0 where
   pub boot : (s : ℕ) → journal_boot_of [] s ≡ 1
   pub up : (s : ℕ) → is_up [] s ≡ true
   pub serving : (s : ℕ) → serves [] s ≡ true
@@ -85,7 +85,7 @@ pub record StartLaws : Type 0 where
   -- each switch knows the first advert of each one, its own included
   pub adverts : (setting : Setting) (s : ℕ) → s < length setting.net.switches →
       length setting.net.switches ≤ 64 → journal_adverts_known setting [] s
-      ≡ first_adverts (map (links_of setting.net.links) (switches_of setting))
+      ≡ first_adverts (map (links_of setting.net.links) (setting_switches_of setting))
       (length setting.net.switches)
   -- about a header it says what the tables of the first version say
   pub lookup : (setting : Setting) (s : ℕ) (header : Header) →
@@ -102,7 +102,7 @@ pub record JournalSwitchKeeps (setting : Setting) (s : ℕ) (before after : List
   pub cache : journal_cache_of setting after s ≡ journal_cache_of setting before s
 
 -- those that don't concern a packet don't change what the journal says about it
-pub record JournalPacketKeeps (i : ℕ) (before after : List Item) : Type 0 where
+pub record MachinePacketKeeps (i : ℕ) (before after : List Item) : Type 0 where
   pub header : journal_packet_header after i ≡ journal_packet_header before i
   pub ingress : journal_ingress_of after i ≡ journal_ingress_of before i
   pub stands : standing after i ≡ standing before i
@@ -111,15 +111,15 @@ pub record JournalPacketKeeps (i : ℕ) (before after : List Item) : Type 0 wher
   pub leg : journal_leg_of after i ≡ journal_leg_of before i
   pub route : journal_route_in after i ≡ journal_route_in before i
   pub route_place : route_place after i ≡ route_place before i
-  pub next : next_switch after i ≡ next_switch before i
+  pub next : journal_next_switch after i ≡ journal_next_switch before i
   pub found : journal_found_down after i ≡ journal_found_down before i
 
 -- those that don't concern the controller don't change what it knows
 pub record JournalControllerKeeps (before after : List Item) : Type 0 where
-  pub heard : controller_heard after ≡ controller_heard before
+  pub heard : journal_controller_heard after ≡ journal_controller_heard before
   pub known : (s : ℕ) → journal_known_boot after s ≡ journal_known_boot before s
   pub over : (s : ℕ) → is_over after s ≡ is_over before s
-  pub opened : (s : ℕ) → opened_at after s ≡ opened_at before s
+  pub opened : (s : ℕ) → journal_opened_at after s ≡ journal_opened_at before s
   pub member : (s : ℕ) → is_member after s ≡ is_member before s
   pub acked : (s v : ℕ) → has_acked after s v ≡ has_acked before s v
   pub stamp : (s : ℕ) → acked_stamp after s ≡ acked_stamp before s
@@ -146,7 +146,7 @@ pub record JournalKnownKeeps (setting : Setting) (s : ℕ) (before after : List 
 
 -- those that don't concern a message don't change what the journal says about it
 pub record MachineMessageKeeps (n : ℕ) (before after : List Item) : Type 0 where
-  pub message : message_of after n ≡ message_of before n
+  pub message : journal_message_of after n ≡ journal_message_of before n
   pub delivered : was_delivered after n ≡ was_delivered before n
   pub forgotten : is_forgotten_in_journal after n ≡ is_forgotten_in_journal before n
   pub deliverable : is_deliverable after n ≡ is_deliverable before n
@@ -158,7 +158,7 @@ pub record JournalMessagesKeep (before after : List Item) : Type 0 where
   pub sent : sendings after ≡ sendings before
 
 -- those by which no packet enters or ends don't change what the journal says about all packets
-pub record JournalPacketsKeep (before after : List Item) : Type 0 where
+pub record MachineKeepsJournalPackets (before after : List Item) : Type 0 where
   pub next : journal_next_packet after ≡ journal_next_packet before
   pub travelling : next_travelling after ≡ next_travelling before
 
@@ -170,7 +170,7 @@ pub record JournalPoliciesKeep (before after : List Item) : Type 0 where
   pub policy : (setting : Setting) (v : ℕ) → policy_at setting after v ≡ policy_at setting before v
   pub plan : (setting : Setting) (v : ℕ) → journal_plan_at setting after v ≡ journal_plan_at setting before v
   pub touched : (setting : Setting) (v : ℕ) →
-      touched_by setting after v ≡ touched_by setting before v
+      machine_touched_by setting after v ≡ machine_touched_by setting before v
   pub next : (setting : Setting) (file : ℕ) →
       journal_next_policy setting after file ≡ journal_next_policy setting before file
 
@@ -178,7 +178,7 @@ pub record JournalConcernLaws : Type 0 where
   pub switch : (setting : Setting) (s : ℕ) (before items : List Item) →
       NoneConcern (concerns_switch s) before items → JournalSwitchKeeps setting s before (before ++ items)
   pub lookup : (setting : Setting) (s : ℕ) (header : Header) (before items : List Item) →
-      NoneConcern (item_concerns_lookups s) before items →
+      NoneConcern (item_concerns_journal_lookups s) before items →
       lookup_at setting (before ++ items) s header ≡ lookup_at setting before s header
   pub calls : (s : ℕ) (before items : List Item) → NoneConcern (item_concerns_calls s) before items →
       journal_handled_count (before ++ items) s ≡ journal_handled_count before s
@@ -190,18 +190,18 @@ pub record JournalConcernLaws : Type 0 where
   pub known : (setting : Setting) (s : ℕ) (before items : List Item) →
       NoneConcern (item_concerns_known s) before items → JournalKnownKeeps setting s before (before ++ items)
   pub packet : (i : ℕ) (before items : List Item) →
-      NoneConcern (concerns_packet i) before items → JournalPacketKeeps i before (before ++ items)
+      NoneConcern (concerns_packet i) before items → MachinePacketKeeps i before (before ++ items)
   pub packets : (before items : List Item) →
-      NoneConcern item_concerns_packets before items → JournalPacketsKeep before (before ++ items)
+      NoneConcern item_concerns_packets before items → MachineKeepsJournalPackets before (before ++ items)
   pub message : (n : ℕ) (before items : List Item) →
-      NoneConcern (concerns_message n) before items → MachineMessageKeeps n before (before ++ items)
+      NoneConcern (item_concerns_message n) before items → MachineMessageKeeps n before (before ++ items)
   pub messages : (before items : List Item) →
       NoneConcern concerns_messages before items → JournalMessagesKeep before (before ++ items)
   pub policies : (before items : List Item) →
       NoneConcern item_concerns_policies before items → JournalPoliciesKeep before (before ++ items)
   pub controller : (before items : List Item) →
       NoneConcern concerns_controller before items → JournalControllerKeeps before (before ++ items)
-  pub step : (before items : List Item) → NoneConcern concerns_steps before items →
+  pub step : (before items : List Item) → NoneConcern item_concerns_steps before items →
       journal_present_step (before ++ items) ≡ journal_present_step before
 
 -- what a switch knows about the network's links
@@ -227,4 +227,4 @@ pub record JournalKnownLinkLaws : Type 0 where
   -- a packet that is to leave by a port that no switch has is stuck where it was decided
   pub portless : (setting : Setting) (journal : List Item) (i s port : ℕ) → s < 64 →
       net_port_owner setting.net.switches port ≡ None →
-      end_items setting i s (Out port) journal ≡ stuck_on_leg_items setting journal i s (Exit port) ∷ []
+      machine_end_items setting i s (Out port) journal ≡ machine_stuck_on_leg_item setting journal i s (Exit port) ∷ []

@@ -6,7 +6,7 @@ use Rattle.net_file.specs.declared.net.LinkRow.{LinkRow}
 use Rattle.journal.specs.declared.item.Item.{Item}
 use Rattle.update_machine.specs.Boots.{heard, is_first_boot_in_journal}
 use Rattle.update_machine.specs.Setting.{Setting}
-use Rattle.update_machine.specs.SwitchNumbers.{switches_of}
+use Rattle.update_machine.specs.SwitchNumbers.{setting_switches_of}
 use Rattle.update_machine.specs.Links.{is_usable_in_journal}
 use Rattle.ctrl_msg.specs.declared.message.Body.{Body}
 use Rattle.ctrl_msg.specs.declared.message.Body.TheVariants.{Advertise}
@@ -21,18 +21,18 @@ unfoldable pub near : Setting → List Item → ℕ → ℕ
 near setting journal s = links_of (usable_links setting journal) s
 
 -- an advert of another switch
-abbrev pub journal_other_advert : ℕ → Body → Option Advert
-journal_other_advert s (Advertise advert) = if advert.origin == s then None else Some advert
-journal_other_advert s _ = None
+abbrev pub machine_advert_of_other : ℕ → Body → Option Advert
+machine_advert_of_other s (Advertise advert) = if advert.origin == s then None else Some advert
+machine_advert_of_other s _ = None
 
 -- the adverts of other switches that the switch heard in its boot
 abbrev pub journal_adverts_heard : List Item → ℕ → List Advert
-journal_adverts_heard journal s = filter_map (journal_other_advert s) (heard journal s)
+journal_adverts_heard journal s = filter_map (machine_advert_of_other s) (heard journal s)
 
 -- in boot 1 a switch begins with the first advert of each switch, otherwise with none
 abbrev pub journal_adverts_begun : Setting → List Item → ℕ → List (Option Advert)
 journal_adverts_begun setting journal s = if is_first_boot_in_journal journal s
-    then first_adverts (map (links_of setting.net.links) (switches_of setting))
+    then first_adverts (map (links_of setting.net.links) (setting_switches_of setting))
     (length setting.net.switches) else no_adverts
 
 -- for each origin the newest of these adverts

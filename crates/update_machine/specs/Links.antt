@@ -9,22 +9,22 @@ use Rattle.ctrl_msg.specs.declared.message.Body.TheVariants.{Advertise}
 use Rattle.ctrl_msg.specs.declared.message.Message.{Message}
 use Rattle.ctrl_msg.specs.declared.message.Place.{Place}
 use Rattle.ctrl_msg.specs.declared.message.Place.TheVariants as receiver
-use Rattle.net_file.specs.Exports.{are_linked, joins}
+use Rattle.net_file.specs.Exports.{are_linked_in_net, joins}
 use Rattle.net_file.specs.declared.net.LinkRow.{LinkRow}
 use Rattle.journal.specs.declared.item.Item.{Item}
 use Rattle.journal.specs.declared.item.Item.TheVariants as item
 use Rattle.update_machine.specs.Folds.{journal_folded_value, journal_last_given}
 use Rattle.update_machine.specs.Setting.{Setting}
 
-abbrev pub item_gives_serving : ℕ → Item → Option Bool
-item_gives_serving s (item.Down switch) = if switch == s then Some false else None
-item_gives_serving s (item.Booted switch boot) = if switch == s then Some false else None
-item_gives_serving s (item.Opened switch version) = if switch == s then Some true else None
-item_gives_serving s _ = None
+abbrev pub machine_item_gives_serving : ℕ → Item → Option Bool
+machine_item_gives_serving s (item.Down switch) = if switch == s then Some false else None
+machine_item_gives_serving s (item.Booted switch boot) = if switch == s then Some false else None
+machine_item_gives_serving s (item.Opened switch version) = if switch == s then Some true else None
+machine_item_gives_serving s _ = None
 
 -- a switch serves at first, and after it opened in its boot
 unfoldable pub serves : List Item → ℕ → Bool
-serves journal s = unwrap_or (journal_last_given (item_gives_serving s) journal) true
+serves journal s = unwrap_or (journal_last_given (machine_item_gives_serving s) journal) true
 
 -- an item names a link by its lower switch first
 abbrev pub gives_journal_link : ℕ → ℕ → Item → Option Bool
@@ -48,13 +48,13 @@ journal_can_use setting journal one two =
 
 -- ---- the links that a switch knows
 
-abbrev pub item_gives_message : ℕ → Item → Option Message
-item_gives_message n (item.Sent number message) = if number == n then Some message else None
-item_gives_message n _ = None
+abbrev pub machine_item_gives_message : ℕ → Item → Option Message
+machine_item_gives_message n (item.Sent number message) = if number == n then Some message else None
+machine_item_gives_message n _ = None
 
 -- the message of a number, if it was sent
-unfoldable pub message_of : List Item → ℕ → Option Message
-message_of journal number = journal_last_given (item_gives_message number) journal
+unfoldable pub journal_message_of : List Item → ℕ → Option Message
+journal_message_of journal number = journal_last_given (machine_item_gives_message number) journal
 
 -- what an advert claims of its origin: its boot, the number of the advert in it, and to which
 -- switches it has links
@@ -87,12 +87,12 @@ abbrev pub changes_journal_claim : ℕ → ℕ → List Item → Option JournalC
 changes_journal_claim s one before claim (item.Down switch) = if switch == s then None else claim
 changes_journal_claim s one before claim (item.Booted switch boot) = if switch == s then None else claim
 changes_journal_claim s one before claim (item.Delivered number) =
-    newer_journal_claim_of claim (option_and_then (journal_claim_in_message s one) (message_of before number))
+    newer_journal_claim_of claim (option_and_then (journal_claim_in_message s one) (journal_message_of before number))
 changes_journal_claim s one before claim _ = claim
 
 -- at the beginning each switch knows each one's links in the network
 abbrev pub setting_first_claim : Setting → ℕ → JournalClaim
-setting_first_claim setting one = record { boot = 1; seq = 1; links = are_linked setting.net.links one }
+setting_first_claim setting one = record { boot = 1; seq = 1; links = are_linked_in_net setting.net.links one }
 
 -- the newest claim of switch one that switch s, which is up, heard in its boot, or began with
 unfoldable pub journal_claim_of : Setting → List Item → ℕ → ℕ → Option JournalClaim

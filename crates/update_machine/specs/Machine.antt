@@ -11,7 +11,7 @@ use Rattle.policy_rules.specs.declared.policy.Hit.{Hit}
 use Rattle.policy_rules.specs.declared.policy.Action.TheVariants as action
 use Rattle.journal.specs.declared.item.Item.{Item}
 use Rattle.journal.specs.declared.item.Item.TheVariants as item
-use Rattle.update_machine.specs.Setting.{Setting, policy_by}
+use Rattle.update_machine.specs.Setting.{Setting, setting_policy_by}
 
 -- how a packet ends
 pub data End : Type 0 where
@@ -37,14 +37,14 @@ pub record Machine : Type 0 where
 -- it begins with the policy of the first file, the mark 0 and no packet
 abbrev pub first_machine : Setting → Machine
 first_machine setting = record {
-  policies = option_to_list (result_ok (policy_by setting None 1));
+  policies = option_to_list (result_ok (setting_policy_by setting None 1));
   mark = 0;
   packets = λ _. None;
 }
 
 -- the policy of a version, if it was submitted; versions are numbered from 1
-abbrev pub submitted_policy : Machine → ℕ → Option (List Row)
-submitted_policy machine version = slice_get machine.policies (version - 1)
+abbrev pub machine_submitted_policy : Machine → ℕ → Option (List Row)
+machine_submitted_policy machine version = slice_get machine.policies (version - 1)
 
 -- the machine with this packet instead of what it knew of it
 abbrev pub machine_with_packet : Machine → ℕ → Packet → Machine
@@ -81,7 +81,7 @@ pub record Decides (old : Machine) (number version : ℕ) (hit : Hit) (new : Mac
   pub undecided : packet.decision ≡ None
   pub not_ended : packet.end ≡ None
   pub not_retired : packet.entry_mark < version
-  pub submitted : submitted_policy old version ≡ Some policy
+  pub submitted : machine_submitted_policy old version ≡ Some policy
   pub first_match : IsFirstMatch policy packet.header hit
   pub after : new ≡ machine_with_packet old number (record packet { decision = Some hit })
 
@@ -103,8 +103,8 @@ pub record Ends (old : Machine) (number : ℕ) (end : End) (new : Machine) : Typ
 -- what an item does to the machine: a move that the machine may make, or nothing
 abbrev pub Takes : Setting → Machine → Item → Machine → Type 0
 Takes setting old (item.Submitted file version) new =
-    let newest = submitted_policy old (length old.policies) in
-    MachineSubmits old version (result_ok (policy_by setting newest file)) new
+    let newest = machine_submitted_policy old (length old.policies) in
+    MachineSubmits old version (result_ok (setting_policy_by setting newest file)) new
 Takes setting old (item.Retired version) new = MachineRetires old version new
 Takes setting old (item.Entered packet switch header) new = MachineEnters old packet header new
 Takes setting old (item.Decided packet version rule action how) new =
@@ -122,5 +122,5 @@ Runs setting old (item ∷ items) new =
     (middle : Machine) × Takes setting old item middle × Runs setting middle items new
 
 -- the journal is a run of the machine from its start
-abbrev pub IsRun : Setting → List Item → Type 0
-IsRun setting journal = (new : Machine) × Runs setting (first_machine setting) journal new
+abbrev pub IsMachineRun : Setting → List Item → Type 0
+IsMachineRun setting journal = (new : Machine) × Runs setting (first_machine setting) journal new

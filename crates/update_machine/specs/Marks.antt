@@ -10,16 +10,16 @@ use Rattle.journal.specs.declared.item.Item.TheVariants as item
 use Rattle.update_machine.specs.Folds.{journal_all_given, journal_folded_value, journal_last_given}
 use Rattle.update_machine.specs.Messages.{is_to_controller}
 use Rattle.update_machine.specs.Setting.{Setting}
-use Rattle.update_machine.specs.SwitchNumbers.{switches_of}
+use Rattle.update_machine.specs.SwitchNumbers.{setting_switches_of}
 use Rattle.update_machine.specs.Versions.{journal_version_count}
 use Rattle.update_machine.specs.Boots.{is_journal_receiver_switch}
-use Rattle.update_machine.specs.Links.{message_of}
+use Rattle.update_machine.specs.Links.{journal_message_of}
 
 -- ---- what the controller hears
 
 -- what the message of this number says to the controller, if it is for it
 abbrev pub journal_body_to_controller : List Item → ℕ → Option Body
-journal_body_to_controller before number = elim (message_of before number) [
+journal_body_to_controller before number = elim (journal_message_of before number) [
   | None ↦ None
   | Some message ↦ if is_to_controller message.to then Some message.body else None
 ]
@@ -30,24 +30,24 @@ changes_controller_heard before bodies (item.Delivered number) =
 changes_controller_heard before bodies _ = bodies
 
 -- the bodies that were delivered to the controller
-unfoldable pub controller_heard : List Item → List Body
-controller_heard journal = journal_folded_value changes_controller_heard [] journal
+unfoldable pub journal_controller_heard : List Item → List Body
+journal_controller_heard journal = journal_folded_value changes_controller_heard [] journal
 
 -- ---- what it knows of a switch
 
-abbrev pub journal_hello_boot : ℕ → Body → Option ℕ
-journal_hello_boot s (Hello switch boot) = if switch == s then Some boot else None
-journal_hello_boot s _ = None
+abbrev pub machine_hello_boot : ℕ → Body → Option ℕ
+machine_hello_boot s (Hello switch boot) = if switch == s then Some boot else None
+machine_hello_boot s _ = None
 
 -- the greatest boot of the switch's hellos; it is 1 if there is none
 unfoldable pub journal_known_boot : List Item → ℕ → ℕ
-journal_known_boot journal s = fold max 1 (filter_map (journal_hello_boot s) (controller_heard journal))
+journal_known_boot journal s = fold max 1 (filter_map (machine_hello_boot s) (journal_controller_heard journal))
 
 -- the message of this number is a hello of the switch with a greater boot than the known one
 abbrev pub journal_raises_known_boot : List Item → ℕ → ℕ → Bool
 journal_raises_known_boot before s number =
     option_map_or (λ boot. nat_lt (journal_known_boot before s) boot)
-    (option_and_then (journal_hello_boot s) (journal_body_to_controller before number)) false
+    (option_and_then (machine_hello_boot s) (journal_body_to_controller before number)) false
 
 abbrev pub item_changes_over : ℕ → List Item → Bool → Item → Bool
 item_changes_over s before over (item.OverNow switch) = if switch == s then true else over
@@ -75,17 +75,17 @@ machine_first_open [] = None
 machine_first_open (x ∷ xs) = Some x
 
 -- the version at which the switch was opened in its known boot: 1 in boot 1
-unfoldable pub opened_at : List Item → ℕ → Option ℕ
-opened_at journal s = if journal_known_boot journal s == 1
+unfoldable pub journal_opened_at : List Item → ℕ → Option ℕ
+journal_opened_at journal s = if journal_known_boot journal s == 1
     then Some 1
     else machine_first_open (journal_all_given (machine_open_sent s (journal_known_boot journal s)) journal)
 
 abbrev pub open_version : List Item → ℕ → ℕ
-open_version journal s = unwrap_or (opened_at journal s) 0
+open_version journal s = unwrap_or (journal_opened_at journal s) 0
 
 -- it isn't over, and was opened in its known boot
 unfoldable pub is_member : List Item → ℕ → Bool
-is_member journal s = not (is_over journal s) && is_some (opened_at journal s)
+is_member journal s = not (is_over journal s) && is_some (journal_opened_at journal s)
 
 -- it is neither over nor a member
 abbrev pub is_joining : List Item → ℕ → Bool
@@ -93,18 +93,18 @@ is_joining journal s = not (is_over journal s) && not (is_member journal s)
 
 -- the members, ascending
 abbrev pub members : Setting → List Item → List ℕ
-members setting journal = filter (is_member journal) (switches_of setting)
+members setting journal = filter (is_member journal) (setting_switches_of setting)
 
-abbrev pub journal_installed_in_body : ℕ → ℕ → Body → Option ℕ
-journal_installed_in_body s boot (Installed switch of version) =
+abbrev pub machine_installed_version : ℕ → ℕ → Body → Option ℕ
+machine_installed_version s boot (Installed switch of version) =
     if switch == s && of == boot then Some version else None
-journal_installed_in_body s boot _ = None
+machine_installed_version s boot _ = None
 
 -- the versions whose tables the switch acknowledged in its known boot: version 1 in boot 1
 abbrev pub acked : List Item → ℕ → List ℕ
 acked journal s =
     (if journal_known_boot journal s == 1 then 1 ∷ [] else [])
-    ++ filter_map (journal_installed_in_body s (journal_known_boot journal s)) (controller_heard journal)
+    ++ filter_map (machine_installed_version s (journal_known_boot journal s)) (journal_controller_heard journal)
 
 unfoldable pub has_acked : List Item → ℕ → ℕ → Bool
 has_acked journal s version = list_any (nat_eq version) (acked journal s)
@@ -118,7 +118,7 @@ machine_stamped_version_in s boot _ = None
 unfoldable pub acked_stamp : List Item → ℕ → ℕ
 acked_stamp journal s =
     fold max (open_version journal s)
-    (filter_map (machine_stamped_version_in s (journal_known_boot journal s)) (controller_heard journal))
+    (filter_map (machine_stamped_version_in s (journal_known_boot journal s)) (journal_controller_heard journal))
 
 -- ---- the marks
 
@@ -129,12 +129,12 @@ gives_current _ = None
 unfoldable pub journal_current_mark : List Item → ℕ
 journal_current_mark journal = unwrap_or (journal_last_given gives_current journal) 1
 
-abbrev pub item_gives_retired : Item → Option ℕ
-item_gives_retired (item.Retired version) = Some version
-item_gives_retired _ = None
+abbrev pub machine_item_gives_retired : Item → Option ℕ
+machine_item_gives_retired (item.Retired version) = Some version
+machine_item_gives_retired _ = None
 
 unfoldable pub journal_retired_mark : List Item → ℕ
-journal_retired_mark journal = unwrap_or (journal_last_given item_gives_retired journal) 0
+journal_retired_mark journal = unwrap_or (journal_last_given machine_item_gives_retired journal) 0
 
 -- each member acknowledged the version
 abbrev pub all_acked : Setting → List Item → ℕ → Bool
@@ -185,6 +185,6 @@ pub record AreMachineMarksSettled (setting : Setting) (journal : List Item) : Ty
       ⊎ IsFalse (all_acked setting journal (journal_current_mark journal + 1))
   -- (c) no joining switch acknowledged the current version
   pub joining : All (λ s. IsTrue (is_joining journal s) →
-      IsFalse (has_acked journal s (journal_current_mark journal))) (switches_of setting)
+      IsFalse (has_acked journal s (journal_current_mark journal))) (setting_switches_of setting)
   -- (d) retired is as far as the members' acknowledged stamps allow
   pub retired : journal_retired_mark journal ≡ journal_next_retired setting journal

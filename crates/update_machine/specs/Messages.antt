@@ -8,7 +8,7 @@ use Rattle.ctrl_msg.specs.declared.message.Place.TheVariants as receiver
 use Rattle.journal.specs.declared.item.Item.{Item}
 use Rattle.journal.specs.declared.item.Item.TheVariants as item
 use Rattle.update_machine.specs.Folds.{count_of}
-use Rattle.update_machine.specs.Links.{message_of}
+use Rattle.update_machine.specs.Links.{journal_message_of}
 
 abbrev pub is_sending : Item → Bool
 is_sending (item.Sent number message) = true
@@ -18,16 +18,16 @@ is_sending _ = false
 unfoldable pub journal_next_message : List Item → ℕ
 journal_next_message journal = count_of is_sending journal + 1
 
-abbrev pub is_forgetting : ℕ → Item → Bool
-is_forgetting n (item.Forgotten number) = number == n
-is_forgetting n _ = false
+abbrev pub is_journal_forgetting : ℕ → Item → Bool
+is_journal_forgetting n (item.Forgotten number) = number == n
+is_journal_forgetting n _ = false
 
 abbrev pub is_delivery_item : ℕ → Item → Bool
 is_delivery_item n (item.Delivered number) = number == n
 is_delivery_item n _ = false
 
 unfoldable pub is_forgotten_in_journal : List Item → ℕ → Bool
-is_forgotten_in_journal journal number = nat_lt 0 (count_of (is_forgetting number) journal)
+is_forgotten_in_journal journal number = nat_lt 0 (count_of (is_journal_forgetting number) journal)
 
 unfoldable pub was_delivered : List Item → ℕ → Bool
 was_delivered journal number = nat_lt 0 (count_of (is_delivery_item number) journal)
@@ -35,7 +35,7 @@ was_delivered journal number = nat_lt 0 (count_of (is_delivery_item number) jour
 -- it was sent and isn't forgotten, so it may be delivered, perhaps again
 unfoldable pub is_deliverable : List Item → ℕ → Bool
 is_deliverable journal number =
-    is_some (message_of journal number) && not (is_forgotten_in_journal journal number)
+    is_some (journal_message_of journal number) && not (is_forgotten_in_journal journal number)
 
 -- it was never delivered and isn't forgotten
 abbrev pub is_waiting : List Item → ℕ → Bool

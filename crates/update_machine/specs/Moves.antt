@@ -32,7 +32,7 @@ use Rattle.update_machine.specs.Packets.{journal_decision_of, journal_packet_hea
 use Rattle.update_machine.specs.Setting.{Setting}
 use Rattle.update_machine.specs.Versions.{holds_version, journal_stamp_of, journal_plan_at}
 use Rattle.update_machine.specs.Travels.{journal_ingress_of, is_at, journal_leg_of}
-use Rattle.update_machine.specs.PacketRoutes.{journal_found_down, next_switch, owner, targets_of}
+use Rattle.update_machine.specs.PacketRoutes.{journal_found_down, journal_next_switch, owner, journal_leg_targets}
 
 -- ---- blocks
 
@@ -52,30 +52,30 @@ in_turn (block ∷ blocks) journal = journal_items_then (block journal) (in_turn
 abbrev pub journal_stuck_cause_at : Setting → List Item → ℕ → List ℕ → Leg → Cause
 journal_stuck_cause_at setting journal s down (Seek version partition) =
     if list_all (is_cut_off_in_journal setting journal s down)
-    (targets_of setting journal (Seek version partition))
+    (journal_leg_targets setting journal (Seek version partition))
     then NoAuthority else NoRoute
 journal_stuck_cause_at setting journal s down (Exit port) = NoRoute
 
 -- the packet is stuck at the switch on this leg
-abbrev pub stuck_on_leg_items : Setting → List Item → ℕ → ℕ → Leg → Item
-stuck_on_leg_items setting journal i s leg =
+abbrev pub machine_stuck_on_leg_item : Setting → List Item → ℕ → ℕ → Leg → Item
+machine_stuck_on_leg_item setting journal i s leg =
     item.Stuck i s (journal_stuck_cause_at setting journal s (journal_found_down journal i) leg) leg
     (journal_found_down journal i)
 
 -- the route from the switch to the leg's targets, without the links that the packet found down
 abbrev pub journal_packet_route : Setting → List Item → ℕ → ℕ → Leg → Option (List ℕ)
 journal_packet_route setting journal i s leg =
-    journal_route_from setting journal s (targets_of setting journal leg) (journal_found_down journal i)
+    journal_route_from setting journal s (journal_leg_targets setting journal leg) (journal_found_down journal i)
 
-abbrev pub takes_route : ℕ → Leg → List ℕ → Item
-takes_route i (Seek version partition) route = item.Seeking i version partition route
-takes_route i (Exit port) route = item.Exiting i route
+abbrev pub machine_takes_route : ℕ → Leg → List ℕ → Item
+machine_takes_route i (Seek version partition) route = item.Seeking i version partition route
+machine_takes_route i (Exit port) route = item.Exiting i route
 
 -- the packet takes a leg from the switch, or is stuck there
 unfoldable pub machine_leg_items : Setting → List Item → ℕ → ℕ → Leg → List Item
 machine_leg_items setting journal i s leg = elim (journal_packet_route setting journal i s leg) [
-  | None ↦ stuck_on_leg_items setting journal i s leg ∷ []
-  | Some route ↦ takes_route i leg route ∷ []
+  | None ↦ machine_stuck_on_leg_item setting journal i s leg ∷ []
+  | Some route ↦ machine_takes_route i leg route ∷ []
 ]
 
 -- ---- decisions
@@ -96,9 +96,9 @@ journal_leaving_item journal i port = item.Left i port (record {
 })
 
 -- a packet with this action is dropped, leaves by a port of the switch, or is sent to another
-unfoldable pub end_items : Setting → ℕ → ℕ → Action → List Item → List Item
-end_items setting i s action.Drop journal = item.Dropped i ∷ []
-end_items setting i s (action.Out port) journal = elim (owner setting port == s) [
+unfoldable pub machine_end_items : Setting → ℕ → ℕ → Action → List Item → List Item
+machine_end_items setting i s action.Drop journal = item.Dropped i ∷ []
+machine_end_items setting i s (action.Out port) journal = elim (owner setting port == s) [
   | true ↦ journal_leaving_item journal i port ∷ []
   | false ↦ machine_leg_items setting journal i s (Exit port)
 ]
@@ -150,22 +150,22 @@ machine_authority_items setting i s (Some found) journal =
     journal_items_then
     (item.Decided i found.version found.rule.rule found.rule.action
     (how.Authority s found.part.number) ∷ [])
-    (in_turn (journal_cache_items setting i s found ∷ end_items setting i s found.rule.action ∷ [])) journal
+    (in_turn (journal_cache_items setting i s found ∷ machine_end_items setting i s found.rule.action ∷ [])) journal
 
 -- what becomes of the packet by a lookup under the switch's stamp
 abbrev pub found_items : Setting → ℕ → ℕ → Found → List Item → List Item
 found_items setting i s (found.Cached entry) journal =
     journal_items_then
     (item.Decided i entry.version entry.rule entry.action (how.Cached entry.message) ∷ [])
-    (end_items setting i s entry.action) journal
+    (machine_end_items setting i s entry.action) journal
 found_items setting i s (found.Authority partition place) journal =
     machine_authority_items setting i s
     (journal_authority_rule setting journal (journal_stamp_of journal s) partition place) journal
 found_items setting i s (found.Redirect partition targets) journal =
     machine_leg_items setting journal i s (Seek (journal_stamp_of journal s) partition)
 
-unfoldable pub lookup_items : Setting → ℕ → ℕ → List Item → List Item
-lookup_items setting i s journal =
+unfoldable pub machine_lookup_items : Setting → ℕ → ℕ → List Item → List Item
+machine_lookup_items setting i s journal =
     found_items setting i s (lookup_at setting journal s (journal_packet_header_at journal i)) journal
 
 -- ---- on the way
@@ -177,7 +177,7 @@ journal_leg_arrival_items setting i s None journal = []
 journal_leg_arrival_items setting i s (Some (Exit port)) journal = journal_leaving_item journal i port ∷ []
 journal_leg_arrival_items setting i s (Some (Seek version partition)) journal =
     elim (holds_version journal s version) [
-      | false ↦ lookup_items setting i s journal
+      | false ↦ machine_lookup_items setting i s journal
       | true ↦ let place = first_place setting journal version partition (journal_packet_header_at journal i) in
           machine_authority_items setting i s (journal_authority_rule setting journal version partition place)
           journal
@@ -188,7 +188,7 @@ machine_arrive_items setting i s journal = journal_leg_arrival_items setting i s
 
 -- it moves on along its new route, or arrives if that is only this switch
 abbrev pub go_on : Setting → ℕ → ℕ → List Item → List Item
-go_on setting i s journal = elim (next_switch journal i) [
+go_on setting i s journal = elim (journal_next_switch journal i) [
   | None ↦ machine_arrive_items setting i s journal
   | Some next ↦ item.Hopped i next ∷ []
 ]
@@ -197,19 +197,19 @@ go_on setting i s journal = elim (next_switch journal i) [
 abbrev pub journal_reroute_by : Setting → ℕ → ℕ → Option Leg → List Item → List Item
 journal_reroute_by setting i s None journal = []
 journal_reroute_by setting i s (Some leg) journal = elim (journal_packet_route setting journal i s leg) [
-  | None ↦ stuck_on_leg_items setting journal i s leg ∷ []
+  | None ↦ machine_stuck_on_leg_item setting journal i s leg ∷ []
   | Some route ↦ journal_items_then (item.Rerouted i route ∷ []) (go_on setting i s) journal
 ]
 
-unfoldable pub reroute_items : Setting → ℕ → ℕ → List Item → List Item
-reroute_items setting i s journal = journal_reroute_by setting i s (journal_leg_of journal i) journal
+unfoldable pub machine_reroute_items : Setting → ℕ → ℕ → List Item → List Item
+machine_reroute_items setting i s journal = journal_reroute_by setting i s (journal_leg_of journal i) journal
 
 -- a packet at its route's end arrives; otherwise it moves over the next link, or finds it down
-unfoldable pub move_items : Setting → ℕ → ℕ → List Item → List Item
-move_items setting i s journal = elim (next_switch journal i) [
+unfoldable pub machine_move_items : Setting → ℕ → ℕ → List Item → List Item
+machine_move_items setting i s journal = elim (journal_next_switch journal i) [
   | None ↦ machine_arrive_items setting i s journal
   | Some next ↦ elim (has (near setting journal s) next) [
     | true ↦ item.Hopped i next ∷ []
-    | false ↦ journal_items_then (item.FoundDown i s next ∷ []) (reroute_items setting i s) journal
+    | false ↦ journal_items_then (item.FoundDown i s next ∷ []) (machine_reroute_items setting i s) journal
   ]
 ]

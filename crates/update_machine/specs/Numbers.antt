@@ -20,15 +20,15 @@ item_message_number (item.Sent number message) = number ∷ []
 item_message_number _ = []
 
 -- the versions that exist are those from 1 to their count
-abbrev pub VersionsAreNumbered : List Item → Type 0
-VersionsAreNumbered journal = (v : ℕ) → IsTrue (is_version journal v)
+abbrev pub JournalVersionsAreNumbered : List Item → Type 0
+JournalVersionsAreNumbered journal = (v : ℕ) → IsTrue (is_version journal v)
     ↔ ((1 ≤ v) × (v ≤ journal_version_count journal))
 
 -- the numbers are 1, 2 and so on, as many as there are packets, messages or versions
 pub record AreNumbered (journal : List Item) : Type 0 where
   pub packets : journal_all_given machine_packet_number journal ≡ journal_packets journal
   pub messages : journal_all_given item_message_number journal ≡ range_with_len 1 (count_of is_sending journal)
-  pub versions : VersionsAreNumbered journal
+  pub versions : JournalVersionsAreNumbered journal
 
 -- the cause of a number: it is the next one
 abbrev pub MachineTakesNextNumber : List Item → Item → Type 0

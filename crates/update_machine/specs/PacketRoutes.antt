@@ -13,16 +13,16 @@ use Rattle.update_machine.specs.Setting.{Setting}
 use Rattle.update_machine.specs.Versions.{journal_plan_at}
 use Rattle.journal.specs.declared.item.Item.TheVariants as item
 
-abbrev pub item_gives_route : ℕ → Item → Option (List ℕ)
-item_gives_route i (item.Seeking packet version partition route) =
+abbrev pub machine_item_gives_route : ℕ → Item → Option (List ℕ)
+machine_item_gives_route i (item.Seeking packet version partition route) =
     if packet == i then Some route else None
-item_gives_route i (item.Exiting packet route) = if packet == i then Some route else None
-item_gives_route i (item.Rerouted packet route) = if packet == i then Some route else None
-item_gives_route i _ = None
+machine_item_gives_route i (item.Exiting packet route) = if packet == i then Some route else None
+machine_item_gives_route i (item.Rerouted packet route) = if packet == i then Some route else None
+machine_item_gives_route i _ = None
 
 -- the route of its last `Seeking`, `Exiting` or `Rerouted`
 unfoldable pub journal_route_in : List Item → ℕ → List ℕ
-journal_route_in journal i = unwrap_or (journal_last_given (item_gives_route i) journal) []
+journal_route_in journal i = unwrap_or (journal_last_given (machine_item_gives_route i) journal) []
 
 abbrev pub changes_hops : ℕ → List Item → ℕ → Item → ℕ
 changes_hops i before hops (item.Seeking packet version partition route) =
@@ -37,8 +37,8 @@ unfoldable pub route_place : List Item → ℕ → ℕ
 route_place journal i = journal_folded_value (changes_hops i) 0 journal
 
 -- the switch after that place, if the route continues
-unfoldable pub next_switch : List Item → ℕ → Option ℕ
-next_switch journal i = slice_get (journal_route_in journal i) (route_place journal i + 1)
+unfoldable pub journal_next_switch : List Item → ℕ → Option ℕ
+journal_next_switch journal i = slice_get (journal_route_in journal i) (route_place journal i + 1)
 
 abbrev pub item_changes_found : ℕ → List Item → List ℕ → Item → List ℕ
 item_changes_found i before links (item.FoundDown packet one two) =
@@ -63,7 +63,7 @@ abbrev pub owner : Setting → ℕ → ℕ
 owner setting port = unwrap_or (net_port_owner setting.net.switches port) no_switch
 
 -- the targets of the partition, or the switch of the port
-abbrev pub targets_of : Setting → List Item → Leg → List ℕ
-targets_of setting journal (Seek version partition) =
+abbrev pub journal_leg_targets : Setting → List Item → Leg → List ℕ
+journal_leg_targets setting journal (Seek version partition) =
     setting_targets_in (journal_plan_at setting journal version) partition
-targets_of setting journal (Exit port) = owner setting port ∷ []
+journal_leg_targets setting journal (Exit port) = owner setting port ∷ []

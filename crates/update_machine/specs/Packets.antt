@@ -20,22 +20,22 @@ journal_next_packet journal = count_of is_packet journal + 1
 
 -- ---- where it is
 
-abbrev pub item_gives_header : ℕ → Item → Option Header
-item_gives_header i (item.Entered packet switch header) = if packet == i then Some header else None
-item_gives_header i _ = None
+abbrev pub machine_item_gives_header : ℕ → Item → Option Header
+machine_item_gives_header i (item.Entered packet switch header) = if packet == i then Some header else None
+machine_item_gives_header i _ = None
 
 -- the header with which the packet entered
 unfoldable pub journal_packet_header : List Item → ℕ → Option Header
-journal_packet_header journal i = journal_last_given (item_gives_header i) journal
+journal_packet_header journal i = journal_last_given (machine_item_gives_header i) journal
 
-abbrev pub item_gives_standing : ℕ → Item → Option ℕ
-item_gives_standing i (item.Entered packet switch header) = if packet == i then Some switch else None
-item_gives_standing i (item.Hopped packet switch) = if packet == i then Some switch else None
-item_gives_standing i _ = None
+abbrev pub machine_item_gives_standing : ℕ → Item → Option ℕ
+machine_item_gives_standing i (item.Entered packet switch header) = if packet == i then Some switch else None
+machine_item_gives_standing i (item.Hopped packet switch) = if packet == i then Some switch else None
+machine_item_gives_standing i _ = None
 
 -- the switch where it is: that of its last `Entered` or `Hopped`
 unfoldable pub standing : List Item → ℕ → Option ℕ
-standing journal i = journal_last_given (item_gives_standing i) journal
+standing journal i = journal_last_given (machine_item_gives_standing i) journal
 
 -- ---- its decision
 
@@ -45,12 +45,12 @@ pub record Decision : Type 0 where
   pub rule : Option ℕ
   pub action : Action
 
-abbrev pub item_gives_decision : ℕ → Item → Option Decision
-item_gives_decision i (item.Decided packet version rule action how) =
+abbrev pub machine_item_gives_decision : ℕ → Item → Option Decision
+machine_item_gives_decision i (item.Decided packet version rule action how) =
     if packet == i
     then Some (record { version = version; rule = rule; action = action })
     else None
-item_gives_decision i _ = None
+machine_item_gives_decision i _ = None
 
 unfoldable pub journal_decision_of : List Item → ℕ → Option Decision
-journal_decision_of journal i = journal_last_given (item_gives_decision i) journal
+journal_decision_of journal i = journal_last_given (machine_item_gives_decision i) journal

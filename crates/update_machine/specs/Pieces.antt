@@ -17,11 +17,11 @@ use Rattle.steps.specs.declared.step.Step.TheVariants.{Packet, Hop, Lose, Delive
 use Rattle.update_machine.specs.Adverts.{journal_held_adverts}
 use Rattle.update_machine.specs.Boots.{journal_boot_of, is_up}
 use Rattle.update_machine.specs.Caches.{journal_cache_of}
-use Rattle.update_machine.specs.Deliveries.{advert_to, machine_delivery_items, journal_link_changes, setting_switches_in}
+use Rattle.update_machine.specs.Deliveries.{machine_advert_to, machine_delivery_items, journal_link_changes, setting_switches_in}
 use Rattle.update_machine.specs.Links.{is_link_up_in_journal, serves}
 use Rattle.update_machine.specs.Marks.{most_live_journal_versions, most_journal_versions, journal_retired_mark}
 use Rattle.update_machine.specs.Messages.{is_deliverable, send_items}
-use Rattle.update_machine.specs.Moves.{lookup_items, move_items, journal_items_then}
+use Rattle.update_machine.specs.Moves.{machine_lookup_items, machine_move_items, journal_items_then}
 use Rattle.update_machine.specs.Packets.{journal_next_packet, standing}
 use Rattle.update_machine.specs.Setting.{Setting}
 use Rattle.update_machine.specs.Settling.{journal_resent_by_controller, settling, submitted_items}
@@ -35,16 +35,16 @@ nothing = item.Nothing ∷ []
 -- ---- packets
 
 -- a packet enters at a switch that serves and is looked up there; at another one it is closed
-unfoldable pub packet_items : Setting → ℕ → ℕ → Header → List Item → List Item
-packet_items setting i s header journal = elim (serves journal s) [
+unfoldable pub machine_packet_items : Setting → ℕ → ℕ → Header → List Item → List Item
+machine_packet_items setting i s header journal = elim (serves journal s) [
   | false ↦ item.Closed i s ∷ []
-  | true ↦ journal_items_then (item.Entered i s header ∷ []) (lookup_items setting i s) journal
+  | true ↦ journal_items_then (item.Entered i s header ∷ []) (machine_lookup_items setting i s) journal
 ]
 
 unfoldable pub machine_hop_items : Setting → ℕ → List Item → List Item
 machine_hop_items setting i journal = elim (travels journal i) [
   | false ↦ nothing
-  | true ↦ move_items setting i (unwrap_or (standing journal i) 0) journal
+  | true ↦ machine_move_items setting i (unwrap_or (standing journal i) 0) journal
 ]
 
 unfoldable pub lose_items : ℕ → List Item → List Item
@@ -61,8 +61,8 @@ deliver_items setting before number journal = elim (is_deliverable before number
   | true ↦ journal_items_then (item.Delivered number ∷ []) (machine_delivery_items setting before number) journal
 ]
 
-unfoldable pub forget_items : ℕ → List Item → List Item
-forget_items number journal = elim (is_deliverable journal number) [
+unfoldable pub machine_forget_items : ℕ → List Item → List Item
+machine_forget_items number journal = elim (is_deliverable journal number) [
   | false ↦ nothing
   | true ↦ item.Forgotten number ∷ []
 ]
@@ -107,8 +107,8 @@ machine_update_code setting journal file = elim (journal_next_policy setting jou
 ]
 
 -- a policy that isn't refused is the newest version
-unfoldable pub update_items : Setting → ℕ → List Item → List Item
-update_items setting file journal = elim (machine_update_code setting journal file) [
+unfoldable pub machine_update_items : Setting → ℕ → List Item → List Item
+machine_update_items setting file journal = elim (machine_update_code setting journal file) [
   | Some code ↦ item.Refused file code ∷ []
   | None ↦ journal_items_then (item.Submitted file (journal_version_count journal + 1) ∷ [])
       (submitted_items setting)
@@ -157,7 +157,7 @@ abbrev pub journal_resent_by_switch : Setting → List Item → ℕ → List Mes
 journal_resent_by_switch setting journal s = elim (is_up journal s) [
   | false ↦ []
   | true ↦ machine_hello_of journal s
-      ∷ flat_map (λ neighbour. map (advert_to neighbour) (journal_held_adverts setting journal s))
+      ∷ flat_map (λ neighbour. map (machine_advert_to neighbour) (journal_held_adverts setting journal s))
       (setting_switches_in setting (near setting journal s))
 ]
 
@@ -166,31 +166,31 @@ abbrev pub machine_sends_or_nothing : List Item → List Message → List Item
 machine_sends_or_nothing journal [] = nothing
 machine_sends_or_nothing journal (message ∷ messages) = send_items journal (message ∷ messages)
 
-unfoldable pub resend_items : Setting → ℕ → List Item → List Item
-resend_items setting s journal =
+unfoldable pub machine_resend_items : Setting → ℕ → List Item → List Item
+machine_resend_items setting s journal =
     machine_sends_or_nothing journal
     (journal_resent_by_switch setting journal s ++ journal_resent_by_controller setting journal s)
 
 -- ---- a step
 
 -- what a step writes after its row, where `before` is the journal before the row
-abbrev pub step_items : Setting → List Item → Step → List Item → List Item
-step_items setting before (Packet switch header) =
-    packet_items setting (journal_next_packet before) switch header
-step_items setting before (Hop packet) = machine_hop_items setting packet
-step_items setting before (Lose packet) = lose_items packet
-step_items setting before (Deliver message) = deliver_items setting before message
-step_items setting before (Forget message) = forget_items message
-step_items setting before (Expire switch place) = machine_expire_items setting switch place
-step_items setting before (Update file) = update_items setting file
-step_items setting before (LinkDown one two) = machine_link_items setting before one two false
-step_items setting before (LinkUp one two) = machine_link_items setting before one two true
-step_items setting before (Crash switch) = journal_crash_items setting before switch
-step_items setting before (Restart switch) = restart_items switch
-step_items setting before (Confirm switch) = confirm_items setting switch
-step_items setting before (Resend switch) = resend_items setting switch
+abbrev pub machine_step_items : Setting → List Item → Step → List Item → List Item
+machine_step_items setting before (Packet switch header) =
+    machine_packet_items setting (journal_next_packet before) switch header
+machine_step_items setting before (Hop packet) = machine_hop_items setting packet
+machine_step_items setting before (Lose packet) = lose_items packet
+machine_step_items setting before (Deliver message) = deliver_items setting before message
+machine_step_items setting before (Forget message) = machine_forget_items message
+machine_step_items setting before (Expire switch place) = machine_expire_items setting switch place
+machine_step_items setting before (Update file) = machine_update_items setting file
+machine_step_items setting before (LinkDown one two) = machine_link_items setting before one two false
+machine_step_items setting before (LinkUp one two) = machine_link_items setting before one two true
+machine_step_items setting before (Crash switch) = journal_crash_items setting before switch
+machine_step_items setting before (Restart switch) = restart_items switch
+machine_step_items setting before (Confirm switch) = confirm_items setting switch
+machine_step_items setting before (Resend switch) = machine_resend_items setting switch
 
 -- what a step of this row writes after the journal
 unfoldable pub piece : Setting → List Item → ℕ → Step → List Item
 piece setting journal row step =
-    journal_items_then (item.Row row step ∷ []) (step_items setting journal step) journal
+    journal_items_then (item.Row row step ∷ []) (machine_step_items setting journal step) journal

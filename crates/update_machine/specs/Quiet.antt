@@ -18,7 +18,7 @@ use Rattle.update_machine.specs.Folds.{journal_last_given}
 use Rattle.update_machine.specs.Marks.{journal_current_mark}
 use Rattle.update_machine.specs.Messages.{was_delivered}
 use Rattle.update_machine.specs.Setting.{Setting}
-use Rattle.update_machine.specs.SwitchNumbers.{switches_of}
+use Rattle.update_machine.specs.SwitchNumbers.{setting_switches_of}
 
 -- ---- which messages matter
 
@@ -29,26 +29,26 @@ machine_speaking_in_body (Installed s boot version) = Some (s, boot)
 machine_speaking_in_body (Stamped s boot version) = Some (s, boot)
 machine_speaking_in_body _ = None
 
-abbrev pub is_of_boot : ℕ → ℕ → ℕ × ℕ → Bool
-is_of_boot s boot (switch, of) = switch == s && of == boot
+abbrev pub is_of_machine_boot : ℕ → ℕ → ℕ × ℕ → Bool
+is_of_machine_boot s boot (switch, of) = switch == s && of == boot
 
 abbrev pub is_advert : Body → Bool
 is_advert (Advertise advert) = true
 is_advert _ = false
 
 -- the body carries this boot
-abbrev pub journal_body_carries_boot : ℕ → Body → Bool
-journal_body_carries_boot boot body = option_map_or (λ of. of == boot) (body_boot body) false
+abbrev pub machine_body_carries_boot : ℕ → Body → Bool
+machine_body_carries_boot boot body = option_map_or (λ of. of == boot) (body_boot body) false
 
 -- tables of a version below the current one
-abbrev pub are_old_tables : ℕ → Body → Bool
-are_old_tables current (Install boot tables) = nat_lt tables.version current
-are_old_tables current _ = false
+abbrev pub are_machine_tables_old : ℕ → Body → Bool
+are_machine_tables_old current (Install boot tables) = nat_lt tables.version current
+are_machine_tables_old current _ = false
 
 -- the acknowledgement of such tables
-abbrev pub is_old_ack_in_journal : ℕ → Body → Bool
-is_old_ack_in_journal current (Installed s boot version) = nat_lt version current
-is_old_ack_in_journal current _ = false
+abbrev pub is_machine_ack_below_version : ℕ → Body → Bool
+is_machine_ack_below_version current (Installed s boot version) = nat_lt version current
+is_machine_ack_below_version current _ = false
 
 abbrev pub item_begins_boot : ℕ → Item → Bool
 item_begins_boot s (item.Booted switch boot) = switch == s
@@ -61,12 +61,12 @@ abbrev pub matters : List Item → ℕ → Message → List Item → Bool
 matters journal s message after = elim message.to [
   | receiver.Controller ↦
       is_up journal s
-      && option_map_or (is_of_boot s (journal_boot_of journal s)) (machine_speaking_in_body message.body) false
-      && not (is_old_ack_in_journal (journal_current_mark journal) message.body)
+      && option_map_or (is_of_machine_boot s (journal_boot_of journal s)) (machine_speaking_in_body message.body) false
+      && not (is_machine_ack_below_version (journal_current_mark journal) message.body)
   | receiver.Switch to ↦
       is_up journal s && to == s && not (list_any (item_begins_boot s) after)
-      && (is_advert message.body || journal_body_carries_boot (journal_boot_of journal s) message.body)
-      && not (are_old_tables (journal_current_mark journal) message.body)
+      && (is_advert message.body || machine_body_carries_boot (journal_boot_of journal s) message.body)
+      && not (are_machine_tables_old (journal_current_mark journal) message.body)
 ]
 
 -- ---- which of them replace others
@@ -101,23 +101,23 @@ IsJournalMessageReceived number message after = IsTrue (was_delivered after numb
 
 -- the same is true of each message of these last items of the journal that matters to a switch of
 -- the network
-abbrev pub AreJournalMessagesReceived : Setting → List Item → List Item → Type 0
-AreJournalMessagesReceived setting journal [] = ⊤
-AreJournalMessagesReceived setting journal (item.Sent number message ∷ after) =
+abbrev pub AreMachineMessagesReceived : Setting → List Item → List Item → Type 0
+AreMachineMessagesReceived setting journal [] = ⊤
+AreMachineMessagesReceived setting journal (item.Sent number message ∷ after) =
     ((s : ℕ) → HasSwitch setting.net s → IsTrue (matters journal s message after)
-    → IsJournalMessageReceived number message after) × AreJournalMessagesReceived setting journal after
-AreJournalMessagesReceived setting journal (_ ∷ after) = AreJournalMessagesReceived setting journal after
+    → IsJournalMessageReceived number message after) × AreMachineMessagesReceived setting journal after
+AreMachineMessagesReceived setting journal (_ ∷ after) = AreMachineMessagesReceived setting journal after
 
-abbrev pub gives_waited_for : ℕ → Item → Option Bool
-gives_waited_for s (item.Down switch) = if switch == s then Some true else None
-gives_waited_for s (item.OverNow switch) = if switch == s then Some false else None
-gives_waited_for s _ = None
+abbrev pub gives_journal_waited_for : ℕ → Item → Option Bool
+gives_journal_waited_for s (item.Down switch) = if switch == s then Some true else None
+gives_journal_waited_for s (item.OverNow switch) = if switch == s then Some false else None
+gives_journal_waited_for s _ = None
 
 -- the switch went down and there is no `OverNow` of it since
 abbrev pub is_waited_for : List Item → ℕ → Bool
-is_waited_for journal s = unwrap_or (journal_last_given (gives_waited_for s) journal) false
+is_waited_for journal s = unwrap_or (journal_last_given (gives_journal_waited_for s) journal) false
 
-pub record IsMachineQuiet (setting : Setting) (journal : List Item) : Type 0 where
+pub record IsQuietMachineJournal (setting : Setting) (journal : List Item) : Type 0 where
   pub switches : All (λ s. IsTrue (is_up journal s || not (is_waited_for journal s)))
-      (switches_of setting)
-  pub messages : AreJournalMessagesReceived setting journal journal
+      (setting_switches_of setting)
+  pub messages : AreMachineMessagesReceived setting journal journal

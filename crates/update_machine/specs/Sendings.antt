@@ -18,14 +18,14 @@ abbrev pub journal_receiver_boot_at : List Item → Place → ℕ
 journal_receiver_boot_at before (receiver.Switch s) = journal_boot_of before s
 journal_receiver_boot_at before receiver.Controller = 0
 
-abbrev pub item_changes_sendings : List Item → List Sending → Item → List Sending
-item_changes_sendings before sendings (item.Sent number message) = sendings ++ record {
+abbrev pub changes_journal_sendings : List Item → List Sending → Item → List Sending
+changes_journal_sendings before sendings (item.Sent number message) = sendings ++ record {
   number = number;
   message = message;
   boot = journal_receiver_boot_at before message.to;
 } ∷ []
-item_changes_sendings before sendings _ = sendings
+changes_journal_sendings before sendings _ = sendings
 
 -- all that was sent, in order
 unfoldable pub sendings : List Item → List Sending
-sendings journal = journal_folded_value item_changes_sendings [] journal
+sendings journal = journal_folded_value changes_journal_sendings [] journal

@@ -4,7 +4,7 @@ use Rattle.base.specs.Exports.{option_or, result_ok}
 use Rattle.net_file.specs.declared.net.Net.{Net}
 use Rattle.net_file.specs.Exports.{IsNet, net_port_owner}
 use Rattle.partition.specs.Plan.{Hosted, partition_plan_of}
-use Rattle.policy_rules.specs.Exports.{PolicyRulesGiveOnly, IsPolicyOrAmendment, NoPolicyPlan, applied}
+use Rattle.policy_rules.specs.Exports.{PolicyFileRowsAre, IsPolicyRulesOrAmendment, NoPolicyPlan, applied}
 use Rattle.policy_rules.specs.declared.applying.Inapplicable.{Inapplicable}
 use Rattle.policy_rules.specs.declared.applying.Inapplicable.TheVariants.{Absent}
 use Rattle.policy_rules.specs.declared.file.PolicyFile.{PolicyFile}
@@ -42,28 +42,28 @@ made_by (Some (Change edits)) (Some rows) = applied rows edits
 made_by _ _ = Err Absent
 
 -- the same, for the file of this number
-abbrev pub policy_by : Setting → Option (List Row) → ℕ → Result (List Row) Inapplicable
-policy_by setting earlier file = made_by (setting_file_at setting file) earlier
+abbrev pub setting_policy_by : Setting → Option (List Row) → ℕ → Result (List Row) Inapplicable
+setting_policy_by setting earlier file = made_by (setting_file_at setting file) earlier
 
 -- what the first item that says something says: one more way, besides those of `Folds`
 abbrev pub journal_first_given : {X : Type 0} → (Item → Option X) → List Item → Option X
 journal_first_given tells [] = None
 journal_first_given tells (item ∷ items) = option_or (tells item) (journal_first_given tells items)
 
-abbrev pub item_gives_file : ℕ → Item → Option ℕ
-item_gives_file v (item.Submitted file version) = if version == v then Some file else None
-item_gives_file v _ = None
+abbrev pub machine_item_gives_file : ℕ → Item → Option ℕ
+machine_item_gives_file v (item.Submitted file version) = if version == v then Some file else None
+machine_item_gives_file v _ = None
 
 -- the file of a version: the first file is that of version 1, and any other version has the one
 -- with which it was submitted
 unfoldable pub file_of : List Item → ℕ → Option ℕ
-file_of journal version = if version == 1 then Some 1 else journal_first_given (item_gives_file version) journal
+file_of journal version = if version == 1 then Some 1 else journal_first_given (machine_item_gives_file version) journal
 
 -- the policy of a version, if it has one: what its file makes of that of the version before
 unfoldable pub policy_in : Setting → List Item → ℕ → Option (List Row)
 policy_in setting journal zero = None
 policy_in setting journal (suc version) =
-    option_and_then (λ file. result_ok (policy_by setting (policy_in setting journal version) file))
+    option_and_then (λ file. result_ok (setting_policy_by setting (policy_in setting journal version) file))
     (file_of journal (suc version))
 
 -- the plan of a version is that of its policy
@@ -81,8 +81,8 @@ NamesSettingPort setting (action.Out port) = IsTrue (is_some (net_port_owner set
 pub record IsSetting (setting : Setting) : Type 0 where
   pub net : IsNet setting.net
   pub made : setting ≡ setting_of setting.net setting.files
-  pub sound : All IsPolicyOrAmendment setting.files
-  pub ports : All (PolicyRulesGiveOnly (λ row. NamesSettingPort setting row.action)) setting.files
+  pub sound : All IsPolicyRulesOrAmendment setting.files
+  pub ports : All (PolicyFileRowsAre (λ row. NamesSettingPort setting row.action)) setting.files
   pub first : List Row
   pub whole : setting_file_at setting 1 ≡ Some (Whole first)
   pub planned : IsOk (setting.plan first)

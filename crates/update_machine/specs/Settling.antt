@@ -13,8 +13,8 @@ use Rattle.update_machine.specs.Marks.{acked_stamp, journal_current_mark, has_ac
 use Rattle.update_machine.specs.Messages.{send_items}
 use Rattle.update_machine.specs.Moves.{in_turn, journal_items_then}
 use Rattle.update_machine.specs.Setting.{Setting}
-use Rattle.update_machine.specs.SwitchNumbers.{switches_of}
-use Rattle.update_machine.specs.Touched.{touched_by}
+use Rattle.update_machine.specs.SwitchNumbers.{setting_switches_of}
+use Rattle.update_machine.specs.Touched.{machine_touched_by}
 use Rattle.update_machine.specs.Versions.{journal_tables_at, journal_version_count}
 
 -- ---- messages to a switch
@@ -34,7 +34,7 @@ journal_open_for journal version s = machine_message_to_switch s (OpenAt (journa
 -- stamp with this version, which was made by a change that touches these words
 abbrev pub journal_stamp_for : Setting → List Item → ℕ → ℕ → Message
 journal_stamp_for setting journal version s =
-    machine_message_to_switch s (Stamp (journal_known_boot journal s) version (touched_by setting journal version))
+    machine_message_to_switch s (Stamp (journal_known_boot journal s) version (machine_touched_by setting journal version))
 
 -- drop the tables up to this version
 abbrev pub machine_collect_for : List Item → ℕ → ℕ → Message
@@ -63,7 +63,7 @@ current_items setting journal =
 abbrev pub opening_switches : Setting → List Item → List ℕ
 opening_switches setting journal =
     filter (λ s. is_joining journal s && has_acked journal s (journal_current_mark journal))
-    (switches_of setting)
+    (setting_switches_of setting)
 
 -- these switches are told to serve
 unfoldable pub machine_open_items : Setting → List Item → List Item
@@ -72,14 +72,14 @@ machine_open_items setting journal =
     (opening_switches setting journal))
 
 -- retired rises as far as the members' stamps allow, and they are told to drop those tables
-unfoldable pub retired_items : Setting → List Item → List Item
-retired_items setting journal =
+unfoldable pub machine_retired_items : Setting → List Item → List Item
+machine_retired_items setting journal =
     raised_items journal_retired_mark journal_next_retired item.Retired machine_collect_for setting journal
 
 -- the three parts, one after another
 unfoldable pub settling : Setting → List Item → List Item
 settling setting journal =
-    in_turn (current_items setting ∷ machine_open_items setting ∷ retired_items setting ∷ []) journal
+    in_turn (current_items setting ∷ machine_open_items setting ∷ machine_retired_items setting ∷ []) journal
 
 -- ---- what else is sent
 
@@ -99,7 +99,7 @@ unfoldable pub machine_installs_to_all : Setting → List Item → List Item
 machine_installs_to_all setting journal =
     send_items journal
     (map (journal_install_for setting journal (journal_version_count journal))
-    (filter (λ s. not (is_over journal s)) (switches_of setting)))
+    (filter (λ s. not (is_over journal s)) (setting_switches_of setting)))
 
 -- a new version is submitted
 abbrev pub submitted_items : Setting → List Item → List Item

@@ -10,14 +10,14 @@ pub record StepItems : Type 0 where
   pub items : List Item
 
 -- the steps with one more item of the newest one
-abbrev pub steps_with_item : List StepItems → Item → List StepItems
-steps_with_item [] item = []
-steps_with_item (newest ∷ steps) item = record newest { items = newest.items ++ item ∷ [] } ∷ steps
+abbrev pub machine_steps_with_item : List StepItems → Item → List StepItems
+machine_steps_with_item [] item = []
+machine_steps_with_item (newest ∷ steps) item = record newest { items = newest.items ++ item ∷ [] } ∷ steps
 
 abbrev pub item_changes_steps : List Item → List StepItems → Item → List StepItems
 item_changes_steps before steps (item.Row row step) =
     record { before = before; items = item.Row row step ∷ [] } ∷ steps
-item_changes_steps before steps item = steps_with_item steps item
+item_changes_steps before steps item = machine_steps_with_item steps item
 
 -- the steps of a journal, the newest first
 unfoldable pub journal_steps_in : List Item → List StepItems

@@ -22,8 +22,8 @@ journal_next_touched setting journal file =
     touched_of (setting_file_at setting file) (policy_in setting journal (journal_version_count journal))
 
 -- what the file of a version touches of the policy of the version before, if there is one
-unfoldable pub touched_by : Setting → List Item → ℕ → List WordValue
-touched_by setting journal zero = cache_all_touched
-touched_by setting journal (suc version) =
+unfoldable pub machine_touched_by : Setting → List Item → ℕ → List WordValue
+machine_touched_by setting journal zero = cache_all_touched
+machine_touched_by setting journal (suc version) =
     touched_of (option_and_then (setting_file_at setting) (file_of journal (suc version)))
     (policy_in setting journal version)

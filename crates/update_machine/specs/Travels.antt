@@ -10,26 +10,26 @@ use Rattle.update_machine.specs.Packets.{is_packet, standing, journal_decision_o
 use Rattle.policy_rules.specs.declared.policy.Action.TheVariants as action
 use Rattle.journal.specs.declared.item.Item.TheVariants as item
 
-abbrev pub item_gives_ingress : ℕ → Item → Option ℕ
-item_gives_ingress i (item.Entered packet switch header) = if packet == i then Some switch else None
-item_gives_ingress i _ = None
+abbrev pub machine_item_gives_ingress : ℕ → Item → Option ℕ
+machine_item_gives_ingress i (item.Entered packet switch header) = if packet == i then Some switch else None
+machine_item_gives_ingress i _ = None
 
 -- the switch where it entered
 unfoldable pub journal_ingress_of : List Item → ℕ → Option ℕ
-journal_ingress_of journal i = journal_last_given (item_gives_ingress i) journal
+journal_ingress_of journal i = journal_last_given (machine_item_gives_ingress i) journal
 
-abbrev pub item_gives_travelling : ℕ → Item → Option Bool
-item_gives_travelling i (item.Entered packet switch header) = if packet == i then Some true else None
-item_gives_travelling i (item.Dropped packet) = if packet == i then Some false else None
-item_gives_travelling i (item.Left packet port leaving) = if packet == i then Some false else None
-item_gives_travelling i (item.Lost packet) = if packet == i then Some false else None
-item_gives_travelling i (item.Stuck packet switch cause leg down) =
+abbrev pub machine_item_gives_travelling : ℕ → Item → Option Bool
+machine_item_gives_travelling i (item.Entered packet switch header) = if packet == i then Some true else None
+machine_item_gives_travelling i (item.Dropped packet) = if packet == i then Some false else None
+machine_item_gives_travelling i (item.Left packet port leaving) = if packet == i then Some false else None
+machine_item_gives_travelling i (item.Lost packet) = if packet == i then Some false else None
+machine_item_gives_travelling i (item.Stuck packet switch cause leg down) =
     if packet == i then Some false else None
-item_gives_travelling i _ = None
+machine_item_gives_travelling i _ = None
 
 -- it entered and hasn't ended
 unfoldable pub travels : List Item → ℕ → Bool
-travels journal i = unwrap_or (journal_last_given (item_gives_travelling i) journal) false
+travels journal i = unwrap_or (journal_last_given (machine_item_gives_travelling i) journal) false
 
 -- the numbers of all packets, ascending
 abbrev pub journal_packets : List Item → List ℕ

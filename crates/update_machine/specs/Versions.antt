@@ -1,7 +1,7 @@
 -- The versions of a journal, their policies and plans, and which of them a switch has and stamps
--- packets with. Tables that are installed under a version before packets are stamped with it, and
--- are removed once none is, are those of Reitblatt, Foster, Rexford, Schlesinger and Walker,
--- "Abstractions for Network Update".
+-- packets with. An update has two phases: tables are installed before packets are stamped with
+-- their version, and removed once none is (Reitblatt, Foster, Rexford, Schlesinger and Walker,
+-- "Abstractions for Network Update").
 use Rattle.std.specs.Prelude.{[], if◌then◌else◌, ◌&&◌, ◌++◌, ◌+◌, ◌==◌, ◌||◌, ◌∷◌, ◌≡◌, Bool, Err, List, None, Ok, Option, Result, Some, false, filter_map, fold, is_some, max, nat_le, not, true, unwrap_or, ℕ}
 use Rattle.base.specs.Exports.{list_any, option_map_or}
 use Rattle.ctrl_msg.specs.declared.message.Body.{Body}
@@ -15,7 +15,7 @@ use Rattle.journal.specs.declared.item.Item.{Item}
 use Rattle.journal.specs.declared.item.Item.TheVariants as item
 use Rattle.update_machine.specs.Boots.{heard, is_first_boot_in_journal}
 use Rattle.update_machine.specs.Folds.{count_of}
-use Rattle.update_machine.specs.Setting.{Setting, file_of, policy_by, policy_in}
+use Rattle.update_machine.specs.Setting.{Setting, file_of, setting_policy_by, policy_in}
 use Rattle.partition.specs.Plan.{Hosted}
 
 -- ---- policies and plans
@@ -30,13 +30,13 @@ unfoldable pub journal_plan_at : Setting → List Item → ℕ → List Hosted
 journal_plan_at setting journal version =
     option_map_or (λ rows. setting_hosted_or_none (setting.plan rows)) (policy_in setting journal version) []
 
-abbrev pub is_submission : Item → Bool
-is_submission (item.Submitted file version) = true
-is_submission _ = false
+abbrev pub is_journal_submission : Item → Bool
+is_journal_submission (item.Submitted file version) = true
+is_journal_submission _ = false
 
 -- how many versions there are: the first policy's, and one for each that was submitted
 unfoldable pub journal_version_count : List Item → ℕ
-journal_version_count journal = count_of is_submission journal + 1
+journal_version_count journal = count_of is_journal_submission journal + 1
 
 -- the version exists: it is the first one, or was submitted
 abbrev pub is_version : List Item → ℕ → Bool
@@ -50,7 +50,7 @@ policy_at setting journal version = unwrap_or (policy_in setting journal version
 -- the newest one
 unfoldable pub journal_next_policy : Setting → List Item → ℕ → Result (List Row) Inapplicable
 journal_next_policy setting journal file =
-    policy_by setting (policy_in setting journal (journal_version_count journal)) file
+    setting_policy_by setting (policy_in setting journal (journal_version_count journal)) file
 
 -- the version has a policy, which has a plan
 pub record SettingHasPlan (setting : Setting) (journal : List Item) (version : ℕ) : Type 0 where
@@ -68,10 +68,10 @@ abbrev pub machine_greatest_stamp_number : List ℕ → ℕ
 machine_greatest_stamp_number numbers = fold max 0 numbers
 
 -- the version with which a switch may stamp after a body
-abbrev pub journal_stamp_in_body : Body → Option ℕ
-journal_stamp_in_body (OpenAt boot version) = Some version
-journal_stamp_in_body (Stamp boot version touched) = Some version
-journal_stamp_in_body _ = None
+abbrev pub machine_stamp_message_version : Body → Option ℕ
+machine_stamp_message_version (OpenAt boot version) = Some version
+machine_stamp_message_version (Stamp boot version touched) = Some version
+machine_stamp_message_version _ = None
 
 abbrev pub journal_first_stamp : List Item → ℕ → List ℕ
 journal_first_stamp journal s = if is_first_boot_in_journal journal s then 1 ∷ [] else []
@@ -80,7 +80,7 @@ journal_first_stamp journal s = if is_first_boot_in_journal journal s then 1 ∷
 -- counts in boot 1
 unfoldable pub journal_stamp_of : List Item → ℕ → ℕ
 journal_stamp_of journal s = machine_greatest_stamp_number (journal_first_stamp journal s
-    ++ filter_map journal_stamp_in_body (heard journal s))
+    ++ filter_map machine_stamp_message_version (heard journal s))
 
 -- ---- held versions
 
@@ -88,13 +88,13 @@ abbrev pub installs_version : ℕ → Body → Bool
 installs_version v (Install boot tables) = tables.version == v
 installs_version v _ = false
 
-abbrev pub journal_collects_version : ℕ → Body → Bool
-journal_collects_version v (Collect boot version) = nat_le v version
-journal_collects_version v _ = false
+abbrev pub is_collect_message_of_version : ℕ → Body → Bool
+is_collect_message_of_version v (Collect boot version) = nat_le v version
+is_collect_message_of_version v _ = false
 
 -- the version's tables were installed in this boot, or the switch began with them; and neither this
 -- version nor a greater one was collected
 unfoldable pub holds_version : List Item → ℕ → ℕ → Bool
 holds_version journal s v =
     (list_any (installs_version v) (heard journal s) || (v == 1 && is_first_boot_in_journal journal s))
-    && not (list_any (journal_collects_version v) (heard journal s))
+    && not (list_any (is_collect_message_of_version v) (heard journal s))

@@ -6,14 +6,14 @@ ghost use Rattle.policy_rules.specs.declared.file.PolicyFile.TheVariants.{Whole}
 ghost use Rattle.policy_rules.specs.declared.policy.Row.{Row};
 ghost use Rattle.journal.specs.declared.item.Item.TheVariants.{Submitted};
 ghost use Rattle.steps.specs.declared.step.Event.TheVariants.{One};
-ghost use Rattle.update_machine.specs.Exports.{Answers, JournalAnswersSoFar, AreAnsweredByJournal, AreNumbered, AreMachineStepsOf, JournalBeginsAnswer, JournalConcernLaws, Event, HasMachinePlay, HaveMachineSteps, IsJournalFull, IsMachinePlay, IsSetting, Item, JournalKnownLinkLaws, NamesSettingPort, Setting, StartLaws, Step, StepOfRow, JournalStopsFull, VersionsAreNumbered, journal_after_steps, setting_file_at, machine_journal_full_at, is_sending, is_version, setting_hosted_or_none, journal_next_policy, journal_plan_at, policy_at, policy_in, journal_version_count};
+ghost use Rattle.update_machine.specs.Exports.{Answers, JournalAnswersSoFar, AreAnsweredByJournal, AreNumbered, AreMachineStepsOf, JournalBeginsAnswer, JournalConcernLaws, Event, HasMachinePlay, HaveMachineSteps, IsMachineJournalFull, IsMachinePlay, IsSetting, Item, JournalKnownLinkLaws, NamesSettingPort, Setting, MachineStartLaws, Step, StepOfRow, JournalStopsFull, JournalVersionsAreNumbered, journal_after_steps, setting_file_at, machine_journal_full_at, is_sending, is_version, setting_hosted_or_none, journal_next_policy, journal_plan_at, policy_at, policy_in, journal_version_count};
 ghost use Rattle.update_machine.specs.Folds.{journal_all_given, count_of, journal_folded_value, folded_journal_from, journal_last_given};
 ghost use Rattle.update_machine.specs.Setting.{journal_first_given};
 ghost use Rattle.update_machine.specs.declared.full.TheConstants.{FULL_AT};
 
 /// What a journal says after more items: a law for each of the folds, whatever an item says.
 #[tactic(auto, using(crate::proofs::JournalBlockNumbers::last_given_append, crate::proofs::JournalBlockNumbers::first_given_append, crate::proofs::JournalBlockNumbers::folded_append))]
-pub fn journals_grow<X>()
+pub fn machine_journals_grow<X>()
     ensures last { (tells : Item → Option X) (before items : List Item)
         → journal_last_given tells (before ++ items)
         ≡ option_or (journal_last_given tells items) (journal_last_given tells before) }
@@ -31,7 +31,7 @@ pub fn journals_grow<X>()
 
 /// A schedule has at most one answer, and for each number of steps at most one journal of its first
 /// steps. An answer is such a journal, and each such journal is a beginning of an answer.
-pub fn answers_are_one()
+pub fn machine_answers_are_one()
     ensures one { (setting : Setting) (events : List Event) (one other : List Item)
         → Answers setting events one → Answers setting events other → one ≡ other }
     ensures so_far { (setting : Setting) (events : List Event) (one other : List Item)
@@ -69,31 +69,31 @@ pub fn plays_are_one()
         → JournalStopsFull setting events journal row → JournalAnswersSoFar setting events journal }
     ensures begins { (setting : Setting) (events : List Event) (journal : List Item) (row : ℕ)
         → JournalStopsFull setting events journal row → JournalBeginsAnswer setting events journal }
-    ensures full { (journal : List Item) → IsJournalFull journal ↔ machine_journal_full_at ≤ count_of is_sending journal }
+    ensures full { (journal : List Item) → IsMachineJournalFull journal ↔ machine_journal_full_at ≤ count_of is_sending journal }
     ensures constant { FULL_AT ≡ machine_journal_full_at }
 {}
 
 /// In an answer, and in each beginning of one, packets, messages and versions are numbered from 1
 /// without a gap.
-pub fn answers_are_numbered()
+pub fn machine_answers_are_numbered()
     ensures { (setting : Setting) (events : List Event) (journal : List Item)
         → JournalBeginsAnswer setting events journal → AreNumbered journal }
 {}
 
-/// A version that exists keeps its file whatever items follow, and it keeps its policy and its
-/// plan if all versions before it exist; in an answer each version from 1 to their count exists
-/// (`answers_are_numbered`). The plan is that of the policy. The first version has the policy of
-/// the first file, and the version that is submitted next has the next policy: what its file makes
-/// of the policy of the newest version. If the setting satisfies `IsSetting`, each policy satisfies
-/// `IsPolicy` and names only ports of the network.
-pub fn versions_keep_policies()
+/// A version that exists keeps its file whatever items follow, and it keeps its policy and its plan
+/// if all versions before it exist; in an answer each version from 1 to their count exists
+/// (`machine_answers_are_numbered`). The plan is that of the policy. The first version has the
+/// policy of the first file, and the version that is submitted next has the next policy: what its
+/// file makes of the policy of the newest version. If the setting satisfies `IsSetting`, each
+/// policy satisfies `IsPolicy` and names only ports of the network.
+pub fn machine_versions_keep_policies()
     ensures there { (before items : List Item) (version : ℕ) → IsTrue (is_version before version)
         → IsTrue (is_version (before ++ items) version) }
     ensures policy { (setting : Setting) (before items : List Item) (version : ℕ)
-        → VersionsAreNumbered before → version ≤ journal_version_count before
+        → JournalVersionsAreNumbered before → version ≤ journal_version_count before
         → policy_at setting (before ++ items) version ≡ policy_at setting before version }
     ensures plan { (setting : Setting) (before items : List Item) (version : ℕ)
-        → VersionsAreNumbered before → version ≤ journal_version_count before
+        → JournalVersionsAreNumbered before → version ≤ journal_version_count before
         → journal_plan_at setting (before ++ items) version ≡ journal_plan_at setting before version }
     ensures of_policy { (setting : Setting) (journal : List Item) (version : ℕ) (rows : List Row)
         → policy_in setting journal version ≡ Some rows
@@ -103,7 +103,7 @@ pub fn versions_keep_policies()
         → setting_file_at setting 1 ≡ Some (Whole rows) → (policy_at setting journal 1 ≡ rows)
         × (journal_plan_at setting journal 1 ≡ setting_hosted_or_none (setting.plan rows)) }
     ensures next { (setting : Setting) (before : List Item) (file version : ℕ) (rows : List Row)
-        → VersionsAreNumbered before → version ≡ journal_version_count before + 1
+        → JournalVersionsAreNumbered before → version ≡ journal_version_count before + 1
         → journal_next_policy setting before file ≡ Ok rows
         → (policy_at setting (before ++ Submitted file version ∷ []) version ≡ rows)
         × (journal_plan_at setting (before ++ Submitted file version ∷ []) version
@@ -115,7 +115,7 @@ pub fn versions_keep_policies()
 
 /// What a journal without items says.
 pub fn journals_start()
-    ensures { StartLaws }
+    ensures { MachineStartLaws }
 {}
 
 /// Items that don't concern a switch, a packet, a message, the links, the policies or the
@@ -127,6 +127,6 @@ pub fn other_items_change_nothing()
 /// A switch knows the newest advert of each other switch, and routes by the least shortest path
 /// over the links that it knows. A target is isolated exactly if it is another switch and no known
 /// link ends at it. There is no route to a port that no switch has.
-pub fn switches_know_links()
+pub fn machine_switches_know_links()
     ensures { JournalKnownLinkLaws }
 {}

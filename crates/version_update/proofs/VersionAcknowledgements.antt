@@ -2,7 +2,7 @@
 use Rattle.std.proofs.Common.{◌&&◌, ◌-◌, ◌<◌, ◌^◌, ◌||◌, ◌∙◌, ◌≡◌, ◌≤◌, ◌⊎◌, Bool, IsTrue, ap, arith, bit_or, cond, eq-eqb, eqb, false, inl, inr, max, ne_eqb, sym, true, ℕ, rules}
 use Rattle.base.proofs.Exports.{bit_at, bit_at-lt, bit_at-pow_other, bit_at-pow_same, bit_at-zero, bit_at_above, bit_at_or, cases_eq}
 use Rattle.version_update.specs.declared.record.SwitchRecord.{SwitchRecord}
-use Rattle.version_update.specs.Exports.{IsSoundRecord, mark_after_installed, first_record, has_acked, update_hello_recorded, update_takes_hello, mark_takes_installed}
+use Rattle.version_update.specs.Exports.{IsSoundUpdateRecord, mark_record_after_installed, first_record, has_acked, update_hello_recorded, update_takes_hello, mark_takes_installed}
 
 pub first_acked : (version : ℕ) → 1 ≤ version → has_acked first_record version ≡ eqb version 1
 first_acked version low = elim (cases_eq version 1) [
@@ -44,7 +44,7 @@ one_more acked version other low low' = by_version (cases_eq other version) wher
       ∙ ap (λ b. eqb (bit_at acked (other - 1)) 1 || b) (sym (ne_eqb other version apart))
 
 pub installed_acked : (boot version other : ℕ) (known : SwitchRecord) → 1 ≤ version → 1 ≤ other
-    → has_acked (mark_after_installed boot version known) other
+    → has_acked (mark_record_after_installed boot version known) other
     ≡ (has_acked known other || (mark_takes_installed boot known && eqb other version))
 installed_acked boot version other known low low' = by_test (mark_takes_installed boot known) where
   by_test : (taken : Bool)
@@ -54,6 +54,6 @@ installed_acked boot version other known low low' = by_test (mark_takes_installe
       ∙ one_more known.acked version other low low'
   by_test false = or_false (has_acked known other)
 
-pub past_acked : (count version : ℕ) (known : SwitchRecord) → IsSoundRecord count known
+pub past_acked : (count version : ℕ) (known : SwitchRecord) → IsSoundUpdateRecord count known
     → count < version → has_acked known version ≡ false
 past_acked count version known sound past = search (rules, bit_at_above)

@@ -4,7 +4,7 @@ use Rattle.base.proofs.Exports.{All-cons, All-head, All-nil, All-tail, bit_at-ze
 use Rattle.version_update.specs.declared.record.Phase.TheVariants.{Member}
 use Rattle.version_update.specs.declared.record.SwitchRecord.{SwitchRecord}
 use Rattle.version_update.specs.declared.marks.Settled.{Settled}
-use Rattle.version_update.specs.Exports.{AreUpdateMarksSettled, IsLeastOfMarks, MarksValue, Names, UpdateSettlingReports, CurrentRisesTo, Settles, least_of_marks, update_no_mark_rose, opened_update_record, update_joining_opens_at, mark_rises_to}
+use Rattle.version_update.specs.Exports.{AreVersionMarksSettled, IsLeastOfMarks, MarksValue, Names, VersionMarksSettlingReports, CurrentRisesTo, Settles, least_of_marks, update_no_mark_rose, opened_update_record, update_joining_opens_at, mark_rises_to}
 
 -- ---- one result
 
@@ -26,8 +26,8 @@ one_mask : (mask other : ℕ) (passes : SwitchRecord → Bool) (switches : List 
     → Names mask passes switches → Names other passes switches → mask ≡ other
 one_mask mask other passes switches one two = same_from_bits mask other (λ s. one s ∙ sym (two s))
 
-one_telling : (before after : MarksValue) (x y : Settled) → UpdateSettlingReports before after x
-    → UpdateSettlingReports before after y → x.taken ≡ y.taken → x ≡ y
+one_telling : (before after : MarksValue) (x y : Settled) → VersionMarksSettlingReports before after x
+    → VersionMarksSettlingReports before after y → x.taken ≡ y.taken → x ≡ y
 one_telling before after x y one two taken =
     let current : x.current ≡ y.current = one.current ∙ sym two.current in
     let stamps : x.stamps ≡ y.stamps = one_mask _ _ _ _ one.stamps two.stamps in
@@ -78,7 +78,7 @@ none_named current switches closed s = bit_at-zero s ∙ at_place switches s clo
   at_place (known ∷ more) (suc k) shut =
       at_place more k (All-tail (λ known. IsFalse (update_joining_opens_at current known)) known more shut)
 
-pub settled_stay : (marks : MarksValue) (taken : Bool) → AreUpdateMarksSettled marks
+pub settled_stay : (marks : MarksValue) (taken : Bool) → AreVersionMarksSettled marks
     → Settles marks marks (update_no_mark_rose taken)
 settled_stay marks taken settled = search (rules, all_stay, raised_none, names_none, none_named)
 

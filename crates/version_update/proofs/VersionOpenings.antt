@@ -2,7 +2,7 @@
 use Rattle.std.proofs.Common.{[], ◌<◌, ◌∷◌, ◌≡◌, ◌≤◌, All, IsFalse, IsTrue, List, arith, length, map, refl, replicate, true, ℕ, rules}
 use Rattle.base.proofs.Exports.{All-map, All-replicate, length-map, length-replicate, or_lt, pow-lt}
 use Rattle.version_update.specs.declared.record.SwitchRecord.{SwitchRecord}
-use Rattle.version_update.specs.Exports.{AreUpdateMarksBounded, AreUpdateMarksSettled, IsSoundRecord, MarksValue, CurrentRisesTo, mark_after_installed, all_have_acked, first_marks, first_record, is_member, opened_update_record, update_joining_opens_at, retired_of}
+use Rattle.version_update.specs.Exports.{AreVersionMarksBounded, AreVersionMarksSettled, IsSoundUpdateRecord, MarksValue, CurrentRisesTo, mark_record_after_installed, all_have_acked, first_marks, first_record, is_member, opened_update_record, update_joining_opens_at, retired_of}
 use Rattle.version_update.proofs.VersionLeastStamp.{least_acked_stamp-version}
 
 -- a member stays as it is
@@ -21,16 +21,16 @@ none_opens current switches = All-map (λ known. IsFalse (update_joining_opens_a
     (opened_update_record current) switches (λ k d within. opens_once current _)
 
 opened_at-sound : (count current : ℕ) (known : SwitchRecord) → 1 ≤ current → current ≤ count
-    → IsSoundRecord count known → IsSoundRecord count (opened_update_record current known)
+    → IsSoundUpdateRecord count known → IsSoundUpdateRecord count (opened_update_record current known)
 opened_at-sound count current known low high sound = search rules
 
 -- at the start
-pub first-bounded : (number : ℕ) → 1 ≤ number → number ≤ 64 → AreUpdateMarksBounded (first_marks number)
+pub first-bounded : (number : ℕ) → 1 ≤ number → number ≤ 64 → AreVersionMarksBounded (first_marks number)
 first-bounded number some few = search (rules, length-replicate, All-replicate)
 
 -- bounds are kept
-pub opened-bounded : (marks : MarksValue) → AreUpdateMarksBounded marks
-    → AreUpdateMarksBounded (record marks { switches = map (opened_update_record marks.current) marks.switches })
+pub opened-bounded : (marks : MarksValue) → AreVersionMarksBounded marks
+    → AreVersionMarksBounded (record marks { switches = map (opened_update_record marks.current) marks.switches })
 opened-bounded marks bounds =
     let len : length (map (opened_update_record marks.current) marks.switches) ≡ length marks.switches =
     simp length-map in record {
@@ -39,7 +39,7 @@ opened-bounded marks bounds =
       versions = bounds.versions;
       some = omega (arith, len, bounds.some);
       switches = omega (arith, len, bounds.switches);
-      records = All-map (IsSoundRecord marks.count) (opened_update_record marks.current) marks.switches
+      records = All-map (IsSoundUpdateRecord marks.count) (opened_update_record marks.current) marks.switches
           (λ k d within. opened_at-sound marks.count marks.current _ bounds.first bounds.last
           (bounds.records k d within));
     }
@@ -61,13 +61,13 @@ stopped-opened version current switches lacks = search (rules, all_acked-opened)
 pub settled_by : (before mid last : MarksValue) (current retired : ℕ) → CurrentRisesTo before current
     → mid ≡ record before { current = current; switches = map (opened_update_record current) before.switches }
     → last ≡ mid → retired ≡ retired_of mid → retired < mid.count
-    → AreUpdateMarksBounded (record last { retired = retired })
-    → AreUpdateMarksSettled (record last { retired = retired })
+    → AreVersionMarksBounded (record last { retired = retired })
+    → AreVersionMarksSettled (record last { retired = retired })
 settled_by before mid last current retired rises opened same is_retired live bounds =
     search (rules, stopped-opened, none_opens)
 
 -- at the start
-pub first-settled : (number : ℕ) → 1 ≤ number → number ≤ 64 → AreUpdateMarksSettled (first_marks number)
+pub first-settled : (number : ℕ) → 1 ≤ number → number ≤ 64 → AreVersionMarksSettled (first_marks number)
 first-settled number some few =
     let bounds = first-bounded number some few in
     let least = least_acked_stamp-version 1 1 (replicate number first_record) (omega arith) (omega arith)
@@ -81,6 +81,6 @@ first-settled number some few =
 
 -- one more version in the set
 pub installed-sound : (count boot version : ℕ) (known : SwitchRecord) → 1 ≤ version
-    → version ≤ count → IsSoundRecord count known
-    → IsSoundRecord count (mark_after_installed boot version known)
+    → version ≤ count → IsSoundUpdateRecord count known
+    → IsSoundUpdateRecord count (mark_record_after_installed boot version known)
 installed-sound count boot version known low high sound = search (rules, or_lt, pow-lt)

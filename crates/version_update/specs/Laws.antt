@@ -1,11 +1,11 @@
--- The laws of settling, and of the versions that a switch acknowledged: `x_laws` of the crate
--- ensures the record of each.
+-- The laws of settling, and of the versions that a switch acknowledged: a function of `src` ensures
+-- each record.
 use Rattle.std.specs.Prelude.{[], ◌&&◌, ◌<◌, ◌==◌, ◌||◌, ◌≡◌, ◌≤◌, All, Bool, Contains, IsTrue, List, MatchOption, None, Some, false, slice_get, ℕ}
 use Rattle.base.specs.Exports.{bit_at}
 use Rattle.version_update.specs.declared.record.SwitchRecord.{SwitchRecord}
 use Rattle.version_update.specs.declared.marks.Settled.{Settled}
-use Rattle.version_update.specs.Record.{has_acked, first_record, IsSoundRecord, update_takes_hello, update_hello_recorded, mark_takes_installed, mark_after_installed}
-use Rattle.version_update.specs.Marks.{MarksValue, least_of_marks, AreUpdateMarksSettled}
+use Rattle.version_update.specs.Record.{has_acked, first_record, IsSoundUpdateRecord, update_takes_hello, update_hello_recorded, mark_takes_installed, mark_record_after_installed}
+use Rattle.version_update.specs.Marks.{MarksValue, least_of_marks, AreVersionMarksSettled}
 use Rattle.version_update.specs.Settling.{Names, Settles}
 
 -- nothing rose, and nothing is sent
@@ -29,7 +29,7 @@ pub record UpdateSettlingLaws : Type 0 where
   pub one_answer : (before a b : MarksValue) (x y : Settled) → Settles before a x
       → Settles before b y → x.taken ≡ y.taken → x ≡ y
   -- settled marks stay unchanged
-  pub idle : (marks : MarksValue) (taken : Bool) → AreUpdateMarksSettled marks
+  pub idle : (marks : MarksValue) (taken : Bool) → AreVersionMarksSettled marks
       → Settles marks marks (update_no_mark_rose taken)
   -- a mask names switches that exist and that pass
   pub named : (mask s : ℕ) (passes : SwitchRecord → Bool) (switches : List SwitchRecord)
@@ -43,8 +43,8 @@ pub record UpdateRecordLaws : Type 0 where
   pub hello : (boot version : ℕ) (known : SwitchRecord) → IsTrue (update_takes_hello boot known)
       → has_acked (update_hello_recorded boot known) version ≡ false
   pub installed : (boot version other : ℕ) (known : SwitchRecord) → 1 ≤ version → 1 ≤ other →
-      has_acked (mark_after_installed boot version known) other
+      has_acked (mark_record_after_installed boot version known) other
       ≡ (has_acked known other || (mark_takes_installed boot known && other == version))
   -- no version beyond the last one is acknowledged
-  pub past : (count version : ℕ) (known : SwitchRecord) → IsSoundRecord count known
+  pub past : (count version : ℕ) (known : SwitchRecord) → IsSoundUpdateRecord count known
       → count < version → has_acked known version ≡ false

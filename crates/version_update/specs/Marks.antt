@@ -3,7 +3,7 @@
 use Rattle.std.specs.Prelude.{◌+◌, ◌-◌, ◌<◌, ◌≡◌, ◌≤◌, All, Bool, IsFalse, List, Option, filter, length, map, min, replicate, slice_index_or, slice_set, unwrap_or, ℕ}
 use Rattle.base.specs.Exports.{list_all, reduce}
 use Rattle.version_update.specs.declared.record.SwitchRecord.{SwitchRecord}
-use Rattle.version_update.specs.Record.{is_member, has_acked, first_record, unknown_switch_record, IsSoundRecord, update_joining_opens_at}
+use Rattle.version_update.specs.Record.{is_member, has_acked, first_record, unknown_switch_record, IsSoundUpdateRecord, update_joining_opens_at}
 
 -- the versions are 1 to count; those up to retired are retired; each switch is known at its number
 pub record MarksValue : Type 0 where
@@ -58,23 +58,23 @@ abbrev pub retired_of : MarksValue → ℕ
 retired_of marks = unwrap_or (least_of_marks (acked_stamps marks.switches)) marks.current - 1
 
 -- the marks are of 1 to 64 versions and of 1 to 64 switches
-pub record AreUpdateMarksBounded (marks : MarksValue) : Type 0 where
+pub record AreVersionMarksBounded (marks : MarksValue) : Type 0 where
   pub first : 1 ≤ marks.current
   pub last : marks.current ≤ marks.count
   pub versions : marks.count ≤ 64
   pub some : 1 ≤ length marks.switches
   pub switches : length marks.switches ≤ 64
-  pub records : All (IsSoundRecord marks.count) marks.switches
+  pub records : All (IsSoundUpdateRecord marks.count) marks.switches
 
 -- current can't rise, no joining switch can open, and retired is as far as the members allow
-pub record AreUpdateMarksSettled (marks : MarksValue) : Type 0 where
-  pub bounds : AreUpdateMarksBounded marks
+pub record AreVersionMarksSettled (marks : MarksValue) : Type 0 where
+  pub bounds : AreVersionMarksBounded marks
   pub stopped : marks.current < marks.count → IsFalse (all_have_acked (marks.current + 1) marks.switches)
   pub opened : All (λ known. IsFalse (update_joining_opens_at marks.current known)) marks.switches
   pub retired : marks.retired ≡ retired_of marks
   pub live : marks.retired < marks.count
 
 -- still settled, and of the same switches
-pub record UpdateMarksStaySettled (old new : MarksValue) : Type 0 where
-  pub settled : AreUpdateMarksSettled new
+pub record VersionMarksStaySettled (old new : MarksValue) : Type 0 where
+  pub settled : AreVersionMarksSettled new
   pub switches : length new.switches ≡ length old.switches

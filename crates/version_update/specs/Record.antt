@@ -37,7 +37,7 @@ abbrev pub unknown_switch_record : SwitchRecord
 unknown_switch_record = record { boot = 0; phase = Over; acked = 0; open_version = 0; acked_stamp = 0 }
 
 -- it names only the versions 1 to count, and a member acknowledged at least what it was opened at
-pub record IsSoundRecord (count : ℕ) (known : SwitchRecord) : Type 0 where
+pub record IsSoundUpdateRecord (count : ℕ) (known : SwitchRecord) : Type 0 where
   pub acked : known.acked < 2 ^ count
   pub open_version : IsTrue (is_member known.phase) → 1 ≤ known.open_version
   pub acked_stamp : IsTrue (is_member known.phase) → known.open_version ≤ known.acked_stamp
@@ -57,8 +57,8 @@ update_hello_recorded boot known = if update_takes_hello boot known then
 abbrev pub mark_takes_installed : ℕ → SwitchRecord → Bool
 mark_takes_installed boot known = (known.boot == boot) && not (is_over known.phase)
 
-abbrev pub mark_after_installed : ℕ → ℕ → SwitchRecord → SwitchRecord
-mark_after_installed boot version known = if mark_takes_installed boot known then record known
+abbrev pub mark_record_after_installed : ℕ → ℕ → SwitchRecord → SwitchRecord
+mark_record_after_installed boot version known = if mark_takes_installed boot known then record known
     { acked = bit_or known.acked (2 ^ (version - 1)) } else known
 
 -- a member stamps new packets with this version, in its known boot
@@ -70,8 +70,8 @@ update_after_stamped boot version known = if takes_stamped boot known then recor
     { acked_stamp = max known.acked_stamp version } else known
 
 -- it is over
-abbrev pub after_over : SwitchRecord → SwitchRecord
-after_over known = record known { phase = Over }
+abbrev pub mark_record_after_over : SwitchRecord → SwitchRecord
+mark_record_after_over known = record known { phase = Over }
 
 -- ---- opening
 

@@ -16,7 +16,7 @@ Names mask passes switches = (s : ℕ)
     → bit_at mask s ≡ from_bool (option_map_or passes (slice_get switches s) false)
 
 -- what rose, and the switches to send to
-pub record UpdateSettlingReports (before after : MarksValue) (answer : Settled) : Type 0 where
+pub record VersionMarksSettlingReports (before after : MarksValue) (answer : Settled) : Type 0 where
   pub current : answer.current ≡ mark_rises_to before.current after.current
   -- a new current version is sent to the members from before
   pub stamps : Names answer.stamps
@@ -43,4 +43,4 @@ pub record Settles (before after : MarksValue) (answer : Settled) : Type 0 where
   pub current : CurrentRisesTo before after.current
   pub switches : after.switches ≡ map (opened_update_record after.current) before.switches
   pub retired : after.retired ≡ retired_of after
-  pub tells : UpdateSettlingReports before after answer
+  pub tells : VersionMarksSettlingReports before after answer

@@ -1,6 +1,6 @@
 ghost use Rattle.std.specs.Prelude.{◌≡◌, ◌+◌, ◌<◌, ◌≤◌, length, map, replicate, slice_set};
-ghost use Rattle.version_update.specs.Record.{first_record, IsSoundRecord, update_joining_opens_at, opened_update_record};
-ghost use Rattle.version_update.specs.Marks.{first_marks, record_of, AreUpdateMarksBounded, UpdateMarksStaySettled, retired_of};
+ghost use Rattle.version_update.specs.Record.{first_record, IsSoundUpdateRecord, update_joining_opens_at, opened_update_record};
+ghost use Rattle.version_update.specs.Marks.{first_marks, record_of, AreVersionMarksBounded, VersionMarksStaySettled, retired_of};
 ghost use Rattle.version_update.specs.Settling.{Names, mark_rises_to, CurrentRisesTo, Settles};
 
 use crate::marks::Settled;
@@ -25,7 +25,7 @@ pub struct MarksLedger {
 
 impl Model for MarksLedger {
     ghost use Rattle.std.specs.Prelude.{◌≤◌, take};
-    ghost use Rattle.version_update.specs.Marks.{MarksValue, AreUpdateMarksBounded};
+    ghost use Rattle.version_update.specs.Marks.{MarksValue, AreVersionMarksBounded};
 
     ghost Value = { MarksValue };
 
@@ -36,7 +36,7 @@ impl Model for MarksLedger {
       switches = take l.number l.switches;
     } };
 
-    ghost invariant = { λ l. (l.number ≤ 64) × AreUpdateMarksBounded (record {
+    ghost invariant = { λ l. (l.number ≤ 64) × AreVersionMarksBounded (record {
       count = l.count;
       current = l.current;
       retired = l.retired;
@@ -63,7 +63,7 @@ impl MarksLedger {
     /// What is known of the switches, by their numbers.
     pub fn switches(&self) -> &[SwitchRecord]
         ensures switches { result.now ≡ self.now.switches }
-        ensures bounds { AreUpdateMarksBounded self.now }
+        ensures bounds { AreVersionMarksBounded self.now }
     {
         &self.switches[..self.number]
     }
@@ -72,7 +72,7 @@ impl MarksLedger {
     pub fn record(&self, s: u32) -> SwitchRecord
         requires { s < length self.now.switches }
         ensures record { result ≡ record_of self.now s }
-        ensures sound { IsSoundRecord self.now.count result }
+        ensures sound { IsSoundUpdateRecord self.now.count result }
     {
         self.switches[s as usize]
     }
@@ -80,7 +80,7 @@ impl MarksLedger {
     /// Replaces what is known of a switch.
     pub fn set_record(&mut self, s: u32, known: SwitchRecord)
         requires switch { s < length self.old.switches }
-        requires sound { IsSoundRecord self.old.count known }
+        requires sound { IsSoundUpdateRecord self.old.count known }
         ensures { self.new ≡ record self.old { switches = slice_set self.old.switches s known } }
     {
         self.switches[s as usize] = known;
@@ -97,7 +97,7 @@ impl MarksLedger {
     /// Settles, and returns what rose and to which switches to send.
     pub fn settle(&mut self, taken: bool) -> Settled
         ensures settled { Settles self.old self.new result }
-        ensures rule { UpdateMarksStaySettled self.old self.new }
+        ensures rule { VersionMarksStaySettled self.old self.new }
         ensures taken { result.taken ≡ taken }
     {
         let current = self.risen();

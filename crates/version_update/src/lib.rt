@@ -20,6 +20,6 @@ mod marks;
 mod record;
 mod switches;
 
-pub use laws::{acked_version_laws, settling_laws};
+pub use laws::{version_mark_settling_laws, version_update_acked_laws};
 pub use marks::{Marks, Settled, SubmitError};
 pub use record::Phase;

@@ -1,6 +1,6 @@
 ghost use Rattle.std.specs.Prelude.{◌≡◌, ◌≢◌, ◌-◌, ◌<◌, ◌≤◌, ◌↔◌, length, IsTrue, IfOk, OnErr, Err};
-ghost use Rattle.version_update.specs.Record.{is_member, has_acked, update_takes_hello, update_hello_recorded, mark_takes_installed, mark_after_installed, takes_stamped, update_after_stamped, after_over};
-ghost use Rattle.version_update.specs.Marks.{first_marks, record_of, at_switch, with_version, AreUpdateMarksSettled, UpdateMarksStaySettled};
+ghost use Rattle.version_update.specs.Record.{is_member, has_acked, update_takes_hello, update_hello_recorded, mark_takes_installed, mark_record_after_installed, takes_stamped, update_after_stamped, mark_record_after_over};
+ghost use Rattle.version_update.specs.Marks.{first_marks, record_of, at_switch, with_version, AreVersionMarksSettled, VersionMarksStaySettled};
 ghost use Rattle.version_update.specs.Settling.{Settles};
 ghost use Rattle.version_update.specs.declared.marks.SubmitError.TheVariants.{TooManyLive, TooManyVersions};
 
@@ -57,13 +57,13 @@ pub struct Marks {
 const _: () = prove!(size_of::<Marks>() <= 4096);
 
 impl Model for Marks {
-    ghost use Rattle.version_update.specs.Marks.{MarksValue, AreUpdateMarksSettled};
+    ghost use Rattle.version_update.specs.Marks.{MarksValue, AreVersionMarksSettled};
 
     ghost Value = { MarksValue };
 
     ghost view = { λ m. m.ledger };
 
-    ghost invariant = { λ m. AreUpdateMarksSettled m.ledger };
+    ghost invariant = { λ m. AreVersionMarksSettled m.ledger };
 }
 
 impl Marks {
@@ -72,7 +72,7 @@ impl Marks {
         requires some { 1 ≤ switches }
         requires few { switches ≤ 64 }
         ensures marks { result ≡ first_marks switches }
-        ensures rule { AreUpdateMarksSettled result }
+        ensures rule { AreVersionMarksSettled result }
     {
         Marks {
             ledger: MarksLedger::begin(switches),
@@ -84,7 +84,7 @@ impl Marks {
         requires { s < length self.old.switches }
         ensures taken { result.taken ≡ update_takes_hello boot (record_of self.old s) }
         ensures settled { Settles (at_switch s (update_hello_recorded boot) self.old) self.new result }
-        ensures rule { UpdateMarksStaySettled self.old self.new }
+        ensures rule { VersionMarksStaySettled self.old self.new }
     {
         let mut known = self.ledger.record(s);
         let taken = known.hello(boot);
@@ -100,8 +100,8 @@ impl Marks {
         requires last { version ≤ self.old.count }
         ensures taken { result.taken ≡ mark_takes_installed boot (record_of self.old s) }
         ensures settled { Settles
-            (at_switch s (mark_after_installed boot version) self.old) self.new result }
-        ensures rule { UpdateMarksStaySettled self.old self.new }
+            (at_switch s (mark_record_after_installed boot version) self.old) self.new result }
+        ensures rule { VersionMarksStaySettled self.old self.new }
     {
         let mut known = self.ledger.record(s);
         let taken = known.installed(boot, version);
@@ -118,7 +118,7 @@ impl Marks {
         ensures taken { result.taken ≡ takes_stamped boot (record_of self.old s) }
         ensures settled { Settles
             (at_switch s (update_after_stamped boot version) self.old) self.new result }
-        ensures rule { UpdateMarksStaySettled self.old self.new }
+        ensures rule { VersionMarksStaySettled self.old self.new }
     {
         let mut known = self.ledger.record(s);
         let taken = known.stamped(boot, version);
@@ -130,8 +130,8 @@ impl Marks {
     pub fn over(&mut self, s: u32) -> Settled
         requires { s < length self.old.switches }
         ensures taken { IsTrue result.taken }
-        ensures settled { Settles (at_switch s after_over self.old) self.new result }
-        ensures rule { UpdateMarksStaySettled self.old self.new }
+        ensures settled { Settles (at_switch s mark_record_after_over self.old) self.new result }
+        ensures rule { VersionMarksStaySettled self.old self.new }
     {
         let mut known = self.ledger.record(s);
         known.over();
@@ -151,7 +151,7 @@ impl Marks {
         ensures versions { (result ≡ Err TooManyVersions)
             ↔ ((self.old.count - self.old.retired ≢ 8) × (self.old.count ≡ 64)) }
         ensures refused { OnErr result (self.new ≡ self.old) }
-        ensures rule { UpdateMarksStaySettled self.old self.new }
+        ensures rule { VersionMarksStaySettled self.old self.new }
     {
         if let Some(error) = self.refusal() {
             return Err(error);
@@ -178,7 +178,7 @@ impl Marks {
     /// The current version, which every member acknowledged.
     pub fn current(&self) -> u32
         ensures current { result ≡ self.now.current }
-        ensures rule { AreUpdateMarksSettled self.now }
+        ensures rule { AreVersionMarksSettled self.now }
     {
         self.ledger.current
     }
@@ -186,7 +186,7 @@ impl Marks {
     /// The last version that is retired, or 0.
     pub fn retired(&self) -> u32
         ensures retired { result ≡ self.now.retired }
-        ensures rule { AreUpdateMarksSettled self.now }
+        ensures rule { AreVersionMarksSettled self.now }
     {
         self.ledger.retired
     }
@@ -194,7 +194,7 @@ impl Marks {
     /// How many versions there are.
     pub fn count(&self) -> u32
         ensures count { result ≡ self.now.count }
-        ensures rule { AreUpdateMarksSettled self.now }
+        ensures rule { AreVersionMarksSettled self.now }
     {
         self.ledger.count
     }

@@ -1,5 +1,5 @@
 ghost use Rattle.std.specs.Prelude.{◌≡◌, ◌<◌, ◌≤◌};
-ghost use Rattle.version_update.specs.Record.{is_member, has_acked, first_record, update_takes_hello, update_hello_recorded, mark_takes_installed, mark_after_installed, takes_stamped, update_after_stamped, after_over, update_joining_opens_at, opened_update_record};
+ghost use Rattle.version_update.specs.Record.{is_member, has_acked, first_record, update_takes_hello, update_hello_recorded, mark_takes_installed, mark_record_after_installed, takes_stamped, update_after_stamped, mark_record_after_over, update_joining_opens_at, opened_update_record};
 
 use base::has;
 
@@ -77,7 +77,7 @@ impl SwitchRecord {
         requires first { 1 ≤ version }
         requires last { version ≤ 64 }
         ensures taken { result ≡ mark_takes_installed boot self.old }
-        ensures after { self.new ≡ mark_after_installed boot version self.old }
+        ensures after { self.new ≡ mark_record_after_installed boot version self.old }
     {
         let taken = self.boot == boot && self.phase != Phase::Over;
         if taken {
@@ -98,7 +98,7 @@ impl SwitchRecord {
     }
 
     pub fn over(&mut self)
-        ensures { self.new ≡ after_over self.old }
+        ensures { self.new ≡ mark_record_after_over self.old }
     {
         self.phase = Phase::Over;
     }

@@ -6,7 +6,7 @@ use Rattle.wire.specs.declared.assembler.FrameCheck.TheVariants.{Held, New}
 use Rattle.base.specs.Exports.{IfRefused}
 use Rattle.base.specs.declared.error.Failure.{Failure}
 use Rattle.wire.specs.declared.error.Malformed.{Malformed}
-use Rattle.wire.specs.Exports.{WireFramesAgree, AreWireFramesHeld, AreFrames, AreNoWireMessageFrames, AreFramesRising, AreWireFramesTogether, IsWireMessageAssembled, IsAssemblerFed, IsFrameCheck, IsFrameOfCount, IsRefusedFrame, WireFrameJoins, another_count, another_frame, count_in_frame, frame_held_at, no_message, past_the_count, place_in_frame, too_long, too_short, frames_with_frame}
+use Rattle.wire.specs.Exports.{WireFramesAgree, AreWireFramesHeld, AreFrames, AreNoWireMessageFrames, AreWireFramesRising, AreWireFramesTogether, IsWireMessageAssembled, IsAssemblerFed, IsFrameCheck, IsFrameOfCount, IsRefusedFrame, WireFrameJoins, another_count, another_frame, count_in_frame, frame_held_at, no_message, past_the_count, place_in_frame, too_long, too_short, frames_with_frame}
 use Rattle.wire.proofs.WireFormatLaws.{AreBytes}
 use Rattle.wire.proofs.WireFrameBytes.{frame_again}
 use Rattle.wire.proofs.WireFrameAssembly.{rising_few}
@@ -44,18 +44,18 @@ other_than g gs place le none = elim (cases_lt place (place_in_frame g)) [
 -- ---- frames behind a place
 
 -- no frame is at a lower place
-pub none_below : (from count : ℕ) (fs : List (List ℕ)) (place : ℕ) → AreFramesRising from count fs → place < from → frame_held_at fs place ≡ None
+pub none_below : (from count : ℕ) (fs : List (List ℕ)) (place : ℕ) → AreWireFramesRising from count fs → place < from → frame_held_at fs place ≡ None
 none_below from count [] place rising lt = refl
 none_below from count (f ∷ fs) place rising lt = let le = rising.0 in
     rw (later_place (place_in_frame f) place (omega arith)) (none_below (place_in_frame f + 1) count fs place rising.2 (omega arith))
 
-pub none_lower : (from count : ℕ) (fs : List (List ℕ)) (place : ℕ) → AreFramesRising from count fs → place < from
+pub none_lower : (from count : ℕ) (fs : List (List ℕ)) (place : ℕ) → AreWireFramesRising from count fs → place < from
     → filter (λ g. ltb (place_in_frame g) place) fs ≡ []
 none_lower from count [] place rising lt = refl
 none_lower from count (f ∷ fs) place rising lt = let le = rising.0 in
     rw (not_below (place_in_frame f) place (omega arith)) (none_lower (place_in_frame f + 1) count fs place rising.2 (omega arith))
 
-pub all_higher : (from count : ℕ) (fs : List (List ℕ)) (place : ℕ) → AreFramesRising from count fs → place < from
+pub all_higher : (from count : ℕ) (fs : List (List ℕ)) (place : ℕ) → AreWireFramesRising from count fs → place < from
     → filter (λ g. ltb place (place_in_frame g)) fs ≡ fs
 all_higher from count [] place rising lt = refl
 all_higher from count (f ∷ fs) place rising lt = let le = rising.0 in
@@ -67,7 +67,7 @@ all_higher from count (f ∷ fs) place rising lt = let le = rising.0 in
 pub step_held : (f : List ℕ) (fs : List (List ℕ)) (place : ℕ) → place_in_frame f < place → frame_held_at (f ∷ fs) place ≡ frame_held_at fs place
 step_held f fs place lt = rw (other_place (place_in_frame f) place lt) refl
 
-enough : (from count : ℕ) (fs : List (List ℕ)) → AreFramesRising from count fs
+enough : (from count : ℕ) (fs : List (List ℕ)) → AreWireFramesRising from count fs
     → ((place : ℕ) → from ≤ place → place < count → IsSome (frame_held_at fs place)) → count - from ≤ length fs
 enough from count [] rising held = elim (cases_lt from count) [
   | inl lt ↦ absurd (none_is_not_some (frame_held_at [] from) refl (held from (omega arith) lt))
@@ -86,7 +86,7 @@ enough from count (f ∷ fs) rising held =
           omega arith
     ]
 
-all_there : (from count : ℕ) (fs : List (List ℕ)) → AreFramesRising from count fs → length fs + from ≡ count
+all_there : (from count : ℕ) (fs : List (List ℕ)) → AreWireFramesRising from count fs → length fs + from ≡ count
     → (place : ℕ) → from ≤ place → place < count → IsSome (frame_held_at fs place)
 all_there from count [] rising all place le lt = absurd (omega arith)
 all_there from count (f ∷ fs) rising all place le lt =
@@ -101,24 +101,24 @@ all_there from count (f ∷ fs) rising all place le lt =
           rw (at, same_place (place_in_frame f)) refl
     ]
 
-pub all_held : (count : ℕ) (fs : List (List ℕ)) → AreFramesRising 0 count fs → length fs ≡ count → AreWireFramesHeld fs count
+pub all_held : (count : ℕ) (fs : List (List ℕ)) → AreWireFramesRising 0 count fs → length fs ≡ count → AreWireFramesHeld fs count
 all_held count fs rising all place lt = all_there 0 count fs rising (omega arith) place (omega arith) lt
 
-pub held_all : (count : ℕ) (fs : List (List ℕ)) → AreFramesRising 0 count fs → AreWireFramesHeld fs count → length fs ≡ count
+pub held_all : (count : ℕ) (fs : List (List ℕ)) → AreWireFramesRising 0 count fs → AreWireFramesHeld fs count → length fs ≡ count
 held_all count fs rising held =
     let few = rising_few 0 count fs rising in
     let many = enough 0 count fs rising (λ place le lt. held place lt) in omega arith
 
 -- ---- a frame that is held already
 
-pub held_above : (from count : ℕ) (fs : List (List ℕ)) (place : ℕ) (f : List ℕ) → AreFramesRising from count fs
+pub held_above : (from count : ℕ) (fs : List (List ℕ)) (place : ℕ) (f : List ℕ) → AreWireFramesRising from count fs
     → frame_held_at fs place ≡ Some f → from ≤ place
 held_above from count fs place f rising at = elim (cases_lt place from) [
   | inl lt ↦ absurd (none_is_not f (sym (none_below from count fs place rising lt) ∙ at))
   | inr le ↦ le
 ]
 
-pub held_stays : (from count : ℕ) (fs : List (List ℕ)) (f : List ℕ) → AreFramesRising from count fs → frame_held_at fs (place_in_frame f) ≡ Some f → frames_with_frame fs f ≡ fs
+pub held_stays : (from count : ℕ) (fs : List (List ℕ)) (f : List ℕ) → AreWireFramesRising from count fs → frame_held_at fs (place_in_frame f) ≡ Some f → frames_with_frame fs f ≡ fs
 held_stays from count [] f rising e = absurd (none_is_not f e)
 held_stays from count (g ∷ gs) f rising e = elim (cases_lt (place_in_frame g) (place_in_frame f)) [
   | inl lt ↦
@@ -139,7 +139,7 @@ held_stays from count (g ∷ gs) f rising e = elim (cases_lt (place_in_frame g) 
 abbrev pub index_of : List (List ℕ) → ℕ → ℕ
 index_of fs place = position_or_len (λ g. leb place (place_in_frame g)) fs
 
-pub new_joins : (from count : ℕ) (fs : List (List ℕ)) (f : List ℕ) → AreFramesRising from count fs → frame_held_at fs (place_in_frame f) ≡ None
+pub new_joins : (from count : ℕ) (fs : List (List ℕ)) (f : List ℕ) → AreWireFramesRising from count fs → frame_held_at fs (place_in_frame f) ≡ None
     → frames_with_frame fs f ≡ insert fs (index_of fs (place_in_frame f)) f
 new_joins from count [] f rising none = refl
 new_joins from count (g ∷ gs) f rising none =
@@ -160,8 +160,8 @@ new_joins from count (g ∷ gs) f rising none =
           ) refl
     ]
 
-pub new_rises : (from count : ℕ) (fs : List (List ℕ)) (f : List ℕ) → AreFramesRising from count fs → from ≤ place_in_frame f → IsFrameOfCount count f
-    → frame_held_at fs (place_in_frame f) ≡ None → AreFramesRising from count (frames_with_frame fs f)
+pub new_rises : (from count : ℕ) (fs : List (List ℕ)) (f : List ℕ) → AreWireFramesRising from count fs → from ≤ place_in_frame f → IsFrameOfCount count f
+    → frame_held_at fs (place_in_frame f) ≡ None → AreWireFramesRising from count (frames_with_frame fs f)
 new_rises from count [] f rising le of none = (le, of, tt)
 new_rises from count (g ∷ gs) f rising le of none =
     elim (cases_lt (place_in_frame g) (place_in_frame f)) [
@@ -188,11 +188,11 @@ index_within (g ∷ gs) place = elim (cases_lt (place_in_frame g) place) [
 
 -- ---- the count of held frames
 
-pub rising_together : (count : ℕ) (fs : List (List ℕ)) → AreFramesRising 0 count fs → AreWireFramesTogether fs
+pub rising_together : (count : ℕ) (fs : List (List ℕ)) → AreWireFramesRising 0 count fs → AreWireFramesTogether fs
 rising_together count [] rising = tt
-rising_together count (f ∷ fs) rising = subst (λ n. AreFramesRising 0 n (f ∷ fs)) (sym rising.1.count_is) rising
+rising_together count (f ∷ fs) rising = subst (λ n. AreWireFramesRising 0 n (f ∷ fs)) (sym rising.1.count_is) rising
 
-pub held_count : (from count : ℕ) (fs : List (List ℕ)) (place : ℕ) (g : List ℕ) → AreFramesRising from count fs → frame_held_at fs place ≡ Some g → count_in_frame g ≡ count
+pub held_count : (from count : ℕ) (fs : List (List ℕ)) (place : ℕ) (g : List ℕ) → AreWireFramesRising from count fs → frame_held_at fs place ≡ Some g → count_in_frame g ≡ count
 held_count from count [] place g rising e = absurd (none_is_not g e)
 held_count from count (f ∷ fs) place g rising e = elim (cases_eq (place_in_frame f) place) [
   | inl same ↦ subst (λ h. count_in_frame h ≡ count) (first_is f g fs place same e) rising.1.count_is
@@ -204,7 +204,7 @@ held_count from count (f ∷ fs) place g rising e = elim (cases_eq (place_in_fra
 pub agree_first : (fs : List (List ℕ)) (g : List ℕ) (count : ℕ) (b : Bool) → AreWireFramesTogether fs → slice_get fs 0 ≡ Some g → b ≡ eqb (count_in_frame g) count → WireFramesAgree fs count b
 agree_first [] g count b together e is = absurd (none_is_not g e)
 agree_first (f ∷ fs) g count true together e is = let same : f ≡ g = same_Some f g e in
-    subst (λ n. AreFramesRising 0 n (f ∷ fs)) (ap count_in_frame same ∙ eqb-true _ _ (sym is)) together
+    subst (λ n. AreWireFramesRising 0 n (f ∷ fs)) (ap count_in_frame same ∙ eqb-true _ _ (sym is)) together
 agree_first (f ∷ fs) g count false together e is =
     let same : f ≡ g = same_Some f g e in
     let at : frame_held_at (f ∷ fs) (place_in_frame f) ≡ Some f = rw (same_place (place_in_frame f)) refl in
@@ -216,7 +216,7 @@ pub of_its_count : (f : List ℕ) → 9 ≤ length f → AreBytes f → place_in
 of_its_count f long are below = record { below = below; whole = frame_again f (omega arith) are; count_is = refl }
 
 pub check_held : (held : List (List ℕ)) (f g : List ℕ) → 9 ≤ length f → length f ≤ 16384
-    → place_in_frame f < count_in_frame f → AreFramesRising 0 (count_in_frame f) held
+    → place_in_frame f < count_in_frame f → AreWireFramesRising 0 (count_in_frame f) held
     → frame_held_at held (place_in_frame f) ≡ Some g → g ≡ f → IsFrameCheck held f Held
 check_held held f g long short below rising at same =
     let is : frame_held_at held (place_in_frame f) ≡ Some f = at ∙ ap (λ h. Some h) same in (
@@ -225,7 +225,7 @@ check_held held f g long short below rising at same =
     )
 
 pub check_new : (held : List (List ℕ)) (f : List ℕ) (index : ℕ) → 9 ≤ length f → length f ≤ 16384
-    → AreBytes f → place_in_frame f < count_in_frame f → AreFramesRising 0 (count_in_frame f) held
+    → AreBytes f → place_in_frame f < count_in_frame f → AreWireFramesRising 0 (count_in_frame f) held
     → frame_held_at held (place_in_frame f) ≡ None → index ≡ index_of held (place_in_frame f)
     → IsFrameCheck held f (New index)
 check_new held f index long short are below rising none at =
@@ -235,7 +235,7 @@ check_new held f index long short are below rising none at =
       record { long = long; short = short; below = below; rising = rising; same = λ h at2. absurd (none_is_not h (sym none ∙ at2)) },
       within,
       joins,
-      subst (AreFramesRising 0 (count_in_frame f)) joins rises,
+      subst (AreWireFramesRising 0 (count_in_frame f)) joins rises,
     )
 
 -- the index of the first frame at a place or behind it
@@ -274,7 +274,7 @@ fed_err held f after error together refused unchanged = record {
 }
 
 pub fed : (held : List (List ℕ)) (f : List ℕ) (after : List (List ℕ)) (result : Result (Option Message) (Failure Malformed))
-    → AreWireFramesTogether held → WireFrameJoins held f → AreFramesRising 0 (count_in_frame f) (frames_with_frame held f) → IsWireMessageAssembled (frames_with_frame held f) (count_in_frame f) result
+    → AreWireFramesTogether held → WireFrameJoins held f → AreWireFramesRising 0 (count_in_frame f) (frames_with_frame held f) → IsWireMessageAssembled (frames_with_frame held f) (count_in_frame f) result
     → OnOk result (after ≡ frames_with_frame held f) → OnErr result (after ≡ held) → IsAssemblerFed held f after result
 fed held f after (Ok None) together joins rising answer is unchanged =
     let incomplete : AreWireFramesHeld (frames_with_frame held f) (count_in_frame f) → ⊥ = λ all. answer (held_all (count_in_frame f) (frames_with_frame held f) rising all) in

@@ -5,11 +5,11 @@ use Rattle.ctrl_msg.specs.declared.message.Place.{Place}
 use Rattle.base.specs.Exports.{IfRefused}
 use Rattle.base.specs.declared.error.Failure.{Failure}
 use Rattle.wire.specs.declared.error.Malformed.{Malformed}
-use Rattle.wire.specs.Exports.{Gives, IsFront, message_front, read_front, spelled_front}
+use Rattle.wire.specs.Exports.{Gives, IsFront, message_front, wire_read_front, spelled_front}
 use Rattle.wire.proofs.WireFormatLaws.{AreBytes, then_some}
 use Rattle.wire.proofs.WireLawfulFormats.{front_lawful}
 
-front_takes : (bytes : List ℕ) (f : Place × ℕ) (rest : List ℕ) → AreBytes bytes → read_front bytes ≡ Some (f, rest)
+front_takes : (bytes : List ℕ) (f : Place × ℕ) (rest : List ℕ) → AreBytes bytes → wire_read_front bytes ≡ Some (f, rest)
     → IsFront f.0 f.1 bytes
 front_takes bytes f rest are e =
     let b = then_some (message_front.read bytes)
@@ -27,7 +27,7 @@ front_takes bytes f rest are e =
     } in
     subst (λ (p : (Place × ℕ) × List ℕ). IsFront p.0.0 p.0.1 bytes) h.1 is
 
-front_again : (bytes : List ℕ) (to : Place) (boot : ℕ) → IsFront to boot bytes → read_front bytes ≡ Some ((to, boot), [])
+front_again : (bytes : List ℕ) (to : Place) (boot : ℕ) → IsFront to boot bytes → wire_read_front bytes ≡ Some ((to, boot), [])
 front_again bytes to boot is =
     rw (ap message_front.read (is.spelled ∙ sym (append-nil (spelled_front to boot)))
     ∙ front_lawful.again (to, (1, boot)) [] is.fits) refl
@@ -39,13 +39,13 @@ one_front bytes a b i j first second =
     (same_Some ((a, i), []) ((b, j), []) (sym (front_again bytes a i first) ∙ front_again bytes b j second))
 
 pub front_found : (r : Result (Place × ℕ) (Failure Malformed)) (bytes rest : List ℕ) → AreBytes bytes
-    → Gives (λ f. f) (read_front bytes) r rest → IfOk r (λ f. IsFront f.0 f.1 bytes)
+    → Gives (λ f. f) (wire_read_front bytes) r rest → IfOk r (λ f. IsFront f.0 f.1 bytes)
 front_found (Ok f) bytes rest are gives = front_takes bytes f rest are gives
 front_found (Err error) bytes rest are gives = tt
 
-pub no_front : (r : Result (Place × ℕ) (Failure Malformed)) (bytes rest : List ℕ) → Gives (λ f. f) (read_front bytes) r rest
+pub no_front : (r : Result (Place × ℕ) (Failure Malformed)) (bytes rest : List ℕ) → Gives (λ f. f) (wire_read_front bytes) r rest
     → IfErr r (IfRefused (λ _. (to : Place) (boot : ℕ) → IsFront to boot bytes → ⊥))
 no_front (Ok f) bytes rest gives = tt
-no_front (Err error) bytes rest gives = IfRefused-weaker (λ _. read_front bytes ≡ None)
+no_front (Err error) bytes rest gives = IfRefused-weaker (λ _. wire_read_front bytes ≡ None)
     (λ _. (to : Place) (boot : ℕ) → IsFront to boot bytes → ⊥) (λ _ none to boot is. none_is_not
     ((to, boot), []) (sym none ∙ front_again bytes to boot is)) error gives

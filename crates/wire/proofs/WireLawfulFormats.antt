@@ -7,7 +7,7 @@ use Rattle.ctrl_msg.specs.declared.message.Body.{Body}
 use Rattle.ctrl_msg.specs.declared.message.Body.TheVariants.{Install, OpenAt, Stamp, Collect, CacheRule, Advertise, Hello, Installed, Stamped}
 use Rattle.policy_rules.specs.declared.policy.Action.{Action}
 use Rattle.policy_rules.specs.declared.policy.Action.TheVariants.{Drop, Out}
-use Rattle.wire.specs.Exports.{◌⊗◌, Format, acknowledgement, action, wire_action_by_port, advert, body, boot_and_version, cache_rule_form, wire_cache_rule_of, fields_fit, hello, install_form, is_wire_word_pair, kind_number, made_body, message, message_front, n1, n16, n4, n8, wire_optional, partition, wire_port_in_action, read_wire_fields, receiver, wire_receiver_of, region, rule, rule_name, wire_spelled_fields, stamp_form, wire_body_suits_receiver, switch, tables, wire_target_count, targets, wire_format_then_read, touched, wire_touched_count, word}
+use Rattle.wire.specs.Exports.{◌⊗◌, Format, acknowledgement, action, wire_action_by_port, advert, body, boot_and_version, cache_rule_form, wire_cache_rule_of, wire_fields_fit, hello, install_form, is_wire_word_pair, kind_number, made_body, message, message_front, n1, n16, n4, n8, wire_optional, partition, wire_port_in_action, read_wire_fields, receiver, wire_receiver_of, region, rule, rule_name, wire_spelled_fields, stamp_form, wire_body_suits_receiver, switch, tables, wire_target_count, targets, wire_format_then_read, touched, wire_touched_count, word}
 use Rattle.wire.proofs.WireFormatLaws.{AreBytes, Takes, IsLawful, then_some, n8-bits, n32-bits, n64-bits, ◌⊠◌, as_type_lawful, such_that_lawful, optional_lawful, list_lawful}
 
 n1_lawful : IsLawful n1
@@ -153,12 +153,12 @@ acknowledged_lawful = switch_lawful ⊠ of_version_lawful
 -- a body of a kind was taken from bytes behind that kind
 record TakesFields (kind : ℕ) (b : Body) (bytes rest : List ℕ) : Type 0 where
   pub kind_is : kind_number b ≡ kind
-  pub fit : fields_fit b ≡ true
+  pub fit : wire_fields_fit b ≡ true
   pub parts : bytes ≡ wire_spelled_fields b ++ rest
   pub rest_are : AreBytes rest
 
 kind_takes : {A : Type 0} (make : A → Body) (f : Format A) (kind : ℕ)
-    → ((x : A) → kind_number (make x) ≡ kind) → ((x : A) → wire_spelled_fields (make x) ≡ f.spell x) → ((x : A) → fields_fit (make x) ≡ f.fits x)
+    → ((x : A) → kind_number (make x) ≡ kind) → ((x : A) → wire_spelled_fields (make x) ≡ f.spell x) → ((x : A) → wire_fields_fit (make x) ≡ f.fits x)
     → IsLawful f → (bytes : List ℕ) (b : Body) (rest : List ℕ) → AreBytes bytes
     → made_body make (f.read bytes) ≡ Some (b, rest)
     → TakesFields kind b bytes rest
@@ -213,7 +213,7 @@ fields_take k bytes b rest are e = elim (cond_cases (eqb k 1) _ _ _ e) [
   ]
 ]
 
-fields_again : (b : Body) (rest : List ℕ) → fields_fit b ≡ true → read_wire_fields (kind_number b) (wire_spelled_fields b ++ rest) ≡ Some (b, rest)
+fields_again : (b : Body) (rest : List ℕ) → wire_fields_fit b ≡ true → read_wire_fields (kind_number b) (wire_spelled_fields b ++ rest) ≡ Some (b, rest)
 fields_again (Install boot tables) rest fits = rw (install_lawful.again (boot, tables) rest fits) refl
 fields_again (OpenAt boot version) rest fits = rw (of_version_lawful.again (boot, version) rest fits) refl
 fields_again (Stamp boot version touched) rest fits = rw (stamp_lawful.again (boot, (version, touched)) rest fits) refl

@@ -6,7 +6,7 @@ use Rattle.wire.specs.declared.assembler.FrameCheck.TheVariants.{Refused, Held, 
 use Rattle.base.specs.Exports.{IfRefused}
 use Rattle.base.specs.declared.error.Failure.{Failure}
 use Rattle.wire.specs.declared.error.Malformed.{Malformed}
-use Rattle.wire.specs.Frames.{AreFrames, place_in_frame, count_in_frame, chunk_of, frame}
+use Rattle.wire.specs.Frames.{AreFrames, place_in_frame, count_in_frame, chunk_in_frame, frame}
 
 -- the frame at a place
 abbrev pub frame_held_at : List (List ℕ) → ℕ → Option (List ℕ)
@@ -38,19 +38,19 @@ pub data IsRefusedFrame (held : List (List ℕ)) (f : List ℕ) : Type 0 where
 -- a frame of this count, whose place is below it
 pub record IsFrameOfCount (count : ℕ) (f : List ℕ) : Type 0 where
   pub below : place_in_frame f < count
-  pub whole : f ≡ frame (place_in_frame f) count (chunk_of f)
+  pub whole : f ≡ frame (place_in_frame f) count (chunk_in_frame f)
   pub count_is : count_in_frame f ≡ count
 
 -- frames of one count, at rising places from this one on
-abbrev pub AreFramesRising : ℕ → ℕ → List (List ℕ) → Type 0
-AreFramesRising from count [] = Unit {0}
-AreFramesRising from count (f ∷ fs) =
-    (from ≤ place_in_frame f) × IsFrameOfCount count f × AreFramesRising (place_in_frame f + 1) count fs
+abbrev pub AreWireFramesRising : ℕ → ℕ → List (List ℕ) → Type 0
+AreWireFramesRising from count [] = Unit {0}
+AreWireFramesRising from count (f ∷ fs) =
+    (from ≤ place_in_frame f) × IsFrameOfCount count f × AreWireFramesRising (place_in_frame f + 1) count fs
 
--- the frames are of one count, each of its own place
+-- the frames are of one count, at rising places
 abbrev pub AreWireFramesTogether : List (List ℕ) → Type 0
 AreWireFramesTogether [] = Unit {0}
-AreWireFramesTogether (f ∷ fs) = AreFramesRising 0 (count_in_frame f) (f ∷ fs)
+AreWireFramesTogether (f ∷ fs) = AreWireFramesRising 0 (count_in_frame f) (f ∷ fs)
 
 -- ---- what an assembler returns
 
@@ -71,7 +71,7 @@ IsWireMessageAssembled fs count (Err error) = IfRefused (λ _. AreNoWireMessageF
 
 -- the frames are of this count, or one of them isn't
 abbrev pub WireFramesAgree : List (List ℕ) → ℕ → Bool → Type 0
-WireFramesAgree held count true = AreFramesRising 0 count held
+WireFramesAgree held count true = AreWireFramesRising 0 count held
 WireFramesAgree held count false =
     (place : ℕ) × (g : List ℕ) × (frame_held_at held place ≡ Some g) × (count_in_frame g ≢ count)
 
@@ -80,7 +80,7 @@ pub record WireFrameJoins (held : List (List ℕ)) (f : List ℕ) : Type 0 where
   pub long : 9 ≤ length f
   pub short : length f ≤ 16384
   pub below : place_in_frame f < count_in_frame f
-  pub rising : AreFramesRising 0 (count_in_frame f) held
+  pub rising : AreWireFramesRising 0 (count_in_frame f) held
   pub same : (g : List ℕ) → frame_held_at held (place_in_frame f) ≡ Some g → g ≡ f
 
 -- where a frame belongs among those that have come: nowhere, at the place where it already is, or
@@ -90,7 +90,7 @@ IsFrameCheck held f Refused = IsRefusedFrame held f
 IsFrameCheck held f Held = WireFrameJoins held f × (frames_with_frame held f ≡ held)
 IsFrameCheck held f (New index) =
     WireFrameJoins held f × (index ≤ length held) × (frames_with_frame held f ≡ insert held index f)
-    × AreFramesRising 0 (count_in_frame f) (insert held index f)
+    × AreWireFramesRising 0 (count_in_frame f) (insert held index f)
 
 -- the result of feeding a frame, and the frames after it
 pub record IsAssemblerFed (held : List (List ℕ)) (f : List ℕ) (after : List (List ℕ))

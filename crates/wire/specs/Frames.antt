@@ -18,35 +18,35 @@ wire_equal_chunks zero n bytes = []
 wire_equal_chunks (suc count) n bytes = take n bytes ∷ wire_equal_chunks count n (drop n bytes)
 
 -- a head of this many bytes, and the rest in as few chunks as possible
-abbrev pub chunks_behind_head : ℕ → List ℕ → List (List ℕ)
-chunks_behind_head head bytes =
+abbrev pub wire_chunks_behind_head : ℕ → List ℕ → List (List ℕ)
+wire_chunks_behind_head head bytes =
     take head bytes
     ∷ wire_equal_chunks (div_ceil (length bytes - head) most_of_chunk) most_of_chunk (drop head bytes)
 
 -- for an installation the receiver, the kind and the boot, so that its other chunks encode only
 -- the tables; for any other message everything
-abbrev pub first_chunk_len : Body → List ℕ → ℕ
-first_chunk_len (Install _ _) bytes = 6
-first_chunk_len _ bytes = length bytes
+abbrev pub wire_first_chunk_len : Body → List ℕ → ℕ
+wire_first_chunk_len (Install _ _) bytes = 6
+wire_first_chunk_len _ bytes = length bytes
 
-abbrev pub chunks : Message → List (List ℕ)
-chunks m = let bytes = message.spell m in chunks_behind_head (first_chunk_len m.body bytes) bytes
+abbrev pub wire_chunks : Message → List (List ℕ)
+wire_chunks m = let bytes = message.spell m in wire_chunks_behind_head (wire_first_chunk_len m.body bytes) bytes
 
 -- the place of a chunk, how many there are, and the chunk
 unfoldable pub frame : ℕ → ℕ → List ℕ → List ℕ
 frame place count chunk = n4.spell place ++ n4.spell count ++ chunk
 
 -- the frames of chunks at the places from this one on
-abbrev pub frames_from : ℕ → ℕ → List (List ℕ) → List (List ℕ)
-frames_from place count [] = []
-frames_from place count (chunk ∷ others) =
-    frame place count chunk ∷ frames_from (place + 1) count others
+abbrev pub wire_frames_from : ℕ → ℕ → List (List ℕ) → List (List ℕ)
+wire_frames_from place count [] = []
+wire_frames_from place count (chunk ∷ others) =
+    frame place count chunk ∷ wire_frames_from (place + 1) count others
 
 abbrev pub frames_of : List (List ℕ) → List (List ℕ)
-frames_of parts = frames_from 0 (length parts) parts
+frames_of parts = wire_frames_from 0 (length parts) parts
 
 abbrev pub frames : Message → List (List ℕ)
-frames m = frames_of (chunks m)
+frames m = frames_of (wire_chunks m)
 
 -- the message has an encoding, and these are its frames
 pub record AreFrames (m : Message) (fs : List (List ℕ)) : Type 0 where
@@ -82,5 +82,5 @@ place_in_frame bytes = from_be_bytes w32 (take 4 bytes)
 unfoldable pub count_in_frame : List ℕ → ℕ
 count_in_frame bytes = from_be_bytes w32 (take 4 (drop 4 bytes))
 
-abbrev pub chunk_of : List ℕ → List ℕ
-chunk_of bytes = drop 8 bytes
+abbrev pub chunk_in_frame : List ℕ → List ℕ
+chunk_in_frame bytes = drop 8 bytes

@@ -96,8 +96,8 @@ wire_fields_in_format (Stamped switch boot version) = wire_spelled_in_format ack
 abbrev pub wire_spelled_fields : Body → List ℕ
 wire_spelled_fields body = (wire_fields_in_format body).0
 
-abbrev pub fields_fit : Body → Bool
-fields_fit body = (wire_fields_in_format body).1
+abbrev pub wire_fields_fit : Body → Bool
+wire_fields_fit body = (wire_fields_in_format body).1
 
 -- the body that the fields make
 abbrev pub made_body : {A : Type 0} → (A → Body) → Option (A × List ℕ) → Option (Body × List ℕ)
@@ -122,7 +122,7 @@ read_wire_fields kind bytes =
 unfoldable pub body : Format Body
 body = record {
   spell = λ b. form.n1.spell (kind_number b) ++ wire_spelled_fields b;
-  fits = fields_fit;
+  fits = wire_fields_fit;
   read = λ bytes. wire_format_then_read (form.n1.read bytes) (λ kind. read_wire_fields kind.0 kind.1);
 }
 
@@ -142,8 +142,8 @@ pub record IsFront (to : Place) (boot : ℕ) (bytes : List ℕ) : Type 0 where
   pub spelled : bytes ≡ spelled_front to boot
 
 -- the receiver and the boot, if the bytes are exactly the front of an installation
-abbrev pub read_front : List ℕ → Option ((Place × ℕ) × List ℕ)
-read_front bytes =
+abbrev pub wire_read_front : List ℕ → Option ((Place × ℕ) × List ℕ)
+wire_read_front bytes =
     wire_format_then_read (message_front.read bytes) (λ x.
     if x.0.1.0 == 1
     then (if length x.1 == 0 then Some ((x.0.0, x.0.1.1), x.1) else None)
@@ -167,7 +167,7 @@ whole_message bytes = wire_format_then_read (message.read bytes) (λ m. if lengt
 
 -- the bytes are the encoding of the message: each number fits its bytes, each switch is below 64,
 -- each list is shorter than 2^32, and the receiver suits the body
-pub record IsSpelling (m : Message) (bytes : List ℕ) : Type 0 where
+pub record IsWireSpelling (m : Message) (bytes : List ℕ) : Type 0 where
   pub fits : message.fits m ≡ true
   pub spelled : bytes ≡ message.spell m
 

@@ -5,7 +5,7 @@ use Rattle.base.specs.declared.error.Failure.{Failure}
 use Rattle.wire.specs.declared.error.Malformed.{Malformed}
 use Rattle.ctrl_msg.specs.declared.message.Body.{Body}
 use Rattle.wire.specs.Format.{Format}
-use Rattle.wire.specs.Messages.{fields_fit, wire_spelled_fields}
+use Rattle.wire.specs.Messages.{wire_fields_fit, wire_spelled_fields}
 
 -- the result, seen by view, and the bytes that are left are what was read, unless memory ran out
 abbrev pub Gives : {X A : Type 0} → (X → A) → Option (A × List ℕ)
@@ -30,5 +30,5 @@ pub record AppendsEncodedItems {A : Type 0} (f : Format A) (xs : List A) (before
 
 -- the fields of the body have an encoding, which is at the end of the new bytes
 pub record AppendsWireFields (b : Body) (before after : List ℕ) : Type 0 where
-  pub fits : fields_fit b ≡ true
+  pub fits : wire_fields_fit b ≡ true
   pub bytes : after ≡ before ++ wire_spelled_fields b

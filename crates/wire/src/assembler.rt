@@ -3,11 +3,11 @@ ghost use Rattle.std.specs.Option.{option_copied};
 ghost use Rattle.std.specs.List.{insert, position, position_or_len};
 ghost use Rattle.base.specs.Refusals.{IfRefused};
 ghost use Rattle.wire.specs.Frames.{AreFrames, count_in_frame, place_in_frame};
-ghost use Rattle.wire.specs.Assembly.{WireFramesAgree, AreWireFramesHeld, AreFramesRising, AreWireFramesTogether, IsWireMessageAssembled, IsAssemblerFed, IsRefusedFrame, IsFrameCheck, frame_held_at, frames_with_frame};
+ghost use Rattle.wire.specs.Assembly.{WireFramesAgree, AreWireFramesHeld, AreWireFramesRising, AreWireFramesTogether, IsWireMessageAssembled, IsAssemblerFed, IsRefusedFrame, IsFrameCheck, frame_held_at, frames_with_frame};
 
 use crate::assembly::{are_same_frame_bytes, wire_message_of};
 use crate::error::{Malformed, WireError};
-use crate::frame::{Frame, HEADER_LEN, count_of, place_of};
+use crate::frame::{Frame, HEADER_LEN, wire_count_of, wire_place_of};
 use crate::frames::MAX_FRAME;
 use ctrl_msg::Message;
 use std::alloc::Global;
@@ -68,7 +68,7 @@ fn feed(frames: &mut Vec<Frame>, alloc: Global, frame: &[u8]) -> Result<Option<M
 {
     match frame_check_of(frames, frame) {
         FrameCheck::Refused => Err(WireError::Refused(Malformed)),
-        FrameCheck::Held => wire_message_of(alloc, count_of(frame), frames),
+        FrameCheck::Held => wire_message_of(alloc, wire_count_of(frame), frames),
         FrameCheck::New(index) => hold(frames, alloc, index, frame),
     }
 }
@@ -82,7 +82,7 @@ fn hold(
 ) -> Result<Option<Message>, WireError>
     requires index { index ≤ length frames.old.items }
     requires long { 8 ≤ length frame.now }
-    requires rising { AreFramesRising 0 (count_in_frame frame.now) (insert frames.old.items index frame.now) }
+    requires rising { AreWireFramesRising 0 (count_in_frame frame.now) (insert frames.old.items index frame.now) }
     ensures answer { let held = insert frames.old.items index frame.now in
         IsWireMessageAssembled held (count_in_frame frame.now) result }
     ensures ok { OnOk result (frames.new.items ≡ insert frames.old.items index frame.now) }
@@ -90,7 +90,7 @@ fn hold(
 {
     let copy = Frame::copied(alloc, frame)?;
     frames.insert(index, copy)?;
-    match wire_message_of(alloc, count_of(frame), frames) {
+    match wire_message_of(alloc, wire_count_of(frame), frames) {
         Ok(answer) => Ok(answer),
         Err(error) => {
             let _ = frames.remove(index);
@@ -119,10 +119,10 @@ fn frame_check_of(frames: &[Frame], frame: &[u8]) -> FrameCheck
     if frame.len() > MAX_FRAME {
         return FrameCheck::Refused;
     }
-    if count_of(frame) <= place_of(frame) {
+    if wire_count_of(frame) <= wire_place_of(frame) {
         return FrameCheck::Refused;
     }
-    if !agree(frames, count_of(frame)) {
+    if !agree(frames, wire_count_of(frame)) {
         return FrameCheck::Refused;
     }
     frame_check_among(frames, frame)
@@ -144,11 +144,11 @@ fn frame_check_among(frames: &[Frame], frame: &[u8]) -> FrameCheck
     requires long { 9 ≤ length frame.now }
     requires short { length frame.now ≤ 16384 }
     requires below { place_in_frame frame.now < count_in_frame frame.now }
-    requires rising { AreFramesRising 0 (count_in_frame frame.now) frames.now }
+    requires rising { AreWireFramesRising 0 (count_in_frame frame.now) frames.now }
     ensures { IsFrameCheck frames.now frame.now result }
 {
-    let place = place_of(frame);
-    match find_at(frames, place) {
+    let place = wire_place_of(frame);
+    match find_wire_frame_at(frames, place) {
         Some(held) => {
             if are_same_frame_bytes(held.bytes(), frame) {
                 FrameCheck::Held
@@ -156,29 +156,29 @@ fn frame_check_among(frames: &[Frame], frame: &[u8]) -> FrameCheck
                 FrameCheck::Refused
             }
         }
-        None => FrameCheck::New(index_of(frames, place)),
+        None => FrameCheck::New(wire_frame_index_of(frames, place)),
     }
 }
 
 // The frame of this place; `None` if it hasn't come.
-fn find_at(frames: &[Frame], place: u32) -> Option<&Frame>
+fn find_wire_frame_at(frames: &[Frame], place: u32) -> Option<&Frame>
     ensures { option_copied result ≡ frame_held_at frames.now place }
 {
     frames.iter().find(|frame| frame.place() == place)
 }
 
 // The index of the first frame of this place or a higher one.
-fn first_behind(frames: &[Frame], place: u32) -> Option<usize>
+fn first_wire_frame_from(frames: &[Frame], place: u32) -> Option<usize>
     ensures { result ≡ position (λ f. nat_le place (place_in_frame f)) frames.now }
 {
     frames.iter().position(|frame| place <= frame.place())
 }
 
 // How many frames are before the first of this place or a higher one.
-fn index_of(frames: &[Frame], place: u32) -> usize
+fn wire_frame_index_of(frames: &[Frame], place: u32) -> usize
     ensures { result ≡ position_or_len (λ f. nat_le place (place_in_frame f)) frames.now }
 {
-    match first_behind(frames, place) {
+    match first_wire_frame_from(frames, place) {
         Some(index) => index,
         None => frames.len(),
     }

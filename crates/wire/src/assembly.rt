@@ -1,12 +1,12 @@
 ghost use Rattle.std.specs.Prelude.{◌≡◌, ◌↔◌, length, map, IsTrue, IfOk};
 ghost use Rattle.std.specs.List.{flat_map};
-ghost use Rattle.wire.specs.Frames.{chunk_of};
-ghost use Rattle.wire.specs.Assembly.{AreFramesRising, IsWireMessageAssembled, IsWireMessageWhole};
+ghost use Rattle.wire.specs.Frames.{chunk_in_frame};
+ghost use Rattle.wire.specs.Assembly.{AreWireFramesRising, IsWireMessageAssembled, IsWireMessageWhole};
 
 use crate::codec::decode;
 use crate::error::{Malformed, WireError};
 use crate::frame::Frame;
-use crate::frames::{MAX_CHUNK, cut, first_chunk_len};
+use crate::frames::{MAX_CHUNK, cut, wire_first_chunk_len};
 use ctrl_msg::Message;
 use std::alloc::{AllocError, Global};
 
@@ -19,7 +19,7 @@ pub(crate) fn are_same_frame_bytes(a: &[u8], b: &[u8]) -> bool
 
 // The chunks, one after the other.
 fn joined(alloc: Global, frames: &[Frame]) -> Result<Vec<u8>, AllocError>
-    ensures { IfOk result (λ bytes. bytes.items ≡ flat_map chunk_of frames.now) }
+    ensures { IfOk result (λ bytes. bytes.items ≡ flat_map chunk_in_frame frames.now) }
 {
     let mut bytes = Vec::with_capacity(alloc, frames.len().saturating_mul(MAX_CHUNK))?;
     for frame in frames {
@@ -30,7 +30,7 @@ fn joined(alloc: Global, frames: &[Frame]) -> Result<Vec<u8>, AllocError>
 
 // Whether these are the chunks of the frames.
 fn are_frame_chunks(frames: &[Frame], parts: &[&[u8]]) -> bool
-    ensures { IsTrue result ↔ (map chunk_of frames.now ≡ map (λ p. p.now) parts.now) }
+    ensures { IsTrue result ↔ (map chunk_in_frame frames.now ≡ map (λ p. p.now) parts.now) }
 {
     if frames.len() != parts.len() {
         return false;
@@ -45,12 +45,12 @@ fn are_frame_chunks(frames: &[Frame], parts: &[&[u8]]) -> bool
 
 // The message of these frames, whose chunks make these bytes.
 fn decoded_frames(alloc: Global, frames: &[Frame], bytes: &[u8]) -> Result<Message, WireError>
-    requires rising { AreFramesRising 0 (length frames.now) frames.now }
-    requires bytes { bytes.now ≡ flat_map chunk_of frames.now }
+    requires rising { AreWireFramesRising 0 (length frames.now) frames.now }
+    requires bytes { bytes.now ≡ flat_map chunk_in_frame frames.now }
     ensures { IsWireMessageWhole frames.now result }
 {
     let message = decode(alloc, bytes)?;
-    let parts = cut(alloc, first_chunk_len(&message.body, bytes), bytes)?;
+    let parts = cut(alloc, wire_first_chunk_len(&message.body, bytes), bytes)?;
     if are_frame_chunks(frames, &parts) {
         Ok(message)
     } else {
@@ -59,8 +59,8 @@ fn decoded_frames(alloc: Global, frames: &[Frame], bytes: &[u8]) -> Result<Messa
 }
 
 // The message of all of its frames.
-fn complete(alloc: Global, frames: &[Frame]) -> Result<Message, WireError>
-    requires { AreFramesRising 0 (length frames.now) frames.now }
+fn complete_wire_message(alloc: Global, frames: &[Frame]) -> Result<Message, WireError>
+    requires { AreWireFramesRising 0 (length frames.now) frames.now }
     ensures { IsWireMessageWhole frames.now result }
 {
     let bytes = joined(alloc, frames)?;
@@ -76,11 +76,11 @@ pub(crate) fn wire_message_of(
     count: u32,
     frames: &[Frame],
 ) -> Result<Option<Message>, WireError>
-    requires { AreFramesRising 0 count frames.now }
+    requires { AreWireFramesRising 0 count frames.now }
     ensures { IsWireMessageAssembled frames.now count result }
 {
     if frames.len() != count as usize {
         return Ok(None);
     }
-    complete(alloc, frames).map(Some)
+    complete_wire_message(alloc, frames).map(Some)
 }

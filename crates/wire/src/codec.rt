@@ -3,13 +3,13 @@ ghost use Rattle.ctrl_msg.specs.declared.message.Message.{Message};
 ghost use Rattle.base.specs.Refusals.{IfRefused};
 ghost use Rattle.wire.specs.Fields as form;
 ghost use Rattle.wire.specs.Messages as kinds;
-ghost use Rattle.wire.specs.Messages.{AreWireShort, WireFieldsSuit, HasSpelling, IsSpelling, IsWirePlace, wire_cache_rule_of, kind_number, made_body, read_wire_fields, whole_message};
+ghost use Rattle.wire.specs.Messages.{AreWireShort, WireFieldsSuit, HasSpelling, IsWireSpelling, IsWirePlace, wire_cache_rule_of, kind_number, made_body, read_wire_fields, whole_message};
 ghost use Rattle.wire.specs.Reading.{AppendsWireForm, AppendsWireFields, Gives, WireFormatReads};
 
 use crate::error::{Malformed, WireError};
 use crate::fields::{
-    put_action, put_rule_name, put_wire_switch, put_wire_touched, put_word, read_rule_name,
-    read_touched, read_wire_action, read_wire_switch, read_wire_word,
+    put_action, put_wire_rule_name, put_wire_switch, put_wire_touched, put_word, read_touched,
+    read_wire_action, read_wire_rule_name, read_wire_switch, read_wire_word,
 };
 use crate::parts::{put_tables, read_wire_tables};
 use crate::reader::ByteReader;
@@ -65,7 +65,7 @@ fn read_install(reader: &mut ByteReader) -> Result<(u32, SharedTables), WireErro
 }
 
 #[tactic(auto, unfolding(crate::specs::Messages::boot_and_version))]
-fn read_of_version(reader: &mut ByteReader) -> Result<(u32, u32), WireError>
+fn read_wire_boot_version(reader: &mut ByteReader) -> Result<(u32, u32), WireError>
     ensures { WireFormatReads kinds.boot_and_version reader.old result reader.new }
 {
     let boot = reader.n4()?;
@@ -74,7 +74,7 @@ fn read_of_version(reader: &mut ByteReader) -> Result<(u32, u32), WireError>
 }
 
 #[tactic(auto, unfolding(crate::specs::Messages::stamp_form))]
-fn read_stamp(reader: &mut ByteReader) -> Result<(u32, u32, Shared<Touched>), WireError>
+fn read_wire_stamp(reader: &mut ByteReader) -> Result<(u32, u32, Shared<Touched>), WireError>
     ensures { let read = kinds.stamp_form.read reader.old in
         Gives (λ p. (p.0, (p.1, p.2))) read result reader.new }
 {
@@ -98,14 +98,14 @@ fn read_advert(reader: &mut ByteReader) -> Result<Advert, WireError>
 }
 
 #[tactic(auto, unfolding(crate::specs::Messages::cache_rule_form))]
-fn read_cache_rule(reader: &mut ByteReader) -> Result<Body, WireError>
+fn read_wire_cache_rule(reader: &mut ByteReader) -> Result<Body, WireError>
     ensures { let read = made_body wire_cache_rule_of (kinds.cache_rule_form.read reader.old) in
         Gives (λ body. body) read result reader.new }
 {
     Ok(Body::CacheRule {
         version: reader.n4()?,
         word: read_wire_word(reader)?,
-        rule: read_rule_name(reader)?,
+        rule: read_wire_rule_name(reader)?,
         action: read_wire_action(reader)?,
     })
 }
@@ -125,7 +125,7 @@ fn read_acknowledged(reader: &mut ByteReader) -> Result<(u32, u32, u32), WireErr
         Gives (λ p. (p.0, (p.1, p.2))) read result reader.new }
 {
     let switch = read_wire_switch(reader)?;
-    let (boot, version) = read_of_version(reader)?;
+    let (boot, version) = read_wire_boot_version(reader)?;
     Ok((switch, boot, version))
 }
 
@@ -134,14 +134,14 @@ fn read_wire_fields(kind: u8, reader: &mut ByteReader) -> Result<Body, WireError
 {
     match kind {
         1 => read_install(reader).map(|(boot, tables)| Body::Install { boot, tables }),
-        2 => read_of_version(reader).map(|(boot, version)| Body::OpenAt { boot, version }),
-        3 => read_stamp(reader).map(|(boot, version, touched)| Body::Stamp {
+        2 => read_wire_boot_version(reader).map(|(boot, version)| Body::OpenAt { boot, version }),
+        3 => read_wire_stamp(reader).map(|(boot, version, touched)| Body::Stamp {
             boot,
             version,
             touched,
         }),
-        4 => read_of_version(reader).map(|(boot, version)| Body::Collect { boot, version }),
-        5 => read_cache_rule(reader),
+        4 => read_wire_boot_version(reader).map(|(boot, version)| Body::Collect { boot, version }),
+        5 => read_wire_cache_rule(reader),
         6 => read_advert(reader).map(|advert| Body::Advertise { advert }),
         7 => read_hello(reader).map(|(switch, boot)| Body::Hello { switch, boot }),
         8 => read_acknowledged(reader).map(|(switch, boot, version)| Body::Installed {
@@ -204,7 +204,7 @@ fn put_install(out: &mut Vec<u8>, boot: u32, tables: &SharedTables) -> Result<()
 }
 
 #[tactic(auto, unfolding(crate::specs::Messages::boot_and_version))]
-fn put_of_version(out: &mut Vec<u8>, boot: u32, version: u32) -> Result<(), AllocError>
+fn put_wire_boot_and_version(out: &mut Vec<u8>, boot: u32, version: u32) -> Result<(), AllocError>
     ensures { OnOk result (AppendsWireForm kinds.boot_and_version (boot, version) out.old.items
         out.new.items) }
 {
@@ -228,13 +228,18 @@ fn put_stamp(
 }
 
 #[tactic(auto, unfolding(crate::specs::Messages::cache_rule_form))]
-fn put_cache_rule(out: &mut Vec<u8>, version: u32, word: &Word, hit: Hit) -> Result<(), AllocError>
+fn put_wire_cache_rule(
+    out: &mut Vec<u8>,
+    version: u32,
+    word: &Word,
+    hit: Hit,
+) -> Result<(), AllocError>
     ensures { OnOk result (AppendsWireForm kinds.cache_rule_form (version, (word.now, (hit.rule, hit.action)))
         out.old.items out.new.items) }
 {
     put_n4(out, version)?;
     put_word(out, word)?;
-    put_rule_name(out, hit.rule)?;
+    put_wire_rule_name(out, hit.rule)?;
     put_action(out, hit.action)
 }
 
@@ -287,10 +292,10 @@ fn put_acknowledged(
         out.old.items out.new.items) }
 {
     put_wire_switch(out, switch)?;
-    put_of_version(out, boot, version)
+    put_wire_boot_and_version(out, boot, version)
 }
 
-fn kind_of(body: &Body) -> u8
+fn wire_kind_of_body(body: &Body) -> u8
     ensures { result ≡ kind_number body.now }
 {
     match body {
@@ -313,7 +318,7 @@ fn put_fields(out: &mut Vec<u8>, body: &Body) -> Result<(), AllocError>
     match body {
         Body::Install { boot, tables } => put_install(out, *boot, tables),
         Body::OpenAt { boot, version } | Body::Collect { boot, version } => {
-            put_of_version(out, *boot, *version)
+            put_wire_boot_and_version(out, *boot, *version)
         }
         Body::Stamp {
             boot,
@@ -330,7 +335,7 @@ fn put_fields(out: &mut Vec<u8>, body: &Body) -> Result<(), AllocError>
                 rule: *rule,
                 action: *action,
             };
-            put_cache_rule(out, *version, word, hit)
+            put_wire_cache_rule(out, *version, word, hit)
         }
         Body::Advertise { advert } => put_advert(out, advert),
         Body::Hello { switch, boot } => put_hello(out, *switch, *boot),
@@ -352,7 +357,7 @@ fn put_body(out: &mut Vec<u8>, body: &Body) -> Result<(), AllocError>
     requires { WireFieldsSuit body.now }
     ensures { OnOk result (AppendsWireForm kinds.body body.now out.old.items out.new.items) }
 {
-    put_n1(out, kind_of(body))?;
+    put_n1(out, wire_kind_of_body(body))?;
     put_fields(out, body)
 }
 
@@ -377,7 +382,7 @@ pub fn append(out: &mut Vec<u8>, message: &Message) -> Result<(), AllocError>
 /// Only out of memory.
 pub fn encode(alloc: Global, message: &Message) -> Result<Vec<u8>, AllocError>
     requires { HasSpelling message.now }
-    ensures { IfOk result (λ bytes. IsSpelling message.now bytes.items) }
+    ensures { IfOk result (λ bytes. IsWireSpelling message.now bytes.items) }
 {
     let mut bytes = Vec::new(alloc);
     append(&mut bytes, message)?;
@@ -390,11 +395,11 @@ pub fn encode(alloc: Global, message: &Message) -> Result<Vec<u8>, AllocError>
 /// `Malformed` exactly if they are the encoding of no message; or out of memory.
 #[tactic(auto, using(crate::proofs::WireDecoding::found, crate::proofs::WireDecoding::only, crate::proofs::WireDecoding::malformed))]
 pub fn decode(alloc: Global, bytes: &[u8]) -> Result<Message, WireError>
-    ensures found { IfOk result (λ message. IsSpelling message bytes.now) }
+    ensures found { IfOk result (λ message. IsWireSpelling message bytes.now) }
     ensures only { IfOk result (λ message.
-        (other : Message) → IsSpelling other bytes.now → other ≡ message) }
+        (other : Message) → IsWireSpelling other bytes.now → other ≡ message) }
     ensures malformed { IfErr result (IfRefused (λ _.
-        (message : Message) → IsSpelling message bytes.now → ⊥)) }
+        (message : Message) → IsWireSpelling message bytes.now → ⊥)) }
 {
     whole(&mut ByteReader::new(alloc, bytes))
 }

@@ -52,7 +52,7 @@ pub(crate) fn put_word(out: &mut Vec<u8>, word: &Word) -> Result<(), AllocError>
 }
 
 #[tactic(auto, unfolding(crate::specs::Fields::rule_name))]
-pub(crate) fn read_rule_name(reader: &mut ByteReader) -> Result<Option<u32>, WireError>
+pub(crate) fn read_wire_rule_name(reader: &mut ByteReader) -> Result<Option<u32>, WireError>
     ensures { WireFormatReads form.rule_name reader.old result reader.new }
 {
     match reader.n1()? {
@@ -63,7 +63,7 @@ pub(crate) fn read_rule_name(reader: &mut ByteReader) -> Result<Option<u32>, Wir
 }
 
 #[tactic(auto, unfolding(crate::specs::Fields::rule_name))]
-pub(crate) fn put_rule_name(out: &mut Vec<u8>, rule: Option<u32>) -> Result<(), AllocError>
+pub(crate) fn put_wire_rule_name(out: &mut Vec<u8>, rule: Option<u32>) -> Result<(), AllocError>
     ensures { OnOk result (AppendsWireForm form.rule_name rule out.old.items out.new.items) }
 {
     match rule {

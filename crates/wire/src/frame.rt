@@ -1,5 +1,5 @@
 ghost use Rattle.std.specs.Prelude.{◌≡◌, ◌<◌, ◌≤◌, length, IfOk};
-ghost use Rattle.wire.specs.Frames.{frame, place_in_frame, count_in_frame, chunk_of};
+ghost use Rattle.wire.specs.Frames.{frame, place_in_frame, count_in_frame, chunk_in_frame};
 
 use crate::writer::put_n4;
 use std::alloc::{AllocError, Global};
@@ -68,17 +68,17 @@ impl Frame {
     pub fn place(&self) -> u32
         ensures { result ≡ place_in_frame self.now }
     {
-        place_of(self.bytes())
+        wire_place_of(self.bytes())
     }
 
     pub fn count(&self) -> u32
         ensures { result ≡ count_in_frame self.now }
     {
-        count_of(self.bytes())
+        wire_count_of(self.bytes())
     }
 
     pub fn chunk(&self) -> &[u8]
-        ensures { result.now ≡ chunk_of self.now }
+        ensures { result.now ≡ chunk_in_frame self.now }
     {
         &self.bytes()[HEADER_LEN..]
     }
@@ -95,7 +95,7 @@ impl Clone for Frame {
 
 /// The place of a frame.
 #[tactic(auto, unfolding(crate::specs::Frames::place_in_frame))]
-pub(crate) fn place_of(frame: &[u8]) -> u32
+pub(crate) fn wire_place_of(frame: &[u8]) -> u32
     requires { 8 ≤ length frame.now }
     ensures { result ≡ place_in_frame frame.now }
 {
@@ -104,7 +104,7 @@ pub(crate) fn place_of(frame: &[u8]) -> u32
 
 /// How many frames there are, as this frame says.
 #[tactic(auto, unfolding(crate::specs::Frames::count_in_frame))]
-pub(crate) fn count_of(frame: &[u8]) -> u32
+pub(crate) fn wire_count_of(frame: &[u8]) -> u32
     requires { 8 ≤ length frame.now }
     ensures { result ≡ count_in_frame frame.now }
 {

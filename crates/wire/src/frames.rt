@@ -1,5 +1,5 @@
 ghost use Rattle.std.specs.Prelude.{◌≡◌, ◌<◌, ◌≤◌, ◌^◌, ◌↔◌, Some, true, length, map, take, drop, slice_get, IfOk, IfSome, IsNone};
-ghost use Rattle.wire.specs.Frames.{AreFrames, wire_begun_for, frame_begun_with, chunks_behind_head, first_chunk_len, frames_of, wire_frames_of_version};
+ghost use Rattle.wire.specs.Frames.{AreFrames, wire_begun_for, frame_begun_with, wire_chunks_behind_head, wire_first_chunk_len, frames_of, wire_frames_of_version};
 ghost use Rattle.wire.specs.Messages as kinds;
 ghost use Rattle.wire.specs.Messages.{HasSpelling, IsWirePlace};
 
@@ -86,7 +86,7 @@ fn frame_begun_with(alloc: Global, version: u32, frame: &[u8]) -> Result<Frame, 
 
 /// Writes this receiver into the first frame of a message, so that it is the one of the same
 /// message to this receiver.
-pub fn set_receiver(frame: &mut [u8], to: Place)
+pub fn set_wire_receiver(frame: &mut [u8], to: Place)
     requires receiver { IsWirePlace to }
     requires long { 9 ≤ length frame.old }
     ensures fits { kinds.receiver.fits to ≡ true }
@@ -106,14 +106,14 @@ pub fn split(alloc: Global, message: &Message) -> Result<Frames, AllocError>
     ensures { IfOk result (λ frames. AreFrames message.now frames) }
 {
     let bytes = encode(alloc, message)?;
-    let parts = cut(alloc, first_chunk_len(&message.body, &bytes), &bytes)?;
+    let parts = cut(alloc, wire_first_chunk_len(&message.body, &bytes), &bytes)?;
     let frames = framed(alloc, &parts)?;
     Ok(Frames { frames })
 }
 
 // How many bytes the first chunk has.
-pub(crate) fn first_chunk_len(body: &Body, bytes: &[u8]) -> usize
-    ensures { result ≡ first_chunk_len body.now bytes.now }
+pub(crate) fn wire_first_chunk_len(body: &Body, bytes: &[u8]) -> usize
+    ensures { result ≡ wire_first_chunk_len body.now bytes.now }
 {
     match body {
         Body::Install { .. } => 6,
@@ -136,7 +136,7 @@ fn split_front(bytes: &[u8], len: usize) -> (&[u8], &[u8])
 // The chunks of an encoding, the first of which has `head` bytes, and the others at most 16,376.
 pub(crate) fn cut(alloc: Global, head: usize, bytes: &[u8]) -> Result<Vec<&[u8]>, AllocError>
     ensures { IfOk result (λ parts. map (λ p. p.now) parts.items
-        ≡ chunks_behind_head head bytes.now) }
+        ≡ wire_chunks_behind_head head bytes.now) }
 {
     let (first, rest) = split_front(bytes, head);
     let mut parts = Vec::new(alloc);

@@ -2,7 +2,7 @@
 ghost use Rattle.std.specs.Prelude.{◌≡◌, ◌++◌, ℕ, true, IfOk, IfErr, OnOk};
 ghost use Rattle.ctrl_msg.specs.declared.message.Place.{Place};
 ghost use Rattle.base.specs.Refusals.{IfRefused};
-ghost use Rattle.wire.specs.Messages.{IsFront, IsWirePlace, message_front, read_front, spelled_front};
+ghost use Rattle.wire.specs.Messages.{IsFront, IsWirePlace, message_front, wire_read_front, spelled_front};
 ghost use Rattle.wire.specs.Reading.{Gives};
 
 use crate::codec::{put_receiver, read_receiver};
@@ -32,7 +32,7 @@ pub fn append_install_front(out: &mut Vec<u8>, to: Place, boot: u32) -> Result<(
 
 #[tactic(auto, unfolding(crate::specs::Messages::message_front))]
 fn read(reader: &mut ByteReader) -> Result<(Place, u32), WireError>
-    ensures { Gives (λ front. front) (read_front reader.old) result reader.new }
+    ensures { Gives (λ front. front) (wire_read_front reader.old) result reader.new }
 {
     let to = read_receiver(reader)?;
     let kind = reader.n1()?;

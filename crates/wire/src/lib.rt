@@ -1,4 +1,5 @@
-//! Messages as bytes: a canonical encoding, and frames of it that may come in any order.
+//! Messages as bytes: a canonical encoding, field by field, and frames of it that may come in any
+//! order.
 //!
 //! `encode` returns the one encoding of a message, and `append` writes it; `decode` returns the
 //! message of an encoding, and `Malformed` exactly if bytes are the encoding of no message. No two
@@ -34,5 +35,5 @@ pub use assembler::Assembler;
 pub use codec::{append, decode, encode};
 pub use error::{Malformed, WireError};
 pub use frame::HEADER_LEN;
-pub use frames::{Frames, set_receiver, split};
+pub use frames::{Frames, set_wire_receiver, split};
 pub use front::{append_install_front, decode_front};

@@ -45,7 +45,7 @@ pub(crate) fn wire_read_items<T: Part>(
 }
 
 #[tactic(auto, unfolding(crate::specs::Format::wire_list_of))]
-pub(crate) fn read_list<T: Part>(reader: &mut ByteReader) -> Result<Vec<T>, WireError>
+pub(crate) fn wire_read_list<T: Part>(reader: &mut ByteReader) -> Result<Vec<T>, WireError>
     ensures { Gives (λ v. v.items) ((wire_list_of n4 T.format).read reader.old) result reader.new }
 {
     let count = reader.n4()?;

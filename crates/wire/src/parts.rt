@@ -7,10 +7,10 @@ ghost use Rattle.wire.specs.Messages.{AreWireShort, AreSwitches, HasFewWireRules
 
 use crate::error::WireError;
 use crate::fields::{
-    put_action, put_rule_name, put_targets, put_word, read_rule_name, read_targets,
-    read_wire_action, read_wire_word,
+    put_action, put_targets, put_wire_rule_name, put_word, read_targets, read_wire_action,
+    read_wire_rule_name, read_wire_word,
 };
-use crate::list::{Part, put_list, read_list};
+use crate::list::{Part, put_list, wire_read_list};
 use crate::reader::ByteReader;
 use crate::writer::put_n4;
 use policy_rules::{Partition, Rule, Rules};
@@ -41,7 +41,7 @@ impl Part for Rule {
         Ok(Rule {
             word: read_wire_word(reader)?,
             rank: reader.n4()?,
-            rule: read_rule_name(reader)?,
+            rule: read_wire_rule_name(reader)?,
             action: read_wire_action(reader)?,
         })
     }
@@ -49,7 +49,7 @@ impl Part for Rule {
     fn put(&self, out: &mut Vec<u8>) -> Result<(), AllocError> {
         put_word(out, &self.word)?;
         put_n4(out, self.rank)?;
-        put_rule_name(out, self.rule)?;
+        put_wire_rule_name(out, self.rule)?;
         put_action(out, self.action)
     }
 }
@@ -81,7 +81,7 @@ impl Part for Partition {
         Ok(Partition {
             number: reader.n4()?,
             region: read_wire_word(reader)?,
-            rules: Rules::new(read_list(reader)?)?,
+            rules: Rules::new(wire_read_list(reader)?)?,
         })
     }
 
@@ -96,8 +96,8 @@ pub(crate) fn read_wire_tables(reader: &mut ByteReader) -> Result<Tables, WireEr
     ensures { WireFormatReads form.tables reader.old result reader.new }
 {
     let version = reader.n4()?;
-    let parts = PartRows::new(read_list(reader)?)?;
-    let auth = Partitions::new(read_list(reader)?)?;
+    let parts = PartRows::new(wire_read_list(reader)?)?;
+    let auth = Partitions::new(wire_read_list(reader)?)?;
     Ok(Tables {
         version,
         parts,

@@ -3,9 +3,9 @@ use Rattle.std.proofs.Common.{[], ◌∷◌, ◌≡◌, IsOk, IsSome, List, Ok, 
 use Rattle.message_bag.specs.Exports.{Post}
 use Rattle.controller.specs.Exports.{ControllerValue, PlanValue}
 use Rattle.update_machine.specs.Exports.{Change, IsSetting, Item, Net, PolicyFile, Ports, Whole, setting_of}
-use Rattle.net_file.specs.Exports.{ArePortOwners, IsNet}
+use Rattle.net_file.specs.Exports.{AreNetPortOwners, IsNet}
 use Rattle.partition.specs.Plan.{partition_plan_of}
-use Rattle.world.specs.Exports.{FilesValue, IsWorldFileMade, first_policy}
+use Rattle.world.specs.Exports.{FilesValue, IsWorldFileCompiled, first_policy}
 use Rattle.world.specs.declared.files.Compiled.TheVariants.{Planned}
 use Rattle.switch_core.specs.Exports.{SwitchValue}
 use Rattle.travelling.specs.Travelling.{Flights}
@@ -48,13 +48,13 @@ first_plans net (Change edits ∷ files) is whole = absurd cc
 -- a copy of a plan on a copy of the network is one
 pub plan_copied : (net own : Net) (plan copy : PlanValue) → own ≡ net → copy ≡ plan
     → partition_plan_of plan.policy net ≡ Ok plan.hosted
-    → IsWorldFileMade own (Ok copy.policy, cache_all_touched) (Planned copy cache_all_touched)
+    → IsWorldFileCompiled own (Ok copy.policy, cache_all_touched) (Planned copy cache_all_touched)
 plan_copied net own plan copy same as_it is =
     record { policy = refl; planned = rw (same, as_it) is; told_is = refl }
 
 -- and so are its ports
 pub owners_begun : (net other : Net) (ports : Ports) → other ≡ net
-    → ArePortOwners net.switches ports → ArePortOwners other.switches ports
+    → AreNetPortOwners net.switches ports → AreNetPortOwners other.switches ports
 owners_begun net other ports is owners = rw is owners
 
 pub net_begun : (net other : Net) → other ≡ net → IsNet net → IsNet other

@@ -10,14 +10,14 @@ use Rattle.refinement.specs.Exports.{RefineJournal}
 use Rattle.travelling.specs.Travelling.{Flights}
 use Rattle.world_log.specs.Exports.{IsLogPart, log_act_items, log_act_posts}
 use Rattle.world_log.specs.declared.log.Log.{Log}
-use Rattle.world.specs.declared.parts.Parts.{Parts}
+use Rattle.world.specs.declared.parts.WorldParts.{WorldParts}
 use Rattle.world.proofs.WorldStepClauses.{Follows, goes, part_goes}
 use Rattle.world_log.proofs.LogStepWrites.{step_part, step_written}
 
 -- the journal behind the first item, what is written then, under which number the messages are,
 -- and what they post behind these posts
 pub record Tells {T E : Type 0} (r : Result T E) (before : List Item) (row : ℕ) (step : Step)
-    (old new : Parts) (first : Item) (tail : ℕ → List Item) (begun : List Item) (number : ℕ)
+    (old new : WorldParts) (first : Item) (tail : ℕ → List Item) (begun : List Item) (number : ℕ)
     (posts more : List Post) : Type 0 where
   pub piece_is : piece (world_setting_in old) before row step
       ≡ item.Row row step ∷ first ∷ tail (length old.log.bag + 1)
@@ -51,7 +51,7 @@ as_noted r begun number posts now given acts same written posted part =
     (record { written = written; posted = posted; part = part })
 
 pub goes_told : {T E : Type 0} {r : Result T E} {before : List Item} {row : ℕ} {step : Step}
-    {old new : Parts} (first : Item) (tail : ℕ → List Item) (begun : List Item) (number : ℕ)
+    {old new : WorldParts} (first : Item) (tail : ℕ → List Item) (begun : List Item) (number : ℕ)
     (posts more : List Post) → WorldBeginsStep before row step old → Follows old new
     → Tells r before row step old new first tail begun number posts more
     → WorldStepGoes r before row step old new
@@ -68,7 +68,7 @@ goes_told {r} {before} {row} {step} {old} {new} first tail begun number posts mo
 
 -- where the controller's acts are what it writes then
 pub goes_acting : {T E : Type 0} {r : Result T E} {before : List Item} {row : ℕ} {step : Step}
-    {old new : Parts} (first : Item) (acts given : List Act) (begun : List Item)
+    {old new : WorldParts} (first : Item) (acts given : List Act) (begun : List Item)
     → WorldBeginsStep before row step old → Follows old new → new.packets ≡ old.packets + comes_in step
     → piece (world_setting_in old) before row step
     ≡ item.Row row step ∷ first ∷ log_act_items (length old.log.bag + 1) acts
@@ -90,7 +90,7 @@ goes_acting {r} {old} {new} first acts given begun begins keeps counted is pushe
 
 -- memory runs out behind the first item
 pub first_goes : {T E : Type 0} {r : Result T E} {before : List Item} {row : ℕ} {step : Step}
-    {old new : Parts} (first : Item) (rest : List Item) → WorldBeginsStep before row step old
+    {old new : WorldParts} (first : Item) (rest : List Item) → WorldBeginsStep before row step old
     → WorldPartsKeepNet old new → piece (world_setting_in old) before row step ≡ item.Row row step ∷ first ∷ rest
     → IsErr r → new.log.journal ≡ old.log.journal ++ first ∷ [] → WorldStepGoes r before row step old new
 first_goes {before} {row} {step} first rest begins keeps is failed pushed =
@@ -102,7 +102,7 @@ first_goes {before} {row} {step} first rest begins keeps is failed pushed =
     })
 
 -- the parts refine the journal where only switches, messages and usable links changed
-pub relinked_refines : {old new : Parts} {setting : Setting} {journal : List Item}
+pub relinked_refines : {old new : WorldParts} {setting : Setting} {journal : List Item}
     {travelling : Flights} {posts : List Post} {near : List ℕ} → WorldPartsKeepRest old new → new.near ≡ near
     → RefineJournal setting journal (record (world_state_in old) {
       switches = new.switches.items;

@@ -4,7 +4,7 @@ use Rattle.base.proofs.Exports.{cases_eq, cases_lt, get_or_past, get_or_read}
 use Rattle.controller.specs.Exports.{PlanValue}
 use Rattle.net_file.specs.Exports.{IsNet}
 use Rattle.update_machine.specs.Exports.{Change, Net, PolicyFile, Row, Whole}
-use Rattle.world.specs.Exports.{AreWorldFilesCompiled, IsWorldFileMade, WorldFilesKeepWhole, world_file_or_none, first_policy, world_file_made_at, world_file_made_from, own_policy}
+use Rattle.world.specs.Exports.{AreWorldFilesCompiled, IsWorldFileCompiled, WorldFilesKeepWhole, world_file_or_none, first_policy, world_file_made_at, world_file_made_from, own_policy}
 use Rattle.world.specs.declared.files.Compiled.{Compiled}
 use Rattle.world.specs.declared.files.Compiled.TheVariants.{Planned}
 use Rattle.switch_table.specs.Exports.{cache_all_touched}
@@ -56,8 +56,8 @@ first_made (Change edits ∷ files) rows newest is = absurd cc
 -- what was made of a file was made of the file at its place
 pub made_at_place : (net : Net) (files : List PolicyFile) (newest own : List Row)
     (place : ℕ) (file : PolicyFile) (compiled : Compiled) → place < length files
-    → file ≡ get_or files place file → own ≡ newest → IsWorldFileMade net (world_file_made_from file own) compiled
-    → IsWorldFileMade net (world_file_made_at files newest place) compiled
+    → file ≡ get_or files place file → own ≡ newest → IsWorldFileCompiled net (world_file_made_from file own) compiled
+    → IsWorldFileCompiled net (world_file_made_at files newest place) compiled
 made_at_place net files newest own place file compiled within at same made = rw same at
     (rw (get_or_read files place file within at (Change [])) at made)
 
@@ -65,7 +65,7 @@ made_at_place net files newest own place file compiled within at same made = rw 
 pub kept_with : (net : Net) (files : List PolicyFile) (newest : List Row)
     (kept : List (Option Compiled)) (place : ℕ) (compiled : Compiled)
     → AreWorldFilesCompiled net files newest kept → place < length files
-    → IsWorldFileMade net (world_file_made_at files newest place) compiled
+    → IsWorldFileCompiled net (world_file_made_at files newest place) compiled
     → AreWorldFilesCompiled net files newest (set kept place (Some compiled))
 kept_with net files newest kept place compiled are within made = record {
   sound = are.sound;
@@ -74,8 +74,8 @@ kept_with net files newest kept place compiled are within made = record {
     | inl same ↦ let inside : place < length kept = omega (arith, are.many) in
         let here : get_or (set kept place (Some compiled)) place None ≡ Some other =
         subst (λ j. get_or (set kept place (Some compiled)) j None ≡ Some other) same at in
-        subst (λ j. IsWorldFileMade net (world_file_made_at files newest j) other) (sym same)
-        (subst (IsWorldFileMade net (world_file_made_at files newest place))
+        subst (λ j. IsWorldFileCompiled net (world_file_made_at files newest j) other) (sym same)
+        (subst (IsWorldFileCompiled net (world_file_made_at files newest place))
         (cc (get_or-set_same kept place (Some compiled) None inside, here)) made)
     | inr apart ↦
         are.each k other (sym (get_or-set_other kept place k (Some compiled) None apart) ∙ at)
@@ -85,7 +85,7 @@ kept_with net files newest kept place compiled are within made = record {
 -- at first the plan of the first file is kept alone
 pub kept_first : (net : Net) (files : List PolicyFile) (plan : PlanValue)
     (kept : List (Option Compiled)) → IsNet net → first_policy files ≡ Some plan.policy
-    → IsWorldFileMade net (Ok plan.policy, cache_all_touched) (Planned plan cache_all_touched) → length kept ≡ length files
+    → IsWorldFileCompiled net (Ok plan.policy, cache_all_touched) (Planned plan cache_all_touched) → length kept ≡ length files
     → ((i : ℕ) → get_or kept i None ≡ get_or (Some (Planned plan cache_all_touched) ∷ []) i None)
     → AreWorldFilesCompiled net files plan.policy kept
 kept_first net files plan kept sound first made many same = record {
@@ -94,9 +94,9 @@ kept_first net files plan kept sound first made many same = record {
   each = each;
 } where
   each : (place : ℕ) (compiled : Compiled) → get_or kept place None ≡ Some compiled
-      → IsWorldFileMade net (world_file_made_at files plan.policy place) compiled
+      → IsWorldFileCompiled net (world_file_made_at files plan.policy place) compiled
   each zero compiled at = let is : Planned plan cache_all_touched ≡ compiled = cc (same 0, at) in
-      subst (IsWorldFileMade net (world_file_made_at files plan.policy 0)) is
+      subst (IsWorldFileCompiled net (world_file_made_at files plan.policy 0)) is
       (rw (first_made files plan.policy plan.policy first) made)
   each (suc place) compiled at = absurd (cc (same (suc place), at))
 

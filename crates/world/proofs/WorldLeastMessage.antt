@@ -6,8 +6,8 @@ use Rattle.message_bag.specs.Deliveries as statuses
 use Rattle.message_bag.specs.Posts as bag
 use Rattle.message_bag.proofs.BagNumberedPosts.{numbered_map}
 use Rattle.message_bag.specs.declared.deliveries.MessageState.{MessageState}
-use Rattle.update_machine.specs.Exports.{Item, Message, count_of, is_deliverable, is_forgotten_in_journal, is_sending, is_waiting, message_of, journal_next_message, next_waiting, was_delivered}
-use Rattle.world.specs.Exports.{IsLeastFrom, WorldRefinesJournal, WorldValue}
+use Rattle.update_machine.specs.Exports.{Item, Message, count_of, is_deliverable, is_forgotten_in_journal, is_sending, is_waiting, journal_message_of, journal_next_message, next_waiting, was_delivered}
+use Rattle.world.specs.Exports.{IsLeastInWorldFrom, WorldRefinesJournal, WorldValue}
 use Rattle.refinement.specs.Exports.{IsRefinedBagOf, refined_post_at}
 
 -- a post waits as the journal says of its message
@@ -25,17 +25,17 @@ post_waits (Some message) false true = refl
 post_waits (Some message) false false = refl
 
 waits_same : (journal : List Item) (posts : List bag.Post) → IsRefinedBagOf journal posts → (n : ℕ)
-    → statuses.is_waiting (bag.post_statuses_of posts) n ≡ is_waiting journal n
+    → statuses.is_waiting (bag.bag_post_statuses posts) n ≡ is_waiting journal n
 unfolding refined_post_at is_deliverable
 waits_same journal posts of n = ap (λ o. option_map_or statuses.waits o false)
     (numbered_map (λ (post : bag.Post). post.1) posts n
     ∙ ap (option_map (λ (post : bag.Post). post.1)) (of.each n))
-    ∙ post_waits (message_of journal n) (was_delivered journal n) (is_forgotten_in_journal journal n)
+    ∙ post_waits (journal_message_of journal n) (was_delivered journal n) (is_forgotten_in_journal journal n)
 
 least_waits : (journal : List Item) (posts : List bag.Post) → IsRefinedBagOf journal posts
     → bag.next_waiting_post posts 1 ≡ next_waiting journal
 unfolding next_waiting journal_next_message
-least_waits journal posts of = let all : List MessageState = bag.post_statuses_of posts in
+least_waits journal posts of = let all : List MessageState = bag.bag_post_statuses posts in
     ap (λ count. find (statuses.is_waiting all) (range_with_len 1 count))
     (omega (arith, of.many, length-map posts (λ (post : bag.Post). post.1)))
     ∙ find_same (statuses.is_waiting all) (is_waiting journal) (waits_same journal posts of)
@@ -54,7 +54,7 @@ next_fails test from i fails above rest = elim (cases_lt from i) [
 
 -- what a search finds is the least
 by_test : (test : ℕ → Bool) (from : ℕ) (rest : Option ℕ) (b : Bool) → test from ≡ b
-    → IsLeastFrom test (from + 1) rest → IsLeastFrom test from (cond b (Some from) rest)
+    → IsLeastInWorldFrom test (from + 1) rest → IsLeastInWorldFrom test from (cond b (Some from) rest)
 by_test test from rest true is least = (omega arith, is, λ i above below. absurd (omega arith))
 by_test test from None false is least = λ i above. next_fails test from i is above
     (λ behind. least i behind)
@@ -65,7 +65,7 @@ by_test test from (Some i) false is least = (
 )
 
 found_is_least : (test : ℕ → Bool) (from count : ℕ) → ((i : ℕ) → from + count ≤ i → test i ≡ false)
-    → IsLeastFrom test from (find test (range_with_len from count))
+    → IsLeastInWorldFrom test from (find test (range_with_len from count))
 found_is_least test from zero over = λ i above. over i (omega (arith, above))
 found_is_least test from (suc count) over =
     by_test test from (find test (range_with_len (from + 1) count)) (test from) refl
@@ -77,16 +77,16 @@ none_behind all zero behind = refl
 none_behind all (suc place) behind = cc (slice_get_past all place (omega (arith, behind)))
 
 least_from : (journal : List Item) (posts : List bag.Post) → IsRefinedBagOf journal posts → (from : ℕ)
-    → IsLeastFrom (is_waiting journal) from (bag.next_waiting_post posts from)
-least_from journal posts of from = let all : List MessageState = bag.post_statuses_of posts in
-    subst (λ next. IsLeastFrom (is_waiting journal) from next)
+    → IsLeastInWorldFrom (is_waiting journal) from (bag.next_waiting_post posts from)
+least_from journal posts of from = let all : List MessageState = bag.bag_post_statuses posts in
+    subst (λ next. IsLeastInWorldFrom (is_waiting journal) from next)
     (sym (find_same (statuses.is_waiting all) (is_waiting journal) (waits_same journal posts of)
     (range_with_len from (length all + 1 - from))))
     (found_is_least (is_waiting journal) from (length all + 1 - from)
     (λ i behind. sym (waits_same journal posts of i) ∙ none_behind all i (omega (arith, behind))))
 
 pub least_from_in : (world : WorldValue) → WorldRefinesJournal world → (from : ℕ)
-    → IsLeastFrom (is_waiting world.journal) from (bag.next_waiting_post world.bag from)
+    → IsLeastInWorldFrom (is_waiting world.journal) from (bag.next_waiting_post world.bag from)
 least_from_in world refines from = least_from world.journal world.bag refines.bag from
 
 pub least_waits_in : (world : WorldValue) → WorldRefinesJournal world

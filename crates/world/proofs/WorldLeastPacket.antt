@@ -3,7 +3,7 @@ use Rattle.std.proofs.Common.{◌+◌, ◌∙◌, ◌≡◌, ◌≤◌, Bool, Is
 use Rattle.base.proofs.Exports.{cases_lt, cond-true, false_from_ne_true, none-some, range_with_len, some_passes_of}
 use Rattle.update_machine.specs.Exports.{Item, Setting, journal_next_packet, next_travelling, travels}
 use Rattle.packet_laws.specs.Exports.{packet_facts_of}
-use Rattle.world.specs.Exports.{IsLeastFrom, WorldRefinesJournal, WorldValue, world_setting_at}
+use Rattle.world.specs.Exports.{IsLeastInWorldFrom, WorldRefinesJournal, WorldValue, world_setting_at}
 use Rattle.refinement.specs.Exports.{refined_flight_in, refined_flight_of}
 use Rattle.travelling.specs.Travelling.{IsNextTravellerFrom, Flights, flight}
 use Rattle.refinement.proofs.RefinedSteps.{reached_known}
@@ -14,7 +14,7 @@ differ false holds fails = cc holds
 
 -- a test that fails at the first number has its least one behind it
 onward : (test : ℕ → Bool) (from : ℕ) (next : Option ℕ) → test from ≡ false
-    → IsLeastFrom test from next → IsLeastFrom test (from + 1) next
+    → IsLeastInWorldFrom test from next → IsLeastInWorldFrom test (from + 1) next
 onward test from None fails least = λ i behind. least i (omega (arith, behind))
 onward test from (Some i) fails least = (
   elim (cases_lt from i) [
@@ -28,7 +28,7 @@ onward test from (Some i) fails least = (
 
 -- one that holds there has it there
 first : (test : ℕ → Bool) (from : ℕ) (next : Option ℕ) → test from ≡ true
-    → IsLeastFrom test from next → next ≡ Some from
+    → IsLeastInWorldFrom test from next → next ≡ Some from
 first test from None holds least = differ (test from) holds (least from (omega arith))
 first test from (Some i) holds least = elim (cases_lt from i) [
   | inl below ↦ differ (test from) holds (least.2 from (omega arith) below)
@@ -37,13 +37,13 @@ first test from (Some i) holds least = elim (cases_lt from i) [
 ]
 
 by_first : (test : ℕ → Bool) (from : ℕ) (next rest : Option ℕ) (b : Bool) → test from ≡ b
-    → IsLeastFrom test from next → (IsLeastFrom test (from + 1) next → next ≡ rest)
+    → IsLeastInWorldFrom test from next → (IsLeastInWorldFrom test (from + 1) next → next ≡ rest)
     → next ≡ cond b (Some from) rest
 by_first test from next rest true holds least on = first test from next holds least
 by_first test from next rest false fails least on = on (onward test from next fails least)
 
 least_is_found : (test : ℕ → Bool) (from count : ℕ) (next : Option ℕ)
-    → ((i : ℕ) → from + count ≤ i → test i ≡ false) → IsLeastFrom test from next
+    → ((i : ℕ) → from + count ≤ i → test i ≡ false) → IsLeastInWorldFrom test from next
     → next ≡ find test (range_with_len from count)
 least_is_found test from zero None over least = refl
 least_is_found test from zero (Some i) over least =
@@ -55,7 +55,7 @@ least_is_found test from (suc count) next over least =
 -- the least packet on its way from a number on is the least that travels
 least_from : (setting : Setting) (journal : List Item) (travelling : Flights)
     → ((i : ℕ) → flight travelling i ≡ refined_flight_in setting journal i) → (from : ℕ) (next : Option ℕ)
-    → IsNextTravellerFrom travelling from next → IsLeastFrom (travels journal) from next
+    → IsNextTravellerFrom travelling from next → IsLeastInWorldFrom (travels journal) from next
 unfolding refined_flight_in
 least_from setting journal travelling tie from next least = by next least where
   none : (i : ℕ) → flight travelling i ≡ None → travels journal i ≡ false
@@ -63,7 +63,7 @@ least_from setting journal travelling tie from next least = by next least where
       (λ yes. none-some (refined_flight_of setting journal i) (sym is ∙ tie i
       ∙ cond-true (travels journal i) (Some (refined_flight_of setting journal i)) None yes))
 
-  by : (b : Option ℕ) → IsNextTravellerFrom travelling from b → IsLeastFrom (travels journal) from b
+  by : (b : Option ℕ) → IsNextTravellerFrom travelling from b → IsLeastInWorldFrom (travels journal) from b
   by None least = λ i behind. none i (least i behind)
   by (Some i) least = (
     least.0,
@@ -74,13 +74,13 @@ least_from setting journal travelling tie from next least = by next least where
 -- from the first number on it is the least of all
 least_travels : (journal : List Item) (next : Option ℕ)
     → ((i : ℕ) → journal_next_packet journal ≤ i → travels journal i ≡ false)
-    → IsLeastFrom (travels journal) 1 next → next ≡ next_travelling journal
+    → IsLeastInWorldFrom (travels journal) 1 next → next ≡ next_travelling journal
 unfolding journal_next_packet next_travelling
 least_travels journal next over least =
     least_is_found (travels journal) 1 _ next (λ i behind. over i (omega (arith, behind))) least
 
 pub least_from_in : (world : WorldValue) (from : ℕ) (next : Option ℕ) → WorldRefinesJournal world
-    → IsNextTravellerFrom world.travelling from next → IsLeastFrom (travels world.journal) from next
+    → IsNextTravellerFrom world.travelling from next → IsLeastInWorldFrom (travels world.journal) from next
 least_from_in world from next refines least =
     least_from (world_setting_at world) world.journal world.travelling refines.packet from next least
 

@@ -10,7 +10,7 @@ use Rattle.world.specs.Exports.{WorldBeginsStep, WorldStepGoes, world_setting_in
 use Rattle.refinement.specs.Exports.{RefineJournal}
 use Rattle.travelling.specs.Travelling.{Flight, Standing, flight}
 use Rattle.world_log.specs.declared.log.Log.{Log}
-use Rattle.world.specs.declared.parts.Parts.{Parts}
+use Rattle.world.specs.declared.parts.WorldParts.{WorldParts}
 use Rattle.refinement.proofs.RefinedHopPieces.{CanAsk, can_ask, within_here}
 use Rattle.refinement.proofs.RefinedHops.{hop_left, hop_piece_of, hop_refines}
 use Rattle.refinement.proofs.RefinedIncomingTie.{come_piece, come_refines}
@@ -19,7 +19,7 @@ use Rattle.world.proofs.WorldStepClauses.{files_stay, goes_one, goes_quiet, none
 
 -- ---- a packet that enters
 
-module _ {parts : Parts} {before : List Item} {row s : ℕ} {header : Header}
+module _ {parts : WorldParts} {before : List Item} {row s : ℕ} {header : Header}
     (begins : WorldBeginsStep before row (PacketStep s header) parts) (own : SwitchValue)
     (its : own ≡ get_or parts.switches.items s own) where
   abbrev what : Option Answer
@@ -59,7 +59,7 @@ own_of : (switches : List SwitchValue) (s : ℕ) (switch : SwitchValue)
     → slice_get switches s ≡ Some switch → switch ≡ get_or switches s switch
 own_of switches s switch found = sym (get_or_from_slice_get switches s switch switch found)
 
-module _ {parts : Parts} {before : List Item} {row i : ℕ}
+module _ {parts : WorldParts} {before : List Item} {row i : ℕ}
     (begins : WorldBeginsStep before row (Hop i) parts) where
   -- its switch can be asked
   can : (t : Flight) (switch : SwitchValue) → flight parts.log.travelling i ≡ Some t

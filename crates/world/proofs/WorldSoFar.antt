@@ -1,8 +1,8 @@
 -- What a world wrote so far.
 use Rattle.std.proofs.Common.{◌++◌, ◌≡◌, List, append_assoc, length, ℕ}
 use Rattle.update_machine.specs.Exports.{IsSetting, Item, Setting, Step, piece}
-use Rattle.packet_laws.specs.Exports.{HoldsBetween, HoldsSoFar, ArePacketsKeptBehind}
-use Rattle.control_laws.specs.Exports.{HoldsReached}
+use Rattle.packet_laws.specs.Exports.{PacketLawHoldsBetween, PacketLawsHoldSoFar, ArePacketsKeptBehind}
+use Rattle.control_laws.specs.Exports.{ControlLawHoldsReached}
 use Rattle.refinement.proofs.RefinedSteps.{reached_more}
 use Rattle.steps.specs.Exports.{IsStep}
 use Rattle.world.specs.Exports.{WorldRefinesJournal, WorldValue, world_setting_at}
@@ -10,13 +10,13 @@ use Rattle.world_log.specs.Exports.{IsLogPart}
 
 -- the law of what is written so far, and that of what is kept after steps
 abbrev pub SoFarLaw : Type 0
-SoFarLaw = HoldsReached (λ setting journal. IsSetting setting → HoldsSoFar setting journal)
+SoFarLaw = ControlLawHoldsReached (λ setting journal. IsSetting setting → PacketLawsHoldSoFar setting journal)
 
 abbrev pub BehindLaw : Type 0
-BehindLaw = HoldsBetween (λ setting journal. IsSetting setting → ArePacketsKeptBehind setting journal)
+BehindLaw = PacketLawHoldsBetween (λ setting journal. IsSetting setting → ArePacketsKeptBehind setting journal)
 
 pub so_far_in : SoFarLaw → (world : WorldValue) → WorldRefinesJournal world
-    → HoldsSoFar (world_setting_at world) world.journal
+    → PacketLawsHoldSoFar (world_setting_at world) world.journal
 so_far_in law world refines =
     law.reached (world_setting_at world) world.journal refines.reached refines.sound
 
@@ -29,7 +29,7 @@ kept_in law world refines =
 pub part_so_far : SoFarLaw → (world : WorldValue) (row : ℕ) (step : Step) (after : List Item)
     → WorldRefinesJournal world → IsStep world.net (length world.files) step
     → IsLogPart world.journal (piece (world_setting_at world) world.journal row step) after
-    → HoldsSoFar (world_setting_at world) after
+    → PacketLawsHoldSoFar (world_setting_at world) after
 part_so_far law world row step after refines own part =
     let setting : Setting = world_setting_at world in
     let journal = world.journal in
@@ -42,7 +42,7 @@ part_so_far law world row step after refines own part =
 pub step_so_far : SoFarLaw → (world : WorldValue) (row : ℕ) (step : Step) (after : List Item)
     → WorldRefinesJournal world → IsStep world.net (length world.files) step
     → after ≡ world.journal ++ piece (world_setting_at world) world.journal row step
-    → HoldsSoFar (world_setting_at world) after
+    → PacketLawsHoldSoFar (world_setting_at world) after
 step_so_far law world row step after refines own written =
     let setting : Setting = world_setting_at world in
     law.reached setting after

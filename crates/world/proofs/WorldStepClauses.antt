@@ -4,26 +4,26 @@ use Rattle.std.proofs.Common.{[], ◌++◌, ◌+◌, ◌∙◌, ◌∷◌, ◌�
 use Rattle.base.proofs.Exports.{both_ok, on_err, on_err_weaker, on_ok_failed, on_ok_weaker}
 use Rattle.message_bag.specs.Exports.{Post}
 use Rattle.controller.specs.Exports.{controller_newest_policy}
-use Rattle.update_machine.specs.Exports.{Item, Setting, Step, piece, step_items}
+use Rattle.update_machine.specs.Exports.{Item, Setting, Step, piece, machine_step_items}
 use Rattle.journal.specs.declared.item.Item.TheVariants as item
-use Rattle.world.specs.Exports.{WorldBeginsStep, FilesValue, WorldStepGoes, WorldStepHasBegun, WorldFilesHoldNewest, IsWorldReadyForStep, WorldPartsKeepNet, WorldPartsRefineJournal, WorldPlays, comes_in, world_setting_in, world_state_in}
+use Rattle.world.specs.Exports.{WorldBeginsStep, FilesValue, WorldStepGoes, WorldStepHasBegun, WorldFilesHoldNewest, IsWorldReadyForStep, WorldPartsKeepNet, WorldPartsRefineJournal, WorldPlaysStep, comes_in, world_setting_in, world_state_in}
 use Rattle.refinement.specs.Exports.{RefinedNetworkState, RefineJournal}
 use Rattle.world_log.specs.Exports.{IsLogPart}
-use Rattle.world.specs.declared.parts.Parts.{Parts}
+use Rattle.world.specs.declared.parts.WorldParts.{WorldParts}
 use Rattle.refinement.proofs.RefinedSteps.{grown}
 use Rattle.world_log.proofs.LogStepWrites.{grown_more, part_none, step_part, step_written}
 
 -- nothing was done to the files and the ports
-pub record KeepFiles (old new : Parts) : Type 0 where
+pub record KeepFiles (old new : WorldParts) : Type 0 where
   pub files : new.files ≡ old.files
   pub ports : new.ports ≡ old.ports
 
-pub files_stay : {old new : Parts} → new.files ≡ old.files → new.ports ≡ old.ports
+pub files_stay : {old new : WorldParts} → new.files ≡ old.files → new.ports ≡ old.ports
     → KeepFiles old new
 files_stay files ports = record { files = files; ports = ports }
 
 -- so the network stays, and the files
-pub net_stays : {old new : Parts} → new.files ≡ old.files → new.ports ≡ old.ports → WorldPartsKeepNet old new
+pub net_stays : {old new : WorldParts} → new.files ≡ old.files → new.ports ≡ old.ports → WorldPartsKeepNet old new
 net_stays files ports = record {
   same_net = ap (λ (f : FilesValue). f.net) files;
   same_files = ap (λ (f : FilesValue). f.files) files;
@@ -31,12 +31,12 @@ net_stays files ports = record {
 }
 
 -- they do, and changes are still applied to the newest policy
-pub record Follows (old new : Parts) : Type 0 where
+pub record Follows (old new : WorldParts) : Type 0 where
   pub net : WorldPartsKeepNet old new
   pub newest : WorldFilesHoldNewest new
 
 -- as where the newest policy is the one from before
-pub follows : {before : List Item} {row : ℕ} {step : Step} {old new : Parts}
+pub follows : {before : List Item} {row : ℕ} {step : Step} {old new : WorldParts}
     → WorldBeginsStep before row step old → new.files ≡ old.files → new.ports ≡ old.ports
     → controller_newest_policy new.controller ≡ controller_newest_policy old.controller → Follows old new
 follows begins files ports newest = record {
@@ -45,17 +45,17 @@ follows begins files ports newest = record {
 }
 
 -- the network and the files stayed
-as_kept : (old new : Parts) → WorldPartsKeepNet old new
+as_kept : (old new : WorldParts) → WorldPartsKeepNet old new
     → RefineJournal (world_setting_in old) new.log.journal (world_state_in new) → WorldPartsRefineJournal new
 as_kept old new keeps refines = rw (keeps.same_net, keeps.same_files) refines
 
 -- the controller stayed, and which links are up and usable
-pub record KeepControl (old new : Parts) : Type 0 where
+pub record KeepControl (old new : WorldParts) : Type 0 where
   pub same_controller : new.controller ≡ old.controller
   pub same_links : new.links ≡ old.links
   pub same_near : new.near ≡ old.near
 
-pub plane_stays : {old new : Parts} → new.controller ≡ old.controller → new.links ≡ old.links
+pub plane_stays : {old new : WorldParts} → new.controller ≡ old.controller → new.links ≡ old.links
     → new.near ≡ old.near → KeepControl old new
 plane_stays controller links near = record {
   same_controller = controller;
@@ -64,7 +64,7 @@ plane_stays controller links near = record {
 }
 
 -- so only switches, packets on their way and messages changed
-abbrev pub with_posts : Parts → Parts → List Post → RefinedNetworkState
+abbrev pub with_posts : WorldParts → WorldParts → List Post → RefinedNetworkState
 with_posts old new posts = record (world_state_in old) {
   switches = new.switches.items;
   travelling = new.log.travelling;
@@ -72,7 +72,7 @@ with_posts old new posts = record (world_state_in old) {
   posts = posts;
 }
 
-pub by_posts : (old new : Parts) (journal : List Item) → KeepControl old new
+pub by_posts : (old new : WorldParts) (journal : List Item) → KeepControl old new
     → RefineJournal (world_setting_in old) journal (with_posts old new new.log.bag)
     → RefineJournal (world_setting_in old) journal (world_state_in new)
 by_posts old new journal keeps refines =
@@ -84,13 +84,13 @@ none_in n = omega arith
 
 piece_split : (setting : Setting) (before : List Item) (row : ℕ) (step : Step)
     → piece setting before row step
-    ≡ item.Row row step ∷ [] ++ step_items setting before step (before ++ item.Row row step ∷ [])
+    ≡ item.Row row step ∷ [] ++ machine_step_items setting before step (before ++ item.Row row step ∷ [])
 unfolding piece
 piece_split setting before row step = refl
 
 -- the step writes these items behind its row
 module _ {T E : Type 0} {r : Result T E} {before : List Item} {row : ℕ} {step : Step}
-    {old new : Parts} (begins : WorldBeginsStep before row step old) (keeps : Follows old new) where
+    {old new : WorldParts} (begins : WorldBeginsStep before row step old) (keeps : Follows old new) where
   pub goes : (items : List Item) → piece (world_setting_in old) before row step
       ≡ item.Row row step ∷ items → OnOk r (new.packets ≡ old.packets + comes_in step)
       → OnOk r (new.log.journal ≡ old.log.journal ++ items)
@@ -111,7 +111,7 @@ module _ {T E : Type 0} {r : Result T E} {before : List Item} {row : ℕ} {step 
   }
 
 module _ {T E : Type 0} {r : Result T E} {before : List Item} {row : ℕ} {step : Step}
-    {old new : Parts} (begins : WorldBeginsStep before row step old) (keeps : KeepFiles old new) where
+    {old new : WorldParts} (begins : WorldBeginsStep before row step old) (keeps : KeepFiles old new) where
   -- and of the control plane it changes messages alone
   pub goes_quiet : (items : List Item) → KeepControl old new
       → piece (world_setting_in old) before row step ≡ item.Row row step ∷ items
@@ -138,7 +138,7 @@ module _ {T E : Type 0} {r : Result T E} {before : List Item} {row : ℕ} {step 
       (on_ok_weaker r (λ grown. rw same is.1) pushed)
 
 module _ {T E : Type 0} {r : Result T E} {before : List Item} {row : ℕ} {step : Step}
-    {old new : Parts} (keeps : WorldPartsKeepNet old new) where
+    {old new : WorldParts} (keeps : WorldPartsKeepNet old new) where
   -- it gives up when memory runs out, and a part of its items is written
   pub part_goes : IsErr r → IsLogPart before (piece (world_setting_in old) before row step) new.log.journal
       → WorldStepGoes r before row step old new
@@ -152,23 +152,23 @@ module _ {T E : Type 0} {r : Result T E} {before : List Item} {row : ℕ} {step 
   }
 
 module _ {T E : Type 0} {r : Result T E} {before : List Item} {row : ℕ} {step : Step}
-    {old new : Parts} (begins : WorldBeginsStep before row step old) (keeps : WorldPartsKeepNet old new) where
+    {old new : WorldParts} (begins : WorldBeginsStep before row step old) (keeps : WorldPartsKeepNet old new) where
   -- behind its row
   pub nothing_goes : IsErr r → new.log.journal ≡ old.log.journal → WorldStepGoes r before row step old new
   nothing_goes failed same = part_goes keeps failed (record {
     written = item.Row row step ∷ [];
-    rest = step_items (world_setting_in old) before step (before ++ item.Row row step ∷ []);
+    rest = machine_step_items (world_setting_in old) before step (before ++ item.Row row step ∷ []);
     split = piece_split (world_setting_in old) before row step;
     grown = same ∙ begins.rowed;
   })
 
 -- only the journal is another
-abbrev pub with_journal : Parts → List Item → Parts
+abbrev pub with_journal : WorldParts → List Item → WorldParts
 with_journal parts journal = record parts { log = record parts.log { journal = journal } }
 
 -- nothing happens: of all parts the journal alone changes, which says so
 pub goes_nothing : {T E : Type 0} {r : Result T E} {before : List Item} {row : ℕ} {step : Step}
-    {old : Parts} {journal : List Item} → WorldBeginsStep before row step old → comes_in step ≡ 0
+    {old : WorldParts} {journal : List Item} → WorldBeginsStep before row step old → comes_in step ≡ 0
     → (piece (world_setting_in old) before row step ≡ item.Row row step ∷ item.Nothing ∷ [])
     × RefineJournal (world_setting_in old) (grown before row step item.Nothing) (world_state_in old)
     → OnOk r (journal ≡ old.log.journal ++ item.Nothing ∷ []) → OnErr r (journal ≡ old.log.journal)
@@ -178,11 +178,11 @@ goes_nothing {old} begins none is pushed unchanged = goes_one begins (files_stay
 
 -- ---- the row is written, and then the rest
 
-ready_behind : (before : List Item) (step : Step) (parts : Parts) (journal : List Item)
+ready_behind : (before : List Item) (step : Step) (parts : WorldParts) (journal : List Item)
     → IsWorldReadyForStep before step parts → IsWorldReadyForStep before step (with_journal parts journal)
 ready_behind before step parts journal ready = search rules
 
-module _ (row : ℕ) (step kind : Step) (old : Parts) (rowed : List Item)
+module _ (row : ℕ) (step kind : Step) (old : WorldParts) (rowed : List Item)
     (ready : IsWorldReadyForStep old.log.journal step old)
     (is : rowed ≡ old.log.journal ++ item.Row row step ∷ []) (kind_is : step ≡ kind) where
   begins_kind : WorldBeginsStep old.log.journal row kind (with_journal old rowed)
@@ -194,7 +194,7 @@ module _ (row : ℕ) (step kind : Step) (old : Parts) (rowed : List Item)
   begun = record { before = old.log.journal; row = row; begins = begins_kind }
 
   -- and plays it
-  pub played : {T E : Type 0} (r : Result T E) (new : Parts)
-      → WorldPlays kind r (with_journal old rowed) new → WorldStepGoes r old.log.journal row step old new
+  pub played : {T E : Type 0} (r : Result T E) (new : WorldParts)
+      → WorldPlaysStep kind r (with_journal old rowed) new → WorldStepGoes r old.log.journal row step old new
   played r new plays = let its = plays old.log.journal row begins_kind in
       subst (λ (k : Step). WorldStepGoes r old.log.journal row k old new) (sym kind_is) (search rules)

@@ -65,9 +65,9 @@ pub record WorldHasThisPlan (net : Net) (making : Making) (plan : PlanValue) (to
 
 -- what a file makes compiles to this: the plan of its policy, or the code of why there is no
 -- policy or no plan
-abbrev pub IsWorldFileMade : Net → Making → Compiled → Type 0
-IsWorldFileMade net making (Planned plan told) = WorldHasThisPlan net making plan told
-IsWorldFileMade net making (Refused code) =
+abbrev pub IsWorldFileCompiled : Net → Making → Compiled → Type 0
+IsWorldFileCompiled net making (Planned plan told) = WorldHasThisPlan net making plan told
+IsWorldFileCompiled net making (Refused code) =
     ((why : Inapplicable) × (making.0 ≡ Err why) × (machine_apply_code why ≡ code))
     ⊎ ((rows : List Row) × (making.0 ≡ Ok rows) × WorldHasNoPlan net rows code)
 
@@ -77,7 +77,7 @@ pub record AreWorldFilesCompiled (net : Net) (files : List PolicyFile) (newest :
   pub sound : IsNet net
   pub many : length kept ≡ length files
   pub each : (place : ℕ) (compiled : Compiled) → slice_index_or kept place None ≡ Some compiled
-      → IsWorldFileMade net (world_file_made_at files newest place) compiled
+      → IsWorldFileCompiled net (world_file_made_at files newest place) compiled
 
 -- what is still kept was kept before, and belongs to a file with its own policy
 pub record WorldFilesKeepWhole (files : List PolicyFile) (old new : List (Option Compiled)) : Type 0 where

@@ -31,7 +31,7 @@ pub fn first_journal(alloc: Global) -> Result<Journal, AllocError>
 /// # Errors
 /// Only out of memory.
 #[tactic(auto, using(switch_core::proofs::SwitchLaws::own_first))]
-pub fn switches_of(
+pub fn first_world_switches(
     alloc: Global,
     net: &Net,
     controller: &Controller,

@@ -4,18 +4,18 @@
 ghost use Rattle.std.specs.Prelude.{◌≡◌, ◌==◌, ◌++◌, length, map};
 ghost use Rattle.controller.specs.declared.sends.Act.TheVariants.{Post};
 ghost use Rattle.steps.specs.declared.step.Step.TheVariants.{Confirm as ConfirmStep, Resend as ResendStep, Update as UpdateStep};
-ghost use Rattle.world.specs.Parts.{WorldStepHasBegun, WorldPlays};
+ghost use Rattle.world.specs.Parts.{WorldStepHasBegun, WorldPlaysStep};
 
 use crate::codes::{TOO_MANY_LIVE, TOO_MANY_VERSIONS};
 use crate::files::Compiled;
-use crate::parts::Parts;
+use crate::parts::WorldParts;
 use base::Failure;
 use controller::{Act, SubmitError};
 use journal::{Item, Message};
 use std::alloc::{AllocError, Global};
-use world_log::log_adverts_again;
+use world_log::world_log_adverts_again;
 
-impl Parts {
+impl WorldParts {
     /// Makes the file's policy, or the one that its change makes, the newest version. If there is
     /// none, or it has no plan, or the controller refuses it, writes the code of that refusal.
     ///
@@ -23,7 +23,7 @@ impl Parts {
     /// Only out of memory; then a part of the items is written.
     pub fn update(&mut self, alloc: Global, file: u32) -> Result<(), AllocError>
         requires { WorldStepHasBegun (UpdateStep file) self.old }
-        ensures { WorldPlays (UpdateStep file) result self.old self.new }
+        ensures { WorldPlaysStep (UpdateStep file) result self.old self.new }
     {
         let (plan, touched) = match self.files.compiled(alloc, file as usize - 1)? {
             Compiled::Refused { code } => {
@@ -53,7 +53,7 @@ impl Parts {
     /// Only out of memory; then a part of the items is written.
     pub fn confirm(&mut self, alloc: Global, switch: u32) -> Result<(), AllocError>
         requires { WorldStepHasBegun (ConfirmStep switch) self.old }
-        ensures { WorldPlays (ConfirmStep switch) result self.old self.new }
+        ensures { WorldPlaysStep (ConfirmStep switch) result self.old self.new }
     {
         if self.switches[switch as usize].is_up() {
             return self.log.journal.push(Item::Nothing);
@@ -71,15 +71,15 @@ impl Parts {
     /// Only out of memory; then a part of the items is written.
     pub fn resend(&mut self, alloc: Global, switch: u32) -> Result<(), AllocError>
         requires { WorldStepHasBegun (ResendStep switch) self.old }
-        ensures { WorldPlays (ResendStep switch) result self.old self.new }
+        ensures { WorldPlaysStep (ResendStep switch) result self.old self.new }
     {
         let here = switch as usize;
         let count = self.switches.len() as u32;
         let near = self.near[here];
-        let messages = log_adverts_again(alloc, &self.switches[here], switch, count, near)?;
+        let messages = world_log_adverts_again(alloc, &self.switches[here], switch, count, near)?;
         let sends = self.controller.resend(switch)?;
         let acts = sends.into_items();
-        if are_sends_none(messages.as_slice(), acts.as_slice()) {
+        if world_sends_are_none(messages.as_slice(), acts.as_slice()) {
             return self.log.journal.push(Item::Nothing);
         }
         self.log.send_and_note(alloc, messages, acts)
@@ -87,7 +87,7 @@ impl Parts {
 }
 
 // Whether there is nothing to send.
-fn are_sends_none(messages: &[Message], acts: &[Act]) -> bool
+fn world_sends_are_none(messages: &[Message], acts: &[Act]) -> bool
     ensures { result ≡ (length (map Post messages.now ++ acts.now) == 0) }
 {
     messages.is_empty() && acts.is_empty()

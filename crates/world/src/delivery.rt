@@ -5,17 +5,17 @@ ghost use Rattle.controller.specs.Exports.{ControllerValue, ControllerReplyNames
 ghost use Rattle.steps.specs.declared.step.Step.TheVariants.{Deliver as DeliverStep};
 ghost use Rattle.update_machine.specs.Messages.{machine_sent_items_from};
 ghost use Rattle.world_log.specs.Linking.{AreLogSwitchesRelinked, all_adverts_sent, logged_near_all};
-ghost use Rattle.world.specs.Parts.{WorldStepHasBegun, WorldPartsKeepRest, WorldPlays};
+ghost use Rattle.world.specs.Parts.{WorldStepHasBegun, WorldPartsKeepRest, WorldPlaysStep};
 ghost use Rattle.world_log.specs.Sending.{LogMayNote, LogMaySend, log_act_items, log_act_posts};
 ghost use Rattle.world_log.specs.Writing.{IsLogPart};
 
-use crate::parts::Parts;
+use crate::parts::WorldParts;
 use controller::Controller;
 use journal::{Body, Item, Place};
 use std::alloc::{AllocError, Global};
-use world_log::{Log, relink, usable};
+use world_log::{Log, usable, world_log_relink};
 
-impl Parts {
+impl WorldParts {
     /// Delivers a message: its switch or the controller hears it, and sends its replies. A switch
     /// that opens changes which links are usable. Nothing happens if it can't be delivered.
     ///
@@ -23,7 +23,7 @@ impl Parts {
     /// Only out of memory; then a part of the items is written.
     pub fn deliver(&mut self, alloc: Global, number: u32) -> Result<(), AllocError>
         requires { WorldStepHasBegun (DeliverStep number) self.old }
-        ensures { WorldPlays (DeliverStep number) result self.old self.new }
+        ensures { WorldPlaysStep (DeliverStep number) result self.old self.new }
     {
         let message = match self.log.bag.get(number)? {
             None => return self.log.journal.push(Item::Nothing),
@@ -81,7 +81,7 @@ impl Parts {
         ensures rest { WorldPartsKeepRest self.old self.new }
     {
         let now = usable(&self.links, &self.switches);
-        let messages = relink(alloc, &mut self.switches, &self.near, &now)?;
+        let messages = world_log_relink(alloc, &mut self.switches, &self.near, &now)?;
         self.near = now;
         self.log.send_all(alloc, messages)
     }

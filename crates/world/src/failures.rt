@@ -1,15 +1,15 @@
 //! Switches and links that fail and come back.
 ghost use Rattle.steps.specs.declared.step.Step.TheVariants.{Crash as CrashStep, Restart as RestartStep};
 ghost use Rattle.refinement.specs.Links.{link_step};
-ghost use Rattle.world.specs.Parts.{WorldStepHasBegun, WorldPlays};
+ghost use Rattle.world.specs.Parts.{WorldStepHasBegun, WorldPlaysStep};
 
-use crate::parts::Parts;
+use crate::parts::WorldParts;
 use base::has;
 use journal::Item;
 use std::alloc::{AllocError, Global};
-use world_log::{hello, set_link_ends};
+use world_log::{hello, set_world_log_link};
 
-impl Parts {
+impl WorldParts {
     /// The switch goes down, unless it is down already: it loses what it learnt, and the packets
     /// there are lost. The switches at the other ends of its usable links send new adverts.
     ///
@@ -17,7 +17,7 @@ impl Parts {
     /// Only out of memory; then a part of the items is written.
     pub fn crash(&mut self, alloc: Global, switch: u32) -> Result<(), AllocError>
         requires { WorldStepHasBegun (CrashStep switch) self.old }
-        ensures { WorldPlays (CrashStep switch) result self.old self.new }
+        ensures { WorldPlaysStep (CrashStep switch) result self.old self.new }
     {
         if !self.switches[switch as usize].is_up() {
             return self.log.journal.push(Item::Nothing);
@@ -35,7 +35,7 @@ impl Parts {
     /// Only out of memory; then a part of the items is written.
     pub fn restart(&mut self, alloc: Global, switch: u32) -> Result<(), AllocError>
         requires { WorldStepHasBegun (RestartStep switch) self.old }
-        ensures { WorldPlays (RestartStep switch) result self.old self.new }
+        ensures { WorldPlaysStep (RestartStep switch) result self.old self.new }
     {
         let here = switch as usize;
         if self.switches[here].is_up() {
@@ -60,12 +60,12 @@ impl Parts {
         up: bool,
     ) -> Result<(), AllocError>
         requires { WorldStepHasBegun (link_step up one two) self.old }
-        ensures { WorldPlays (link_step up one two) result self.old self.new }
+        ensures { WorldPlaysStep (link_step up one two) result self.old self.new }
     {
         if has(self.links[one as usize], two) == up {
             return self.log.journal.push(Item::Nothing);
         }
-        set_link_ends(&mut self.links, one, two, up);
+        set_world_log_link(&mut self.links, one, two, up);
         self.log.journal.push(Item::LinkIs {
             one: one.min(two),
             two: one.max(two),

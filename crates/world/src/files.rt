@@ -4,7 +4,7 @@ ghost use Rattle.net_file.specs.Net.{IsNet};
 ghost use Rattle.policy_rules.specs.Exports.{applied};
 ghost use Rattle.controller.specs.Exports.{touched_few};
 ghost use Rattle.switch_table.specs.Carried.{cache_all_touched};
-ghost use Rattle.world.specs.Files.{IsWorldFileMade, WorldFilesKeepWhole, first_policy, world_file_made_at, world_file_made_from};
+ghost use Rattle.world.specs.Files.{IsWorldFileCompiled, WorldFilesKeepWhole, first_policy, world_file_made_at, world_file_made_from};
 ghost use Rattle.world.specs.declared.files.Compiled.TheVariants.{Planned};
 
 use crate::codes::{ABSENT, TAKEN, TOO_MANY_ROWS, code_of};
@@ -73,7 +73,7 @@ impl Files {
     ) -> Result<Files, AllocError>
         requires net { IsNet net }
         requires first { first_policy files.items ≡ Some plan.policy }
-        requires planned { IsWorldFileMade net (Ok plan.policy, cache_all_touched) (Planned plan cache_all_touched) }
+        requires planned { IsWorldFileCompiled net (Ok plan.policy, cache_all_touched) (Planned plan cache_all_touched) }
         ensures { IfOk result (λ made. made
             ≡ record { net = net; files = files.items; newest = plan.policy }) }
     {
@@ -99,7 +99,7 @@ impl Files {
     pub fn compiled(&mut self, alloc: Global, place: usize) -> Result<Compiled, AllocError>
         requires { place < length self.old.files }
         ensures compiled { IfOk result
-            (IsWorldFileMade self.old.net (world_file_made_at self.old.files self.old.newest place)) }
+            (IsWorldFileCompiled self.old.net (world_file_made_at self.old.files self.old.newest place)) }
         ensures same { self.new ≡ self.old }
     {
         if let Some(compiled) = &self.compiled[place] {
@@ -107,7 +107,7 @@ impl Files {
         }
         let file = &self.files[place];
         let newest = self.newest.policy();
-        let compiled = file_made_or_code(alloc, file, newest, &self.net)?;
+        let compiled = world_plan_or_code(alloc, file, newest, &self.net)?;
         let kept = compiled.clone()?;
         self.compiled[place] = Some(kept);
         Ok(compiled)
@@ -117,14 +117,14 @@ impl Files {
     pub fn set_newest(&mut self, plan: Plan)
         ensures { self.new ≡ record self.old { newest = plan.policy } }
     {
-        forget_changed_files(&self.files, &mut self.compiled);
+        forget_world_changed_files(&self.files, &mut self.compiled);
         self.newest = plan;
     }
 }
 
 /// The policy of the first file.
 #[tactic(auto, using(crate::proofs::WorldKeptFiles::first_there, crate::proofs::WorldKeptFiles::first_at))]
-pub fn first_policy(files: &[PolicyFile]) -> &Policy
+pub fn world_first_policy(files: &[PolicyFile]) -> &Policy
     requires { IsSome (first_policy files.now) }
     ensures { first_policy files.now ≡ Some result.now }
 {
@@ -135,7 +135,7 @@ pub fn first_policy(files: &[PolicyFile]) -> &Policy
 }
 
 // Forgets the results for changes, which depend on the newest policy.
-fn forget_changed_files(files: &[PolicyFile], compiled: &mut Vec<Option<Compiled>>)
+fn forget_world_changed_files(files: &[PolicyFile], compiled: &mut Vec<Option<Compiled>>)
     requires { length compiled.old.items ≡ length files.now }
     ensures { WorldFilesKeepWhole files.now compiled.old.items compiled.new.items }
 {
@@ -148,30 +148,30 @@ fn forget_changed_files(files: &[PolicyFile], compiled: &mut Vec<Option<Compiled
 }
 
 // The plan of what the file makes of the newest policy, or the code of its refusal.
-fn file_made_or_code(
+fn world_plan_or_code(
     alloc: Global,
     file: &PolicyFile,
     newest: &Policy,
     net: &Net,
 ) -> Result<Compiled, AllocError>
     requires { IsNet net.now }
-    ensures { IfOk result (IsWorldFileMade net.now (world_file_made_from file.now newest.now)) }
+    ensures { IfOk result (IsWorldFileCompiled net.now (world_file_made_from file.now newest.now)) }
 {
     match file {
-        PolicyFile::Whole(policy) => file_plan_or_code(alloc, policy, Touched::all(), net),
-        PolicyFile::Change(change) => file_amended_or_code(alloc, newest, change, net),
+        PolicyFile::Whole(policy) => world_file_plan_or_code(alloc, policy, Touched::all(), net),
+        PolicyFile::Change(change) => world_file_amended_or_code(alloc, newest, change, net),
     }
 }
 
 // The plan of the policy on the network, or the code of its refusal.
-fn file_plan_or_code(
+fn world_file_plan_or_code(
     alloc: Global,
     policy: &Policy,
     touched: Touched,
     net: &Net,
 ) -> Result<Compiled, AllocError>
     requires { IsNet net.now }
-    ensures { IfOk result (IsWorldFileMade net.now (Ok policy.now, touched)) }
+    ensures { IfOk result (IsWorldFileCompiled net.now (Ok policy.now, touched)) }
 {
     match compile(alloc, policy, net) {
         Ok(plan) => Ok(Compiled::Planned(plan, touched)),
@@ -183,20 +183,20 @@ fn file_plan_or_code(
 }
 
 // The plan of the policy that the change makes of this one, or the code of its refusal.
-fn file_amended_or_code(
+fn world_file_amended_or_code(
     alloc: Global,
     policy: &Policy,
     change: &Amendment,
     net: &Net,
 ) -> Result<Compiled, AllocError>
     requires { IsNet net.now }
-    ensures { IfOk result (IsWorldFileMade net.now
+    ensures { IfOk result (IsWorldFileCompiled net.now
         (applied policy.now change.now, touched_few policy.now change.now)) }
 {
     let code = match apply(alloc, policy, change) {
         Ok(amended) => {
             let touched = touched(alloc, policy, change)?;
-            return file_plan_or_code(alloc, &amended, touched, net);
+            return world_file_plan_or_code(alloc, &amended, touched, net);
         }
         Err(ApplyError::Refused(Inapplicable::Absent)) => ABSENT,
         Err(ApplyError::Refused(Inapplicable::Taken)) => TAKEN,

@@ -1,5 +1,5 @@
 ghost use Rattle.steps.specs.declared.step.Step.TheVariants.{Expire as ExpireStep, Forget as ForgetStep, Hop as HopStep, Lose as LoseStep, Packet as PacketStep};
-ghost use Rattle.world.specs.Parts.{WorldStepGoes, WorldStepHasBegun, IsWorldReadyForStep, WorldPlays};
+ghost use Rattle.world.specs.Parts.{WorldStepGoes, WorldStepHasBegun, IsWorldReadyForStep, WorldPlaysStep};
 
 use crate::files::Files;
 use controller::Controller;
@@ -13,7 +13,7 @@ use world_log::{Log, SwitchSite};
 
 /// What a world is made of.
 #[derive(Drop)]
-pub struct Parts {
+pub struct WorldParts {
     pub files: Files,
     pub ports: Ports,
     /// For each switch the mask of those to which it has a link that is up.
@@ -28,7 +28,7 @@ pub struct Parts {
 }
 
 // Each kind of step has its own method, which begins after the step's row.
-impl Parts {
+impl WorldParts {
     /// Takes the step of this row, and writes what happens.
     ///
     /// # Errors
@@ -58,7 +58,7 @@ impl Parts {
     // A packet enters at a switch, or the switch does not serve.
     fn packet(&mut self, alloc: Global, switch: u32, header: &Header) -> Result<(), AllocError>
         requires { WorldStepHasBegun (PacketStep switch header.now) self.old }
-        ensures { WorldPlays (PacketStep switch header.now) result self.old self.new }
+        ensures { WorldPlaysStep (PacketStep switch header.now) result self.old self.new }
     {
         self.packets += 1;
         let site = SwitchSite {
@@ -77,7 +77,7 @@ impl Parts {
     // A packet moves on, or is at the end of its route.
     fn hop(&mut self, alloc: Global, packet: u32) -> Result<(), AllocError>
         requires { WorldStepHasBegun (HopStep packet) self.old }
-        ensures { WorldPlays (HopStep packet) result self.old self.new }
+        ensures { WorldPlaysStep (HopStep packet) result self.old self.new }
     {
         self.log
             .hop(alloc, packet, &mut self.switches, &self.near, &self.ports)
@@ -86,7 +86,7 @@ impl Parts {
     // A packet is lost on its way.
     fn lose(&mut self, packet: u32) -> Result<(), AllocError>
         requires { WorldStepHasBegun (LoseStep packet) self.old }
-        ensures { WorldPlays (LoseStep packet) result self.old self.new }
+        ensures { WorldPlaysStep (LoseStep packet) result self.old self.new }
     {
         if !self.log.travelling.has(packet) {
             return self.log.journal.push(Item::Nothing);
@@ -97,7 +97,7 @@ impl Parts {
     // The message is forgotten: it is never delivered after that.
     fn forget(&mut self, number: u32) -> Result<(), AllocError>
         requires { WorldStepHasBegun (ForgetStep number) self.old }
-        ensures { WorldPlays (ForgetStep number) result self.old self.new }
+        ensures { WorldPlaysStep (ForgetStep number) result self.old self.new }
     {
         if !self.log.bag.may_be_delivered(number) {
             return self.log.journal.push(Item::Nothing);
@@ -109,7 +109,7 @@ impl Parts {
     // A cached rule expires.
     fn expire(&mut self, switch: u32, place: u32) -> Result<(), AllocError>
         requires { WorldStepHasBegun (ExpireStep switch place) self.old }
-        ensures { WorldPlays (ExpireStep switch place) result self.old self.new }
+        ensures { WorldPlaysStep (ExpireStep switch place) result self.old self.new }
     {
         match self.switches[switch as usize].expire(place) {
             None => self.log.journal.push(Item::Nothing),

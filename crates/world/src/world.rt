@@ -1,30 +1,30 @@
 ghost use Rattle.std.specs.Prelude.{◌≡◌, ◌+◌, ◌-◌, ◌++◌, ◌<◌, ◌≤◌, false, true, [], length, unwrap_or, All, OnOk, OnErr, IfOk, IfErr, IsErrOf, IsSome, is_some};
 ghost use Rattle.message_bag.specs.Posts.{next_waiting_post};
-ghost use Rattle.controller.specs.Plan.{RefusesPlan};
+ghost use Rattle.controller.specs.Plan.{ControllerRefusesPlan};
 ghost use Rattle.net_file.specs.Net.{IsNet};
-ghost use Rattle.policy_rules.specs.Exports.{PolicyRulesGiveOnly, IsPolicyOrAmendment};
-ghost use Rattle.update_machine.specs.Exports.{HasRoom, IsJournalFull, NamesSettingPort, journal_next_packet, next_travelling, next_waiting, piece, setting_of, travels};
+ghost use Rattle.policy_rules.specs.Exports.{PolicyFileRowsAre, IsPolicyRulesOrAmendment};
+ghost use Rattle.update_machine.specs.Exports.{HasRoom, IsMachineJournalFull, NamesSettingPort, journal_next_packet, next_travelling, next_waiting, piece, setting_of, travels};
 ghost use Rattle.update_machine.specs.Messages.{is_waiting};
-ghost use Rattle.packet_laws.specs.Exports.{HoldsSoFar, ArePacketsKeptBehind};
+ghost use Rattle.packet_laws.specs.Exports.{PacketLawsHoldSoFar, ArePacketsKeptBehind};
 ghost use Rattle.steps.specs.Steps.{IsStep};
 ghost use Rattle.base.specs.declared.error.Failure.TheVariants.{NoMemory};
 ghost use Rattle.world.specs.Files.{first_policy};
-ghost use Rattle.world.specs.Least.{IsLeastFrom};
+ghost use Rattle.world.specs.Least.{IsLeastInWorldFrom};
 ghost use Rattle.world.specs.NoStep.{no_world_step};
 ghost use Rattle.world.specs.State.{IsWorldBegun, WorldRefinesJournal, comes_in, world_setting_at};
 ghost use Rattle.travelling.specs.Travelling.{IsNextTravellerFrom, flight};
 ghost use Rattle.world_log.specs.Writing.{IsLogPart};
 
-use crate::beginning::{first_journal, switches_of};
+use crate::beginning::{first_journal, first_world_switches};
 use crate::error::{Full, StepError};
-use crate::files::{Files, first_policy};
-use crate::parts::Parts;
+use crate::files::{Files, world_first_policy};
+use crate::parts::WorldParts;
 use base::Failure;
 use controller::{Controller, PlanError, compile};
 use journal::Journal;
 use message_bag::PostBag;
 use net_file::Net;
-use packet_laws::{journals_hold_so_far, steps_are_kept};
+use packet_laws::{packet_journals_hold_so_far, packet_steps_are_kept};
 use policy_rules::PolicyFile;
 use std::alloc::Global;
 use std::marker::Model;
@@ -42,7 +42,7 @@ use world_log::{Log, link_masks};
 /// out within a step.
 #[derive(Drop)]
 pub struct World {
-    parts: Parts,
+    parts: WorldParts,
     is_spent: bool,
 }
 
@@ -66,21 +66,21 @@ impl World {
     pub fn begin(alloc: Global, net: &Net, files: Vec<PolicyFile>) -> Result<World, PlanError>
         requires net { IsNet net.now }
         requires first { IsSome (first_policy files.items) }
-        requires sound { All IsPolicyOrAmendment files.items }
-        requires ports { All (PolicyRulesGiveOnly (λ row. NamesSettingPort (setting_of net.now files.items)
+        requires sound { All IsPolicyRulesOrAmendment files.items }
+        requires ports { All (PolicyFileRowsAre (λ row. NamesSettingPort (setting_of net.now files.items)
             row.action)) files.items }
         ensures begun { IfOk result (IsWorldBegun (setting_of net.now files.items)) }
         ensures refused { IfErr result
-            (RefusesPlan (unwrap_or (first_policy files.items) []) net.now) }
+            (ControllerRefusesPlan (unwrap_or (first_policy files.items) []) net.now) }
     {
-        let plan = compile(alloc, first_policy(&files), net)?;
+        let plan = compile(alloc, world_first_policy(&files), net)?;
         let first = plan.clone()?;
         let files = Files::new(alloc, net.clone()?, files, first)?;
         let near = link_masks(net);
         let controller = Controller::begin(alloc, net, plan)?;
-        let switches = switches_of(alloc, net, &controller, &near)?;
+        let switches = first_world_switches(alloc, net, &controller, &near)?;
         let journal = first_journal(alloc)?;
-        let parts = Parts {
+        let parts = WorldParts {
             files,
             ports: net.ports(),
             links: near,
@@ -120,8 +120,8 @@ impl World {
         ensures part { OnErr result (IsLogPart self.old.journal
             (piece (world_setting_at self.old) self.old.journal row step.now) self.new.journal) }
         ensures room { OnOk result (HasRoom self.old.journal) }
-        ensures full { IsErrOf result no_world_step → IsJournalFull self.old.journal }
-        ensures refused { self.old.is_spent ≡ false → IsJournalFull self.old.journal
+        ensures full { IsErrOf result no_world_step → IsMachineJournalFull self.old.journal }
+        ensures refused { self.old.is_spent ≡ false → IsMachineJournalFull self.old.journal
             → IsErrOf result no_world_step }
         ensures unchanged { IsErrOf result no_world_step → self.new ≡ self.old }
         ensures lost { IsErrOf result NoMemory → self.new.is_spent ≡ true }
@@ -130,10 +130,10 @@ impl World {
 
         // However it ends, the journal is a run whose ends have causes, and the versions are whole.
         ensures so_far { self.old.is_spent ≡ false
-            → HoldsSoFar (world_setting_at self.old) self.new.journal }
+            → PacketLawsHoldSoFar (world_setting_at self.old) self.new.journal }
     {
         let alloc = *self.parts.switches.allocator();
-        journals_hold_so_far();
+        packet_journals_hold_so_far();
         if self.is_spent {
             return Err(Failure::NoMemory);
         }
@@ -150,7 +150,7 @@ impl World {
     pub fn next_travelling(&self, from: u32) -> Option<u32>
         ensures next { IsNextTravellerFrom self.now.travelling from result }
         ensures least { self.now.is_spent ≡ false
-            → IsLeastFrom (travels self.now.journal) from result }
+            → IsLeastInWorldFrom (travels self.now.journal) from result }
         ensures first { self.now.is_spent ≡ false → from ≡ 1
             → result ≡ next_travelling self.now.journal }
     {
@@ -162,7 +162,7 @@ impl World {
     pub fn next_waiting(&self, from: u32) -> Option<u32>
         ensures next { result ≡ next_waiting_post self.now.bag from }
         ensures least { self.now.is_spent ≡ false
-            → IsLeastFrom (is_waiting self.now.journal) from result }
+            → IsLeastInWorldFrom (is_waiting self.now.journal) from result }
         ensures first { self.now.is_spent ≡ false → from ≡ 1
             → result ≡ next_waiting self.now.journal }
     {
@@ -233,12 +233,12 @@ impl World {
     /// and the marks are settled.
     pub fn keeps_on_the_way(&self)
         ensures so_far { self.now.is_spent ≡ false
-            → HoldsSoFar (world_setting_at self.now) self.now.journal }
+            → PacketLawsHoldSoFar (world_setting_at self.now) self.now.journal }
         ensures kept { self.now.is_spent ≡ false
             → ArePacketsKeptBehind (world_setting_at self.now) self.now.journal }
     {
-        journals_hold_so_far();
-        steps_are_kept();
+        packet_journals_hold_so_far();
+        packet_steps_are_kept();
         self.refines();
     }
 }

@@ -4,11 +4,11 @@ use Rattle.base.proofs.Exports.{get_or_from_slice_get}
 use Rattle.failover.specs.Exports.{route_of, with_link}
 use Rattle.journal.specs.declared.item.Item.TheVariants as item
 use Rattle.update_machine.specs.Exports.{Cause, Leg, Ports}
-use Rattle.switch_core.specs.Exports.{IsAtAuthoritySwitch, Moved, PacketStandsAtSwitch, SwitchValue, are_isolated, switch_call_counted, switch_stuck_cause, switch_found_down_with, switch_hop_answer, switch_move_answer, switch_moved_along_route}
+use Rattle.switch_core.specs.Exports.{IsSwitchAuthorityForLeg, Moved, SwitchStandsAtRoutePlace, SwitchValue, are_isolated, switch_call_counted, switch_stuck_cause, switch_found_down_with, switch_hop_answer, switch_move_answer, switch_moved_along_route}
 use Rattle.switch_core.specs.declared.tunnel_calls.HopEnd.TheVariants as hop
 use Rattle.switch_core.proofs.SwitchHops.{hop_around, hop_stays}
 use Rattle.tunnel.specs.Exports.{here, tunnel_marked_down, next, on_route}
-use Rattle.travelling.specs.Travelling.{Flight, Standing, flight_begun_at, flight_marked_at, travels_by}
+use Rattle.travelling.specs.Travelling.{Flight, Standing, flight_begun_at, traveller_found_down_at, travels_by}
 use Rattle.world_log.specs.Exports.{LogAfter, LogMeetsDownLink, log_ended_switch, log_followed, log_followed_flight, log_followed_items, log_followed_posts, log_hop_flight, log_hop_posts, log_hop_written, log_hopped_switch}
 use Rattle.world_log.specs.declared.log.Log.{Log}
 use Rattle.world_log.proofs.LogCalls.{log_behind}
@@ -19,7 +19,7 @@ use Rattle.world_log.proofs.LogHops.{hop_log, turned_along}
 module _ (at : Standing) (version : ℕ) (rule : Option ℕ) (leg : Leg) (targets : List ℕ)
     (other : ℕ) (before s : SwitchValue) (near : ℕ) (t : Flight)
     (met : LogMeetsDownLink at version rule leg targets other before s near t) (links : List ℕ)
-    (links_are : links ≡ (flight_marked_at at other).down) where
+    (links_are : links ≡ (traveller_found_down_at at other).down) where
   pub stands : here t.tunnel ≡ before.number
   stands = get_or_from_slice_get t.tunnel.route t.tunnel.place before.number 0 met.here
 
@@ -46,7 +46,7 @@ module _ (at : Standing) (version : ℕ) (rule : Option ℕ) (leg : Leg) (target
   turned route = record t { tunnel = on_route (tunnel_marked_down t.tunnel other) route }
 
   pub turned_is : (route : List ℕ)
-      → travels_by (flight_begun_at (flight_marked_at at other) leg targets route) version rule ≡ turned route
+      → travels_by (flight_begun_at (traveller_found_down_at at other) leg targets route) version rule ≡ turned route
   turned_is route = cc (met.stands, stands, met.leg, met.targets, met.version, met.rule)
 
   -- ---- there is none
@@ -60,7 +60,7 @@ module _ (at : Standing) (version : ℕ) (rule : Option ℕ) (leg : Leg) (target
     pub stuck_log : {T E : Type 0} (r : Result T E) (ports : Ports) (number : ℕ) (old mid new : Log)
         → mid.journal ≡ old.journal ++ item.FoundDown at.packet at.switch other ∷ []
         → mid.bag ≡ old.bag → mid.travelling ≡ old.travelling
-        → LogAfter r (item.Stuck at.packet at.switch cause leg (flight_marked_at at other).down ∷ []) []
+        → LogAfter r (item.Stuck at.packet at.switch cause leg (traveller_found_down_at at other).down ∷ []) []
         at.packet None mid new → LogAfter r (log_hop_written number before near ports t)
         (log_hop_posts before near ports t) at.packet (log_hop_flight before near ports t) old new
     stuck_log r ports number old mid new grown same_bag same log = let packet = at.packet in
@@ -73,9 +73,9 @@ module _ (at : Standing) (version : ℕ) (rule : Option ℕ) (leg : Leg) (target
         (item.FoundDown t.tunnel.packet before.number other ∷ item.Stuck t.tunnel.packet
         before.number cause l (with_link t.tunnel.down before.number other) ∷ []) [] packet None old
         new) met.leg (subst (λ (a : Standing). LogAfter r (item.FoundDown a.packet a.switch other
-        ∷ item.Stuck a.packet a.switch cause leg (flight_marked_at a other).down ∷ []) [] packet None old
+        ∷ item.Stuck a.packet a.switch cause leg (traveller_found_down_at a other).down ∷ []) [] packet None old
         new) met.stands (log_behind r (item.FoundDown at.packet at.switch other ∷ [])
-        (item.Stuck at.packet at.switch cause leg (flight_marked_at at other).down ∷ []) [] [] packet None
+        (item.Stuck at.packet at.switch cause leg (traveller_found_down_at at other).down ∷ []) [] [] packet None
         old mid new grown (same_bag ∙ sym (append-nil old.bag)) same log))))
 
     pub stuck_switch : switch_call_counted before ≡ log_hopped_switch before near t
@@ -89,7 +89,7 @@ module _ (at : Standing) (version : ℕ) (rule : Option ℕ) (leg : Leg) (target
       goes = around (Some route) some
 
       abbrev begun : Flight
-      begun = travels_by (flight_begun_at (flight_marked_at at other) leg targets route) version rule
+      begun = travels_by (flight_begun_at (traveller_found_down_at at other) leg targets route) version rule
 
       pub turned_log : {T E : Type 0} (r : Result T E) (ports : Ports) (number : ℕ) (old mid
           new : Log) → mid.journal ≡ old.journal ++ item.FoundDown at.packet at.switch other
@@ -116,19 +116,19 @@ module _ (at : Standing) (version : ℕ) (rule : Option ℕ) (leg : Leg) (target
           ports f) packet (log_followed_flight s near ports f) mid new) (turned_is route) log)))
 
       -- where its route is that one switch it has arrived there
-      pub last_here : next begun.tunnel ≡ None → PacketStandsAtSwitch s begun.tunnel.route begun.tunnel.place
-          × IsAtAuthoritySwitch s begun.tunnel.header begun.tunnel.leg
+      pub last_here : next begun.tunnel ≡ None → SwitchStandsAtRoutePlace s begun.tunnel.route begun.tunnel.place
+          × IsSwitchAuthorityForLeg s begun.tunnel.header begun.tunnel.leg
       last_here none =
           let ends : switch_hop_answer before near t.tunnel
           ≡ record { end = hop.Arrive; tunnel = (turned route).tunnel } =
           goes ∙ ap (switch_move_answer (turned route).tunnel)
           (ap (λ (f : Flight). next f.tunnel) (sym (turned_is route)) ∙ none) in
           let arrives = ap (λ (m : Moved). m.end) ends in
-          let there = subst (λ (m : Moved). PacketStandsAtSwitch before m.tunnel.route m.tunnel.place) ends
+          let there = subst (λ (m : Moved). SwitchStandsAtRoutePlace before m.tunnel.route m.tunnel.place) ends
           (hop_stays before near t.tunnel met.here arrives) in
           let at = authority_counted before t.tunnel.header t.tunnel.leg (met.authority arrives) in
-          subst (λ (f : Flight). PacketStandsAtSwitch s f.tunnel.route f.tunnel.place
-          × IsAtAuthoritySwitch s f.tunnel.header f.tunnel.leg) (sym (turned_is route))
+          subst (λ (f : Flight). SwitchStandsAtRoutePlace s f.tunnel.route f.tunnel.place
+          × IsSwitchAuthorityForLeg s f.tunnel.header f.tunnel.leg) (sym (turned_is route))
           (rw met.asked (there, at))
 
       pub turned_switch : (now : SwitchValue) → now ≡ log_ended_switch s (log_followed begun).end

@@ -4,8 +4,8 @@ use Rattle.update_machine.specs.Exports.{Action, CacheRule, Cause, Exit as ExitL
 use Rattle.ctrl_msg.specs.declared.message.Place.TheVariants as receiver
 use Rattle.message_bag.specs.Exports.{HasShortBagSpelling}
 use Rattle.message_bag.proofs.BagSpellingLengths.{alone_short}
-use Rattle.net_file.specs.Exports.{port_owner}
-use Rattle.switch_core.specs.Exports.{SwitchSite, SwitchValue, switch_stuck_cause, exit_by_switch, leave_by_switch, next_of, switch_seek_by, set_out}
+use Rattle.net_file.specs.Exports.{owner_in_net_ports}
+use Rattle.switch_core.specs.Exports.{SwitchSite, SwitchValue, switch_stuck_cause, switch_exit_by_tunnel, switch_leave_by_port, next_of, switch_seek_by, set_out}
 use Rattle.failover.specs.Exports.{route_of}
 use Rattle.tunnel.specs.Exports.{TunnelValue, tunnel_begun}
 use Rattle.switch_core.specs.declared.tunnel_calls.Packet.{Packet}
@@ -53,8 +53,8 @@ module _ {T E : Type 0} (r : Result T E) (at : Standing) (packet : ℕ) (old new
   pub exits : (decision : Decision) (way : Result TunnelValue Cause)
       → LogAfter r (log_set_item at (log_exit_leg decision.action) way ∷ []) [] packet
       (log_set_flight decision.version decision.rule way) old new
-      → LogAfter r (log_end_item at decision (exit_by_switch way) ∷ []) [] packet
-      (log_decided_flight decision (exit_by_switch way)) old new
+      → LogAfter r (log_end_item at decision (switch_exit_by_tunnel way) ∷ []) [] packet
+      (log_decided_flight decision (switch_exit_by_tunnel way)) old new
   exits decision (Ok tunnel) log = log
   exits decision (Err cause) log = log
 
@@ -76,28 +76,28 @@ module _ {T E : Type 0} (r : Result T E) (at : Standing) (packet : ℕ) (old new
   by_action action is goes = rw is goes
 
   module _ (port : ℕ) where
-    by_owner : (owner : Option ℕ) → port_owner site.ports port ≡ owner
+    by_owner : (owner : Option ℕ) → owner_in_net_ports site.ports port ≡ owner
         → Goes (record decision { action = OutBy port })
-        (leave_by_switch s site.near (log_packet_standing at) port owner)
+        (switch_leave_by_port s site.near (log_packet_standing at) port owner)
         → Goes (record decision { action = OutBy port }) (way_by (OutBy port))
     unfolding next_of
     by_owner owner is goes = rw is goes
 
-    pub unowned : decision.action ≡ OutBy port → port_owner site.ports port ≡ None
+    pub unowned : decision.action ≡ OutBy port → owner_in_net_ports site.ports port ≡ None
         → Goes (record decision { action = OutBy port }) (Stuck NoRoute)
         → Goes decision (way_by decision.action)
-    unfolding leave_by_switch
+    unfolding switch_leave_by_port
     unowned acts is goes = by_action (OutBy port) acts (by_owner None is goes)
 
     abbrev way_of : ℕ → Bool → Next
     way_of owner here = if here then Out port
-        else exit_by_switch (set_out s site.near (log_packet_standing at) (ExitLeg port) (owner ∷ []))
+        else switch_exit_by_tunnel (set_out s site.near (log_packet_standing at) (ExitLeg port) (owner ∷ []))
 
     pub owned : (owner : ℕ) (here : Bool) → decision.action ≡ OutBy port
-        → port_owner site.ports port ≡ Some owner → (owner == s.number) ≡ here
+        → owner_in_net_ports site.ports port ≡ Some owner → (owner == s.number) ≡ here
         → Goes (record decision { action = OutBy port }) (way_of owner here)
         → Goes decision (way_by decision.action)
-    unfolding leave_by_switch
+    unfolding switch_leave_by_port
     owned owner here acts is at_home goes = by_action (OutBy port) acts
         (by_owner (Some owner) is (rw at_home goes))
 

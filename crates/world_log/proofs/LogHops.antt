@@ -4,20 +4,20 @@ use Rattle.base.proofs.Exports.{on_ok_weaker}
 use Rattle.update_machine.specs.Exports.{Item, Leg, Ports}
 use Rattle.journal.specs.declared.item.Item.TheVariants as item
 use Rattle.message_bag.specs.Exports.{Post}
-use Rattle.switch_core.specs.Exports.{SwitchArrival, Moved, SwitchValue, around, switch_arrival_on_leg, switch_call_counted, switch_hop_answer, switch_hopped_to, switch_found_link_down, switch_move_answer, onward_by_switch, received}
+use Rattle.switch_core.specs.Exports.{SwitchArrival, Moved, SwitchValue, around, switch_arrival_on_leg, switch_call_counted, switch_hop_answer, switch_hopped_to, switch_found_link_down, switch_move_answer, switch_hop_onward, received}
 use Rattle.switch_core.specs.declared.packet.Onward.{Onward}
 use Rattle.switch_core.specs.declared.tunnel_calls.HopEnd.{HopEnd}
 use Rattle.switch_core.specs.declared.tunnel_calls.HopEnd.TheVariants as hop
 use Rattle.tunnel.specs.Exports.{TunnelValue, advanced_tunnel, next}
-use Rattle.travelling.specs.Travelling.{Flight, Standing, flight_placed_at, standing_at}
+use Rattle.travelling.specs.Travelling.{Flight, Standing, flight_placed_at, traveller_standing_at}
 use Rattle.world_log.specs.Exports.{LogHasHopped, IsLogPart, LogAfter, log_arrival, log_arrival_items, log_arrival_posts, log_arrived_flight, log_arrived_items, log_arrived_posts, log_ended_flight, log_ended_items, log_ended_posts, log_ended_switch, log_hop_flight, log_hop_posts, log_hop_written, log_packet_standing, log_turned_items}
 use Rattle.world_log.specs.declared.log.Log.{Log}
 use Rattle.world_log.proofs.LogStepWrites.{part_first}
 
 -- the answer for the packet at this place of this route is that for it as it is kept
 pub passed_by : (near : ℕ) (answer : Onward) (route : List ℕ) (place : ℕ) (t : TunnelValue)
-    → route ≡ t.route → place ≡ t.place → answer ≡ onward_by_switch near (slice_get route (place + 1))
-    → answer ≡ onward_by_switch near (next t)
+    → route ≡ t.route → place ≡ t.place → answer ≡ switch_hop_onward near (slice_get route (place + 1))
+    → answer ≡ switch_hop_onward near (next t)
 passed_by near answer route place t route_is place_is is = cc (is, route_is, place_is)
 
 -- ---- all that a hop wrote
@@ -112,7 +112,7 @@ placed P route place t route_is place_is holds = rw route_is (rw place_is holds)
 -- what was written of the packet that is there, by its switch's answer, is what its arrival writes
 pub arrival_log : {T E : Type 0} (r : Result T E) (number : ℕ) (w : SwitchValue) (near : ℕ)
     (ports : Ports) (t : Flight) (at : Standing) (version : ℕ) (rule : Option ℕ)
-    (leg : Leg) (packet : ℕ) (said : SwitchArrival) (old new : Log) → at ≡ standing_at w.number t
+    (leg : Leg) (packet : ℕ) (said : SwitchArrival) (old new : Log) → at ≡ traveller_standing_at w.number t
     → version ≡ t.version → rule ≡ t.rule → leg ≡ t.tunnel.leg → at.packet ≡ packet
     → said ≡ switch_arrival_on_leg w (around near ports) (log_packet_standing at) leg
     → LogAfter r (log_arrived_items number at version rule said) (log_arrived_posts at said) at.packet
@@ -124,7 +124,7 @@ arrival_log r number w near ports t at version rule leg packet said old new at_i
     let P : ℕ → Standing → ℕ → Option ℕ → SwitchArrival → Type 0 = λ packet at version rule what.
     LogAfter r (log_arrived_items number at version rule what) (log_arrived_posts at what) packet
     (log_arrived_flight version rule what) old new in
-    let now = standing_at w.number t in
+    let now = traveller_standing_at w.number t in
     subst (λ leg. P packet now t.version t.rule (switch_arrival_on_leg w (around near ports)
     (log_packet_standing now) leg)) leg_is
     (subst (λ rule. P packet now t.version rule (switch_arrival_on_leg w (around near ports)

@@ -1,7 +1,7 @@
 -- What a switch's move makes of a packet: it keeps its number, its header, its leg and its ingress.
 use Rattle.std.proofs.Common.{◌≡◌, List, None, Option, Some, refl, ℕ}
 use Rattle.update_machine.specs.Exports.{Exit, Header, Leg, Seek}
-use Rattle.switch_core.specs.Exports.{IsAtAuthoritySwitch, SwitchValue, switch_call_counted, switch_hop_answer, switch_hopped_to, switch_found_link_down, switch_move_answer, switch_moved_along_route, rerouted_here}
+use Rattle.switch_core.specs.Exports.{IsSwitchAuthorityForLeg, SwitchValue, switch_call_counted, switch_hop_answer, switch_hopped_to, switch_found_link_down, switch_move_answer, switch_moved_along_route, switch_rerouted_here}
 use Rattle.tunnel.specs.Exports.{TunnelValue, tunnel_marked_down, next, on_route, tunnel_route_from_here}
 
 -- the same packet on the same leg
@@ -24,7 +24,7 @@ along_same w near t (Some route) =
 
 pub hopped_same : (w : SwitchValue) (near : ℕ) (t : TunnelValue)
     → SamePacket t (switch_hop_answer w near t).tunnel
-unfolding switch_hop_answer rerouted_here
+unfolding switch_hop_answer switch_rerouted_here
 hopped_same w near t = by_link (switch_found_link_down near (next t)) where
   by_link : (o : Option ℕ) → SamePacket t (switch_hopped_to w near t o).tunnel
   by_link None = moved_same t (next t)
@@ -35,6 +35,6 @@ hopped_same w near t = by_link (switch_found_link_down near (next t)) where
 
 -- one more call changes nothing at an authority switch
 pub authority_counted : (w : SwitchValue) (header : Header) (leg : Leg)
-    → IsAtAuthoritySwitch w header leg → IsAtAuthoritySwitch (switch_call_counted w) header leg
+    → IsSwitchAuthorityForLeg w header leg → IsSwitchAuthorityForLeg (switch_call_counted w) header leg
 authority_counted w header (Seek version partition) at = at
 authority_counted w header (Exit port) at = tt

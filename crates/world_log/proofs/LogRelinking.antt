@@ -1,19 +1,19 @@
 -- What switches send about their links, one switch, one neighbour and one advert after another.
 use Rattle.std.proofs.Common.{[], if◌then◌else◌, ◌&&◌, ◌++◌, ◌+◌, ◌<◌, ◌^◌, ◌||◌, ◌∙◌, ◌∷◌, ◌≡◌, ◌≤◌, Bool, List, None, Option, Some, ap, append-nil, arith, bit_and, bit_or, cond, false, filter, filter_map, flat_map, get_or, inl, inr, length, map, refl, suc, sym, true, zero, ℕ}
 use Rattle.base.proofs.Exports.{and_le_l, cases_lt, common_steps, filter_map-append, filter_more, flat_map-append, has-and, has-or, has-zero, has_mask, has_only_other, has_only_same, map-append, mask_of_is, mask_of_lt, option_map_or, range_more, range_with_len, slice_get-get_or}
-use Rattle.update_machine.specs.Exports.{Advert, Hello, Message, advert_to}
+use Rattle.update_machine.specs.Exports.{Advert, Hello, Message, machine_advert_to}
 use Rattle.ctrl_msg.specs.Exports.{to_controller}
 use Rattle.failover.specs.Exports.{held_advert}
 use Rattle.base.specs.Exports.{has, only_if, switches}
 use Rattle.switch_core.specs.Exports.{SwitchValue, near_changed, switch_next_advert, serves}
-use Rattle.world_log.specs.Exports.{log_advert_if_held, log_adverts_again, adverts_relinked_at, logged_adverts_on_change, adverts_over, all_adverts_sent, all_held, links_change, logged_near_mask_where, log_switch_relinked, logged_switch_serves_at}
+use Rattle.world_log.specs.Exports.{log_advert_if_held, world_log_adverts_again, logged_adverts_relinked_at, logged_adverts_on_change, adverts_over, all_adverts_sent, all_held, links_change, logged_near_mask_where, log_switch_relinked, logged_switch_serves_at}
 
 -- ---- adverts
 
 -- what it sends about the origins below n
 unfoldable pub held_below : SwitchValue → ℕ → ℕ → List Message
 held_below switch other n =
-    map (advert_to other) (filter_map (held_advert switch.database) (range_with_len 0 n))
+    map (machine_advert_to other) (filter_map (held_advert switch.database) (range_with_len 0 n))
 
 pub held_none : (switch : SwitchValue) (other : ℕ) → held_below switch other 0 ≡ []
 unfolding held_below
@@ -21,20 +21,20 @@ held_none switch other = refl
 
 held_one : (switch : SwitchValue) (other n : ℕ)
     → held_below switch other (n + 1) ≡ held_below switch other n
-    ++ map (advert_to other) (filter_map (held_advert switch.database) (n ∷ []))
+    ++ map (machine_advert_to other) (filter_map (held_advert switch.database) (n ∷ []))
 unfolding held_below
 held_one switch other n =
-    ap (λ origins. map (advert_to other) (filter_map (held_advert switch.database) origins))
-    (range_more 0 n n (omega arith)) ∙ ap (map (advert_to other))
+    ap (λ origins. map (machine_advert_to other) (filter_map (held_advert switch.database) origins))
+    (range_more 0 n n (omega arith)) ∙ ap (map (machine_advert_to other))
     (filter_map-append (held_advert switch.database) (range_with_len 0 n) (n ∷ []))
-    ∙ map-append (advert_to other) (filter_map (held_advert switch.database) (range_with_len 0 n))
+    ∙ map-append (machine_advert_to other) (filter_map (held_advert switch.database) (range_with_len 0 n))
     (filter_map (held_advert switch.database) (n ∷ []))
 
 pub held_step : (switch : SwitchValue) (other n : ℕ) → held_below switch other (n + 1)
     ≡ held_below switch other n ++ log_advert_if_held other (held_advert switch.database n)
 held_step switch other n = cc (held_one switch other n, by_one (held_advert switch.database n) refl)
   where
-    by_one : (o : Option Advert) → held_advert switch.database n ≡ o → map (advert_to other)
+    by_one : (o : Option Advert) → held_advert switch.database n ≡ o → map (machine_advert_to other)
         (filter_map (held_advert switch.database) (n ∷ [])) ≡ log_advert_if_held other o
     by_one None e = rw e refl
     by_one (Some advert) e = rw e refl
@@ -42,7 +42,7 @@ held_step switch other n = cc (held_one switch other n, by_one (held_advert swit
 pub ruleset held_steps = (common_steps, held_none, held_step)
 
 pub held_all : (switch : SwitchValue) (other : ℕ)
-    → held_below switch other 64 ≡ map (advert_to other) (all_held switch)
+    → held_below switch other 64 ≡ map (machine_advert_to other) (all_held switch)
 unfolding held_below switches
 held_all switch other = refl
 
@@ -78,16 +78,16 @@ told_below switch own had near n =
 
 -- and what it sends them again
 abbrev pub again_below : SwitchValue → ℕ → ℕ → List Message
-again_below switch near n = near_below (λ other. map (advert_to other) (all_held switch)) near n
+again_below switch near n = near_below (λ other. map (machine_advert_to other) (all_held switch)) near n
 
 pub again_all : (s count near : ℕ) (switch : SwitchValue) → switch.is_up ≡ true
     → to_controller (Hello s switch.boot) ∷ again_below switch near count
-    ≡ log_adverts_again s count near switch
+    ≡ world_log_adverts_again s count near switch
 unfolding near_below
 again_all s count near switch up = rw up refl
 
 pub again_none : (s count near : ℕ) (switch : SwitchValue) → switch.is_up ≡ false
-    → [] ≡ log_adverts_again s count near switch
+    → [] ≡ world_log_adverts_again s count near switch
 again_none s count near switch down = rw down refl
 
 pub told_all : (switch : SwitchValue) (count had near : ℕ) → links_change had near switch ≡ true
@@ -105,7 +105,7 @@ told_nothing switch count had near is = (rw is refl, rw is refl)
 
 -- what the switches below n tell
 unfoldable pub all_below : ℕ → List ℕ → List ℕ → List SwitchValue → ℕ → List Message
-all_below count had near all n = flat_map (adverts_relinked_at count had near all) (range_with_len 0 n)
+all_below count had near all n = flat_map (logged_adverts_relinked_at count had near all) (range_with_len 0 n)
 
 pub all_none : (count : ℕ) (had near : List ℕ) (all : List SwitchValue)
     → all_below count had near all 0 ≡ []
@@ -117,7 +117,7 @@ pub all_more : (count : ℕ) (had near : List ℕ) (all : List SwitchValue) (n :
     ++ logged_adverts_on_change count (get_or had n 0) (get_or near n 0) (get_or all n d)
 unfolding all_below
 all_more count had near all n d there =
-    let send_adverts : ℕ → List Message = adverts_relinked_at count had near all in
+    let send_adverts : ℕ → List Message = logged_adverts_relinked_at count had near all in
     ap (flat_map send_adverts) (range_more 0 n n (omega arith))
     ∙ flat_map-append send_adverts (range_with_len 0 n) (n ∷ [])
     ∙ ap (λ more. flat_map send_adverts (range_with_len 0 n) ++ more) (append-nil (send_adverts n)

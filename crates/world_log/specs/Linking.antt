@@ -1,7 +1,7 @@
 -- Which links are usable, and what switches send when that changes.
 use Rattle.std.specs.Prelude.{[], if◌then◌else◌, ◌&&◌, ◌<◌, ◌==◌, ◌∷◌, ◌≡◌, Bool, List, None, Option, Some, false, filter, filter_map, flat_map, length, map, not, slice_get, slice_index, slice_index_or, true, ℕ}
 use Rattle.base.specs.Exports.{has, small_number_mask, option_map_or, range_with_len, switches}
-use Rattle.update_machine.specs.Exports.{Advert, Hello, Message, Net, advert_to}
+use Rattle.update_machine.specs.Exports.{Advert, Hello, Message, Net, machine_advert_to}
 use Rattle.ctrl_msg.specs.Exports.{to_controller}
 use Rattle.failover.specs.Exports.{held_advert}
 use Rattle.net_file.specs.Exports.{joins, links_of}
@@ -49,8 +49,8 @@ all_held switch = filter_map (held_advert switch.database) switches
 -- what the switch sends a neighbour: its own advert over a link that it had, all over a new one
 abbrev pub adverts_over : SwitchValue → Advert → Bool → ℕ → List Message
 adverts_over switch own had neighbour = elim had [
-  | true ↦ advert_to neighbour own ∷ []
-  | false ↦ map (advert_to neighbour) (all_held switch)
+  | true ↦ machine_advert_to neighbour own ∷ []
+  | false ↦ map (machine_advert_to neighbour) (all_held switch)
 ]
 
 -- the same, if it has a usable link to the other switch now
@@ -61,19 +61,19 @@ log_adverts_near switch own had near other =
 -- the message with the advert, if there is one
 abbrev pub log_advert_if_held : ℕ → Option Advert → List Message
 log_advert_if_held other None = []
-log_advert_if_held other (Some advert) = advert_to other advert ∷ []
+log_advert_if_held other (Some advert) = machine_advert_to other advert ∷ []
 
 -- all adverts that it has, if it has a usable link to the other switch
 abbrev pub logged_adverts_all_near : SwitchValue → ℕ → ℕ → List Message
 logged_adverts_all_near switch near other =
-    if has near other then map (advert_to other) (all_held switch) else []
+    if has near other then map (machine_advert_to other) (all_held switch) else []
 
 -- what a switch that is up sends again: to the controller its boot, and to its neighbours among
 -- this many switches all adverts that it has
-abbrev pub log_adverts_again : ℕ → ℕ → ℕ → SwitchValue → List Message
-log_adverts_again s count near switch = if switch.is_up
+abbrev pub world_log_adverts_again : ℕ → ℕ → ℕ → SwitchValue → List Message
+world_log_adverts_again s count near switch = if switch.is_up
     then to_controller (Hello s switch.boot)
-    ∷ flat_map (λ other. map (advert_to other) (all_held switch))
+    ∷ flat_map (λ other. map (machine_advert_to other) (all_held switch))
     (filter (has near) (range_with_len 0 count))
     else []
 
@@ -92,8 +92,8 @@ logged_adverts_on_change count had near switch = if links_change had near switch
     then flat_map (λ other. adverts_over (near_changed switch near) (switch_next_advert switch near)
     (has had other) other) (filter (has near) (range_with_len 0 count)) else []
 
-abbrev pub adverts_relinked_at : ℕ → List ℕ → List ℕ → List SwitchValue → ℕ → List Message
-adverts_relinked_at count had near switches s = elim (slice_get switches s) [
+abbrev pub logged_adverts_relinked_at : ℕ → List ℕ → List ℕ → List SwitchValue → ℕ → List Message
+logged_adverts_relinked_at count had near switches s = elim (slice_get switches s) [
   | None ↦ []
   | Some switch ↦ logged_adverts_on_change count (slice_index had s) (slice_index near s) switch
 ]
@@ -101,7 +101,7 @@ adverts_relinked_at count had near switches s = elim (slice_get switches s) [
 -- all that is sent, by ascending number of the sender
 unfoldable pub all_adverts_sent : List ℕ → List ℕ → List SwitchValue → List Message
 all_adverts_sent had near switches =
-    flat_map (adverts_relinked_at (length switches) had near switches)
+    flat_map (logged_adverts_relinked_at (length switches) had near switches)
     (range_with_len 0 (length switches))
 
 -- each of these switches made its next advert if its links changed

@@ -4,11 +4,11 @@ use Rattle.message_bag.specs.Exports.{Post}
 use Rattle.failover.specs.Exports.{no_links}
 use Rattle.update_machine.specs.Exports.{Header, Item, Leg, Ports}
 use Rattle.journal.specs.declared.item.Item.TheVariants as item
-use Rattle.switch_core.specs.Exports.{Answer, CanSwitchLookUp, IsAtAuthoritySwitch, Moved, PacketStandsAtSwitch, SwitchValue, admitted, around, switch_call_counted, switch_hop_answer, incoming_packet, switch_found_link_down, switch_move_answer, received, serves}
+use Rattle.switch_core.specs.Exports.{Answer, CanSwitchLookUp, IsSwitchAuthorityForLeg, Moved, SwitchStandsAtRoutePlace, SwitchValue, admitted, around, switch_call_counted, switch_hop_answer, switch_incoming_packet, switch_found_link_down, switch_move_answer, received, serves}
 use Rattle.switch_core.specs.declared.tunnel_calls.HopEnd.{HopEnd}
 use Rattle.switch_core.specs.declared.tunnel_calls.HopEnd.TheVariants as hop
 use Rattle.tunnel.specs.Exports.{here, next}
-use Rattle.travelling.specs.Travelling.{Flight, Standing, flight, standing_at}
+use Rattle.travelling.specs.Travelling.{Flight, Standing, flight, traveller_standing_at}
 use Rattle.world_log.specs.Writing.{LogAfter, log_arrived_items, log_arrived_posts, log_arrived_flight}
 use Rattle.world_log.specs.declared.log.Log.{Log}
 
@@ -24,17 +24,17 @@ log_coming_in packet header switch = record {
 
 -- what the switch returns for the packet that enters
 abbrev pub entry : SwitchValue → ℕ → Ports → ℕ → Header → Option Answer
-entry s near ports packet header = admitted s (around near ports) (incoming_packet s packet header)
+entry s near ports packet header = admitted s (around near ports) (switch_incoming_packet s packet header)
 
 -- what its arrival writes and posts if the next message has this number, and where it then is
 unfoldable pub log_arrival_items : ℕ → SwitchValue → ℕ → Ports → Flight → List Item
 log_arrival_items number s near ports flight =
-    log_arrived_items number (standing_at s.number flight) flight.version flight.rule
+    log_arrived_items number (traveller_standing_at s.number flight) flight.version flight.rule
     (received s (around near ports) flight.tunnel)
 
 unfoldable pub log_arrival_posts : SwitchValue → ℕ → Ports → Flight → List Post
 log_arrival_posts s near ports flight =
-    log_arrived_posts (standing_at s.number flight) (received s (around near ports) flight.tunnel)
+    log_arrived_posts (traveller_standing_at s.number flight) (received s (around near ports) flight.tunnel)
 
 unfoldable pub log_arrival : SwitchValue → ℕ → Ports → Flight → Option Flight
 log_arrival s near ports flight =
@@ -120,16 +120,16 @@ log_followed_flight s near ports t =
 pub record LogMeetsDownLink (at : Standing) (its_version : ℕ) (its_rule : Option ℕ) (its_leg : Leg)
     (its_targets : List ℕ) (other : ℕ) (before after : SwitchValue) (near : ℕ) (t : Flight)
     : Type 0 where
-  pub stands : at ≡ standing_at before.number t
+  pub stands : at ≡ traveller_standing_at before.number t
   pub version : its_version ≡ t.version
   pub rule : its_rule ≡ t.rule
   pub leg : its_leg ≡ t.tunnel.leg
   pub targets : its_targets ≡ t.tunnel.targets
-  pub here : PacketStandsAtSwitch before t.tunnel.route t.tunnel.place
+  pub here : SwitchStandsAtRoutePlace before t.tunnel.route t.tunnel.place
   pub found : switch_found_link_down near (next t.tunnel) ≡ Some other
   pub asked : after ≡ switch_call_counted before
   pub authority : (switch_hop_answer before near t.tunnel).end ≡ hop.Arrive
-      → IsAtAuthoritySwitch before t.tunnel.header t.tunnel.leg
+      → IsSwitchAuthorityForLeg before t.tunnel.header t.tunnel.leg
   pub ingress : t.tunnel.ingress < 64
 
 -- ---- what a hop needs, and all that it does to a log and to the switches
@@ -138,11 +138,11 @@ pub record LogMeetsDownLink (at : Standing) (its_version : ℕ) (its_rule : Opti
 -- decide it if it arrives there
 pub record MayLoggedPacketGoOn (packet : ℕ) (s : SwitchValue) (near : ℕ) (t : Flight) : Type 0 where
   pub known : t.tunnel.packet ≡ packet
-  pub here : PacketStandsAtSwitch s t.tunnel.route t.tunnel.place
+  pub here : SwitchStandsAtRoutePlace s t.tunnel.route t.tunnel.place
   pub serving : IsTrue (serves s)
   pub stamped : CanSwitchLookUp s
   pub authority : (switch_hop_answer s near t.tunnel).end ≡ hop.Arrive
-      → IsAtAuthoritySwitch s t.tunnel.header t.tunnel.leg
+      → IsSwitchAuthorityForLeg s t.tunnel.header t.tunnel.leg
   pub ingress : t.tunnel.ingress < 64
 
 -- after the packet's hop: what was written and posted, where it is, and its switch's count of calls

@@ -1,7 +1,7 @@
 -- What the results of a switch for a packet do to the journal and the packet.
 use Rattle.std.specs.Prelude.{[], ◌++◌, ◌∷◌, ◌≡◌, Err, List, None, Ok, OnErr, OnOk, Option, Result, Some, map, option_map, ℕ}
 use Rattle.message_bag.specs.Exports.{Post, new_post}
-use Rattle.update_machine.specs.Exports.{Action, Body, Cause, Exit as ExitLeg, Item, Leg, Message, machine_sent_items_from, takes_route}
+use Rattle.update_machine.specs.Exports.{Action, Body, Cause, Exit as ExitLeg, Item, Leg, Message, machine_sent_items_from, machine_takes_route}
 use Rattle.ctrl_msg.specs.declared.message.Place.TheVariants as receiver
 use Rattle.policy_rules.specs.declared.policy.Action.TheVariants as action
 use Rattle.journal.specs.declared.item.Item.TheVariants as item
@@ -39,7 +39,7 @@ log_packet_standing at = packet_to_look_up at.packet at.header at.ingress at.dow
 
 -- the packet takes the route from its switch, or is stuck there
 abbrev pub log_set_item : Standing → Leg → Result TunnelValue Cause → Item
-log_set_item at leg (Ok tunnel) = takes_route at.packet tunnel.leg tunnel.route
+log_set_item at leg (Ok tunnel) = machine_takes_route at.packet tunnel.leg tunnel.route
 log_set_item at leg (Err cause) = item.Stuck at.packet at.switch cause leg at.down
 
 -- the packet then, if it had this version and this rule
@@ -66,7 +66,7 @@ log_left_item at version rule port = item.Left at.packet port (record {
 abbrev pub log_end_item : Standing → Decision → Next → Item
 log_end_item at decision next.Dropped = item.Dropped at.packet
 log_end_item at decision (next.Out port) = log_left_item at decision.version decision.rule port
-log_end_item at decision (next.Exit tunnel) = takes_route at.packet tunnel.leg tunnel.route
+log_end_item at decision (next.Exit tunnel) = machine_takes_route at.packet tunnel.leg tunnel.route
 log_end_item at decision (next.Stuck cause) =
     item.Stuck at.packet at.switch cause (log_exit_leg decision.action) at.down
 
@@ -104,7 +104,7 @@ abbrev pub log_answer_items : ℕ → Standing → Answer → List Item
 log_answer_items number at (answer.Decided decision cache onward) =
     log_decided_items at decision (machine_sent_items_from number (log_message_list (log_cache_message at.ingress cache)))
     onward
-log_answer_items number at (answer.Seek tunnel) = takes_route at.packet tunnel.leg tunnel.route ∷ []
+log_answer_items number at (answer.Seek tunnel) = machine_takes_route at.packet tunnel.leg tunnel.route ∷ []
 log_answer_items number at (answer.Stuck cause leg) =
     item.Stuck at.packet at.switch cause leg at.down ∷ []
 

@@ -2,9 +2,9 @@
 ghost use Rattle.std.specs.Prelude.{◌≡◌, ◌<◌, ◌≤◌, ◌++◌, IfOk, OnOk};
 ghost use Rattle.ctrl_msg.specs.declared.message.Body.TheVariants.{Hello};
 ghost use Rattle.ctrl_msg.specs.Kinds.{to_controller};
-ghost use Rattle.world_log.specs.Linking.{log_adverts_again, logged_adverts_all_near};
+ghost use Rattle.world_log.specs.Linking.{world_log_adverts_again, logged_adverts_all_near};
 
-use crate::usable_links::send_all_held;
+use crate::usable_links::send_world_log_held;
 use base::has;
 use ctrl_msg::{Body, Message, Place};
 use std::alloc::{AllocError, Global};
@@ -16,7 +16,7 @@ use switch_core::Switch;
 /// # Errors
 /// Only out of memory.
 #[tactic(auto, using(crate::proofs::LogRelinking::near_steps))]
-pub fn log_adverts_again(
+pub fn world_log_adverts_again(
     alloc: Global,
     switch: &Switch,
     s: u32,
@@ -24,7 +24,7 @@ pub fn log_adverts_again(
     near: u64,
 ) -> Result<Vec<Message>, AllocError>
     requires { count ≤ 64 }
-    ensures { IfOk result (λ messages. messages.items ≡ log_adverts_again s count near switch.now) }
+    ensures { IfOk result (λ messages. messages.items ≡ world_log_adverts_again s count near switch.now) }
 {
     let mut messages = Vec::new(alloc);
     if !switch.is_up() {
@@ -32,13 +32,13 @@ pub fn log_adverts_again(
     }
     messages.push(hello(s, switch.boot()))?;
     for other in 0..count {
-        resend_to_neighbour(&mut messages, switch, near, other)?;
+        world_log_resend_to_neighbour(&mut messages, switch, near, other)?;
     }
     Ok(messages)
 }
 
 // What the switch sends the other one again, if it has a usable link to it.
-fn resend_to_neighbour(
+fn world_log_resend_to_neighbour(
     messages: &mut Vec<Message>,
     switch: &Switch,
     near: u64,
@@ -49,7 +49,7 @@ fn resend_to_neighbour(
         ≡ messages.old.items ++ logged_adverts_all_near switch.now near other) }
 {
     if has(near, other) {
-        send_all_held(messages, switch, other)?;
+        send_world_log_held(messages, switch, other)?;
     }
     Ok(())
 }

@@ -8,10 +8,10 @@
 //! items depend on earlier ones is stated by the crates that use this one, such as `refinement`.
 //!
 //! A link is usable if it is up and both of its ends serve. `usable` returns these links as masks.
-//! `relink` returns what is sent when they change: each switch that is up and whose usable links
-//! changed makes its next advert, and sends it over each link that it had, and all that it knows
-//! over each new one. `link_masks` and `set_link_ends` keep which links are up, and `log_adverts_again` is
-//! what a switch sends again.
+//! `world_log_relink` returns what is sent when they change: each switch that is up and whose
+//! usable links changed makes its next advert, and sends it over each link that it had, and all
+//! that it knows over each new one. `link_masks` and `set_world_log_link` keep which links are up,
+//! and `world_log_adverts_again` is what a switch sends again.
 //!
 //! ```text
 //! let site = SwitchSite { near: near[0], ports: &ports };
@@ -31,8 +31,8 @@ mod sending;
 mod up_links;
 mod usable_links;
 
-pub use again::{hello, log_adverts_again};
+pub use again::{hello, world_log_adverts_again};
 pub use log::Log;
 pub use switch_core::SwitchSite;
-pub use up_links::{link_masks, set_link_ends};
-pub use usable_links::{relink, usable};
+pub use up_links::{link_masks, set_world_log_link};
+pub use usable_links::{usable, world_log_relink};

@@ -3,7 +3,7 @@ ghost use Rattle.message_bag.specs.Posts.{new_post};
 ghost use Rattle.message_bag.specs.Feeding.{HasShortBagSpelling};
 ghost use Rattle.journal.specs.declared.item.Item.TheVariants.{Hopped as HoppedItem, Sent as SentItem, Stuck as StuckItem};
 ghost use Rattle.travelling.specs.Travelling.{FlightHasPlace, flight_placed_at, traveller_standing_kept, flight};
-ghost use Rattle.update_machine.specs.Exports.{takes_route};
+ghost use Rattle.update_machine.specs.Exports.{machine_takes_route};
 ghost use Rattle.world_log.specs.Writing.{LogAfter, log_left_item};
 
 use journal::{Item, Journal, Leaving, Message, PackedLeaving, SharedRoute};
@@ -103,8 +103,8 @@ pub fn leaves(at: &Standing, port: u32) -> Item
 }
 
 /// The item of a packet that takes the route on the leg.
-pub fn takes_route(packet: u32, leg: Leg, route: SharedRoute) -> Item
-    ensures { result ≡ takes_route packet leg route }
+pub fn world_log_takes_route(packet: u32, leg: Leg, route: SharedRoute) -> Item
+    ensures { result ≡ machine_takes_route packet leg route }
 {
     match leg {
         Leg::Seek { version, partition } => Item::Seeking {

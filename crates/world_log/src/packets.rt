@@ -1,6 +1,6 @@
 ghost use Rattle.std.specs.Prelude.{◌≡◌, ◌≢◌, ◌+◌, ◌-◌, ◌^◌, ◌<◌, ◌++◌, [], ◌∷◌, None, Some, IsTrue, OnOk, OnErr, length, map, slice_get, slice_index};
 ghost use Rattle.message_bag.specs.Posts.{new_post};
-ghost use Rattle.switch_core.specs.Exports.{CanSwitchLookUp, IsAtAuthoritySwitch, PacketStandsAtSwitch, answer_of, switch_rule_cached_by, switch_call_counted, next_of, serves, set_out, switch_site_of};
+ghost use Rattle.switch_core.specs.Exports.{CanSwitchLookUp, IsSwitchAuthorityForLeg, SwitchStandsAtRoutePlace, answer_of, switch_core_cache_rule, switch_call_counted, next_of, serves, set_out, switch_site_of};
 ghost use Rattle.switch_core.specs.State.{SwitchValue};
 ghost use Rattle.travelling.specs.Travelling.{Flight, flight, traveller_standing_kept};
 ghost use Rattle.tunnel.specs.Moves.{here, next};
@@ -8,7 +8,7 @@ ghost use Rattle.update_machine.specs.Exports.{machine_sent_items_from};
 ghost use Rattle.world_log.specs.Packets.{LogHasHopped, Hops, LogMeetsDownLink, MayLoggedPacketGoOn, log_coming_in, log_ended_switch, entry, log_followed, log_followed_flight, log_followed_items, log_followed_posts};
 ghost use Rattle.world_log.specs.Writing.{LogAfter, log_arrived_items, log_arrived_posts, log_arrived_flight, log_cache_message, log_decided_flight, log_end_item, log_entered_items, log_entered_posts, log_entered_flight, log_message_list, log_packet_standing, log_set_flight, log_set_item};
 
-use crate::log::{Log, leaves, takes_route};
+use crate::log::{Log, leaves, world_log_takes_route};
 use base::Failure;
 use five_tuple::Header;
 use journal::{Item, Message, Place};
@@ -193,8 +193,8 @@ impl Log {
         requires serving { IsTrue (serves switch.old) }
         requires stamped { CanSwitchLookUp switch.old }
         requires last { next kept.tunnel ≡ None
-            → PacketStandsAtSwitch switch.old kept.tunnel.route kept.tunnel.place
-            × IsAtAuthoritySwitch switch.old kept.tunnel.header kept.tunnel.leg }
+            → SwitchStandsAtRoutePlace switch.old kept.tunnel.route kept.tunnel.place
+            × IsSwitchAuthorityForLeg switch.old kept.tunnel.header kept.tunnel.leg }
         requires ingress { kept.tunnel.ingress < 64 }
         requires few { length self.old.bag < 2 ^ 32 - 1 }
         ensures log { LogAfter result
@@ -295,7 +295,7 @@ impl Log {
             Err(Failure::Refused(cause)) => self.stuck(alloc, at, cause, leg),
             Ok(route) => {
                 let packet = at.packet;
-                let item = takes_route(packet, leg, route.clone()?);
+                let item = world_log_takes_route(packet, leg, route.clone()?);
                 let kept = StoredFlight::begin(at, leg, targets, route);
                 self.travelling.put(packet, kept)?;
                 self.journal.push(item)
@@ -315,9 +315,9 @@ impl Log {
         requires few { length self.old.bag < 2 ^ 32 - 1 }
         ensures written { OnOk result (self.new.journal ≡ self.old.journal
             ++ machine_sent_items_from (length self.old.bag + 1)
-            (log_message_list (log_cache_message ingress (switch_rule_cached_by decision.now word)))) }
+            (log_message_list (log_cache_message ingress (switch_core_cache_rule decision.now word)))) }
         ensures posted { OnOk result (self.new.bag ≡ self.old.bag
-            ++ map new_post (log_message_list (log_cache_message ingress (switch_rule_cached_by decision.now word)))) }
+            ++ map new_post (log_message_list (log_cache_message ingress (switch_core_cache_rule decision.now word)))) }
         ensures unwritten { OnErr result (self.new.journal ≡ self.old.journal) }
         ensures travelling { self.new.travelling ≡ self.old.travelling }
     {

@@ -20,18 +20,18 @@ pub fn link_masks(net: &Net) -> [u64; 64]
 }
 
 /// Sets the link of these two switches up or down in both of their masks.
-pub fn set_link_ends(links: &mut [u64; 64], one: u32, two: u32, up: bool)
+pub fn set_world_log_link(links: &mut [u64; 64], one: u32, two: u32, up: bool)
     requires one { one < 64 }
     requires two { two < 64 }
     ensures set { LogSetsLink links.old one two up links.new }
     ensures fits { (s : ℕ) → slice_index links.new s < 2 ^ 64 }
 {
-    links[one as usize] = set_link_end(links[one as usize], two, up);
-    links[two as usize] = set_link_end(links[two as usize], one, up);
+    links[one as usize] = set_world_log_link_end(links[one as usize], two, up);
+    links[two as usize] = set_world_log_link_end(links[two as usize], one, up);
 }
 
 // The mask with this switch, or without it.
-fn set_link_end(mask: u64, other: u32, up: bool) -> u64
+fn set_world_log_link_end(mask: u64, other: u32, up: bool) -> u64
     requires { other < 64 }
     ensures { (k : ℕ) → k < 64 → has result k ≡ (if other == k then up else has mask k) }
 {

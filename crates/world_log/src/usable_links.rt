@@ -2,7 +2,7 @@
 //! OSPF send what they learn about their links (RFC 2328, sections 12.4 and 13).
 ghost use Rattle.std.specs.Prelude.{ℕ, ◌≡◌, ◌-◌, ◌^◌, ◌<◌, ◌≤◌, ◌++◌, All, IfOk, OnOk, length, map};
 ghost use Rattle.base.specs.Masks.{has};
-ghost use Rattle.update_machine.specs.Deliveries.{advert_to};
+ghost use Rattle.update_machine.specs.Deliveries.{machine_advert_to};
 ghost use Rattle.world_log.specs.Linking.{AreLogSwitchesRelinked, all_adverts_sent, all_held, logged_near_all, logged_near_mask_where, log_switch_relinked, logged_switch_serves_at, logged_adverts_on_change, log_advert_if_held, log_adverts_near, adverts_over};
 
 use base::{has, only_if};
@@ -19,7 +19,7 @@ pub fn usable(links: &[u64; 64], switches: &[Switch]) -> [u64; 64]
     let serving = serving(switches);
     let mut near = [0; 64];
     for s in 0..64 {
-        near[s] = usable_mask_from(links[s], serving, s as u32);
+        near[s] = world_log_usable_mask(links[s], serving, s as u32);
     }
     near
 }
@@ -37,7 +37,7 @@ fn serving(switches: &[Switch]) -> u64
 }
 
 // The usable links of switch s, if these switches serve.
-fn usable_mask_from(links: u64, serving: u64, s: u32) -> u64
+fn world_log_usable_mask(links: u64, serving: u64, s: u32) -> u64
     requires { s < 64 }
     ensures { result ≡ logged_near_mask_where links (has serving s) (has serving) }
 {
@@ -49,7 +49,7 @@ fn usable_mask_from(links: u64, serving: u64, s: u32) -> u64
 ///
 /// # Errors
 /// Only out of memory.
-pub fn relink(
+pub fn world_log_relink(
     alloc: Global,
     switches: &mut Vec<Switch>,
     had: &[u64; 64],
@@ -65,14 +65,14 @@ pub fn relink(
     let mut messages = Vec::new(alloc);
     let count = switches.len() as u32;
     for s in 0..switches.len() {
-        relink_switch(&mut messages, &mut switches[s], count, had[s], now[s])?;
+        relink_world_log_switch(&mut messages, &mut switches[s], count, had[s], now[s])?;
     }
     Ok(messages)
 }
 
-// `relink` for one switch, which had these usable links before and has these now.
+// `world_log_relink` for one switch, which had these usable links before and has these now.
 #[tactic(auto, using(crate::proofs::LogRelinking::near_steps))]
-fn relink_switch(
+fn relink_world_log_switch(
     messages: &mut Vec<Message>,
     switch: &mut Switch,
     count: u32,
@@ -90,13 +90,13 @@ fn relink_switch(
     }
     let own = switch.near_changed(near);
     for other in 0..count {
-        send_over_link(messages, switch, &own, had, near, other)?;
+        world_log_send_over_link(messages, switch, &own, had, near, other)?;
     }
     Ok(())
 }
 
 // What the switch sends the other one, if it has a usable link to it.
-fn send_over_link(
+fn world_log_send_over_link(
     messages: &mut Vec<Message>,
     switch: &Switch,
     own: &Advert,
@@ -109,13 +109,13 @@ fn send_over_link(
         ≡ messages.old.items ++ log_adverts_near switch.now own.now had near other) }
 {
     if has(near, other) {
-        send_adverts(messages, switch, own, has(had, other), other)?;
+        send_world_log_adverts(messages, switch, own, has(had, other), other)?;
     }
     Ok(())
 }
 
 // Sends the switch's own advert over a link that it had, and all that it has over a new one.
-fn send_adverts(
+fn send_world_log_adverts(
     messages: &mut Vec<Message>,
     switch: &Switch,
     own: &Advert,
@@ -126,10 +126,10 @@ fn send_adverts(
         ≡ messages.old.items ++ adverts_over switch.now own.now had other) }
 {
     if had {
-        messages.push(advert_to(other, own))?;
+        messages.push(world_log_advert_to(other, own))?;
         return Ok(());
     }
-    send_all_held(messages, switch, other)
+    send_world_log_held(messages, switch, other)
 }
 
 /// Adds messages with all adverts that the switch has, for the other switch.
@@ -137,22 +137,22 @@ fn send_adverts(
 /// # Errors
 /// Only out of memory.
 #[tactic(auto, using(crate::proofs::LogRelinking::held_steps))]
-pub fn send_all_held(
+pub fn send_world_log_held(
     messages: &mut Vec<Message>,
     switch: &Switch,
     other: u32,
 ) -> Result<(), AllocError>
     ensures { OnOk result (messages.new.items
-        ≡ messages.old.items ++ map (advert_to other) (all_held switch.now)) }
+        ≡ messages.old.items ++ map (machine_advert_to other) (all_held switch.now)) }
 {
     for origin in 0..64 {
-        send_advert_to(messages, other, switch.known(origin))?;
+        world_log_send_advert(messages, other, switch.known(origin))?;
     }
     Ok(())
 }
 
 // Adds a message with the advert, if there is one, for this switch.
-fn send_advert_to(
+fn world_log_send_advert(
     messages: &mut Vec<Message>,
     other: u32,
     advert: Option<Advert>,
@@ -161,14 +161,14 @@ fn send_advert_to(
         ≡ messages.old.items ++ log_advert_if_held other advert) }
 {
     if let Some(advert) = advert {
-        messages.push(advert_to(other, &advert))?;
+        messages.push(world_log_advert_to(other, &advert))?;
     }
     Ok(())
 }
 
 // The message with the advert for this switch.
-fn advert_to(switch: u32, advert: &Advert) -> Message
-    ensures { result ≡ advert_to switch advert.now }
+fn world_log_advert_to(switch: u32, advert: &Advert) -> Message
+    ensures { result ≡ machine_advert_to switch advert.now }
 {
     Message {
         to: Place::Switch(switch),

@@ -3,7 +3,7 @@
 use Rattle.std.proofs.Common.{[], ◌++◌, ◌∙◌, ◌∷◌, ◌≡◌, List, None, Option, Some, ap, length, option_to_list, refl, subst, sym, ℕ}
 use Rattle.std.specs.Prelude.{⊤}
 use Rattle.std.specs.Result.{result_ok}
-use Rattle.update_machine.specs.Exports.{Dropped, End, IsRun, Item, LeftBy, Lost, Machine, Row, Runs, Setting, Stuck, Takes, first_machine, policy_by, submitted_policy, machine_with_packet}
+use Rattle.update_machine.specs.Exports.{Dropped, End, IsMachineRun, Item, LeftBy, Lost, Machine, Row, Runs, Setting, Stuck, Takes, first_machine, setting_policy_by, machine_submitted_policy, machine_with_packet}
 use Rattle.journal.specs.declared.item.Item.TheVariants as item
 use Rattle.update_machine.specs.Machine.{Packet}
 
@@ -26,9 +26,9 @@ ended end packet = record packet { end = Some end }
 
 abbrev pub behind_item : Setting → Machine → Item → Machine
 behind_item setting old (item.Submitted file version) =
-    let newest = submitted_policy old (length old.policies) in
+    let newest = machine_submitted_policy old (length old.policies) in
     record old {
-      policies = old.policies ++ option_to_list (result_ok (policy_by setting newest file));
+      policies = old.policies ++ option_to_list (result_ok (setting_policy_by setting newest file));
     }
 behind_item setting old (item.Retired version) = record old { mark = version }
 behind_item setting old (item.Entered packet switch header) = machine_with_packet old packet
@@ -80,7 +80,7 @@ move_within setting old (first ∷ before) item after new runs =
     (taken setting old first runs.0 runs.1) runs.2)
 
 pub move_at : (setting : Setting) (before : List Item) (item : Item) (after : List Item)
-    → IsRun setting (before ++ item ∷ after)
+    → IsMachineRun setting (before ++ item ∷ after)
     → Move setting (behind_items setting (first_machine setting) before) item
 move_at setting before item after run =
     move_within setting (first_machine setting) before item after run.0 run.1
@@ -101,7 +101,7 @@ runs_by setting old (item ∷ items) may = (
 )
 
 pub is_run_by : (setting : Setting) (journal : List Item)
-    → MayTake setting (first_machine setting) journal → IsRun setting journal
+    → MayTake setting (first_machine setting) journal → IsMachineRun setting journal
 is_run_by setting journal may = (
   behind_items setting (first_machine setting) journal,
   runs_by setting (first_machine setting) journal may,

@@ -1,6 +1,6 @@
 -- Moves of the machine with one packet: it enters, is decided, and ends.
 use Rattle.std.proofs.Common.{◌<◌, ◌≡◌, List, None, Some, arith, refl, ℕ}
-use Rattle.update_machine.specs.Exports.{Decides, End, Ends, MachineEnters, Header, Hit, Machine, MachinePacketMayEnd, Out, Row, submitted_policy, machine_with_packet}
+use Rattle.update_machine.specs.Exports.{Decides, End, Ends, MachineEnters, Header, Hit, Machine, MachinePacketMayEnd, Out, Row, machine_submitted_policy, machine_with_packet}
 use Rattle.policy_rules.specs.Exports.{IsFirstMatch}
 use Rattle.update_machine.specs.Machine.{Packet}
 use Rattle.wrong_journals.specs.Exports.{allowed, wrong_journals_policy}
@@ -24,7 +24,7 @@ enters old header unknown = record { unknown = unknown; after = refl }
 
 pub decides : (old : Machine) (header : Header) (mark version : ℕ) (policy : List Row) (hit : Hit)
     → old.packets 1 ≡ Some (comer header mark) → mark < version
-    → submitted_policy old version ≡ Some policy → IsFirstMatch policy header hit
+    → machine_submitted_policy old version ≡ Some policy → IsFirstMatch policy header hit
     → Decides old 1 version hit (machine_with_packet old 1 (decided header mark hit))
 decides old header mark version policy hit entered above submitted first = record {
   packet = comer header mark;
@@ -45,7 +45,7 @@ ends old packet end entered going may =
     record { packet = packet; entered = entered; not_ended = going; may = may; after = refl }
 
 pub lets_out : (old : Machine) → old.packets 1 ≡ Some (comer allowed 0)
-    → submitted_policy old 1 ≡ Some wrong_journals_policy
+    → machine_submitted_policy old 1 ≡ Some wrong_journals_policy
     → Decides old 1 1 (by_100 (Out 2)) (machine_with_packet old 1 let_out)
 lets_out old entered submitted = decides old allowed 0 1 wrong_journals_policy (by_100 (Out 2)) entered
     (omega arith) submitted first_of_allowed

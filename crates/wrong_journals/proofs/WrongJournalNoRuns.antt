@@ -2,7 +2,7 @@
 use Rattle.std.proofs.Common.{[], ◌++◌, ◌<◌, ◌∙◌, ◌∷◌, ◌≡◌, List, None, Some, arith, refl, subst, sym, ℕ}
 use Rattle.std.proofs.lemmas.Option.{none-some, same_Some}
 use Rattle.policy_rules.specs.Exports.{IsFirstMatch}
-use Rattle.update_machine.specs.Exports.{Decides, Drop, Dropped, End, Ends, Hit, IsRun, LeftBy, Machine, MachinePacketMayEnd, Out, Row, submitted_policy}
+use Rattle.update_machine.specs.Exports.{Decides, Drop, Dropped, End, Ends, Hit, IsMachineRun, LeftBy, Machine, MachinePacketMayEnd, Out, Row, machine_submitted_policy}
 use Rattle.journal.specs.declared.item.Item.TheVariants as item
 use Rattle.steps.specs.declared.step.Step.TheVariants as step
 use Rattle.update_machine.specs.Machine.{Packet}
@@ -21,7 +21,7 @@ own_packet old number version got new packet decides known =
 
 first_match : (old : Machine) (number version : ℕ) (got : Hit) (new : Machine) (packet : Packet)
     (policy : List Row) → Decides old number version got new → old.packets number ≡ Some packet
-    → submitted_policy old version ≡ Some policy → IsFirstMatch policy packet.header got
+    → machine_submitted_policy old version ≡ Some policy → IsFirstMatch policy packet.header got
 first_match old number version got new packet policy decides known there =
     subst (λ (p : Packet). IsFirstMatch policy p.header got)
     (own_packet old number version got new packet decides known)
@@ -46,38 +46,38 @@ may_end old number end new packet ends known = subst (λ (p : Packet). MachinePa
 
 -- ---- journals
 
-pub another_row_is_no_run : IsRun wrong_journal_office another_row → ⊥
+pub another_row_is_no_run : IsMachineRun wrong_journal_office another_row → ⊥
 another_row_is_no_run run =
     no_first_of_denied (first_match _ 1 1 (by_100 (Out 2)) _ (comer wrong_journal_denied 0) wrong_journals_policy
     (move_at wrong_journal_office (wrong_journals_in_at_a wrong_journal_denied) (gets 1 (Out 2)) [] run).1 refl refl)
 
-pub retired_version_is_no_run : IsRun wrong_journal_office retired_version → ⊥
+pub retired_version_is_no_run : IsMachineRun wrong_journal_office retired_version → ⊥
 retired_version_is_no_run run =
     let above : 1 < 1 = above_mark _ 1 1 (by_100 (Out 2)) _ (comer allowed 1)
     (move_at wrong_journal_office (item.Row 1 (step.Update 2) ∷ item.Submitted 2 2 ∷ item.Retired 1 ∷ item.Row 2
     (step.Packet 0 allowed) ∷ item.Entered 1 0 allowed ∷ []) (gets 1 (Out 2)) [] run).1 refl in
     omega (arith, above)
 
-pub unknown_version_is_no_run : IsRun wrong_journal_office unknown_version → ⊥
+pub unknown_version_is_no_run : IsMachineRun wrong_journal_office unknown_version → ⊥
 unknown_version_is_no_run run = let move = move_at wrong_journal_office (wrong_journals_in_at_a allowed) (gets 2 Drop) [] run in
     none-some move.1.policy move.1.submitted
 
-pub decided_twice_is_no_run : IsRun wrong_journal_office decided_twice → ⊥
+pub decided_twice_is_no_run : IsMachineRun wrong_journal_office decided_twice → ⊥
 decided_twice_is_no_run run = none-some (by_100 (Out 2)) (sym (undecided _ 1 2 (by_100 Drop) _
     let_out (move_at wrong_journal_office right_journal_decided (gets 2 Drop) [] run).1 refl))
 
-pub half_and_half_is_no_run : IsRun wrong_journal_office half_and_half → ⊥
+pub half_and_half_is_no_run : IsMachineRun wrong_journal_office half_and_half → ⊥
 half_and_half_is_no_run run =
     no_second_of_allowed (first_match _ 1 2 (by_100 (Out 2)) _ (comer allowed 0) wrong_journals_second_policy
     (move_at wrong_journal_office wrong_journals_behind_update (gets 2 (Out 2)) [] run).1 refl refl)
 
-pub other_port_is_no_run : IsRun wrong_journal_office other_port → ⊥
+pub other_port_is_no_run : IsMachineRun wrong_journal_office other_port → ⊥
 other_port_is_no_run run =
     let may : Some (Out 2) ≡ Some (Out 1) = may_end _ 1 (LeftBy 1) _ let_out
     (move_at wrong_journal_office (wrong_journals_in_at_a allowed ++ gets 1 (Out 2) ∷ []) (item.Left 1 1
     (record { packet = 1; header = allowed; version = 1; rule = Some 100 })) [] run).1 refl in
     cc
 
-pub dropped_undecided_is_no_run : IsRun wrong_journal_office dropped_undecided → ⊥
+pub dropped_undecided_is_no_run : IsMachineRun wrong_journal_office dropped_undecided → ⊥
 dropped_undecided_is_no_run run = none-some Drop (may_end _ 1 Dropped _ (comer allowed 0)
     (move_at wrong_journal_office (wrong_journals_in_at_a allowed) (item.Dropped 1) [] run).1 refl)

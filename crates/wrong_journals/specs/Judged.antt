@@ -1,9 +1,9 @@
 -- Which facts of the headline are true of a journal, and how it prints.
 use Rattle.std.specs.Prelude.{[], ◌∷◌, ◌≡◌, Bool, List, None, false, true, ℕ}
-use Rattle.update_machine.specs.Exports.{Event, HasCause, JournalItemsHaveCauses, IsRun, Item, One, journal_all_given}
+use Rattle.update_machine.specs.Exports.{Event, HasMachineCause, JournalItemsHaveCauses, IsMachineRun, Item, One, journal_all_given}
 use Rattle.journal.specs.declared.item.Item.TheVariants as item
 use Rattle.journal_text.specs.Lines.{journal_text}
-use Rattle.packet_laws.specs.Exports.{AreEntered, rows_played}
+use Rattle.packet_laws.specs.Exports.{AreEntered, packet_law_rows_played}
 use Rattle.wrong_journals.specs.Office.{wrong_journal_office, text_of, wrong_journals_net}
 
 -- the journal prints as these lines
@@ -20,24 +20,24 @@ abbrev pub wrong_journals_events : List Item → List Event
 wrong_journals_events journal = journal_all_given wrong_journal_event_in journal
 
 -- the fact is true, or it is false
-abbrev pub Holds : Bool → Type 0 → Type 0
-Holds true fact = fact
-Holds false fact = ¬ fact
+abbrev pub WrongJournalHolds : Bool → Type 0 → Type 0
+WrongJournalHolds true fact = fact
+WrongJournalHolds false fact = ¬ fact
 
 -- whether the journal is a run of the machine, its ends have their causes, and its rows and
 -- entries are those of the schedule, which was played to its end
 pub record IsSmallTriedJournal (is_run has_causes is_entered : Bool) (journal : List Item) : Type 0 where
-  pub run : Holds is_run (IsRun wrong_journal_office journal)
-  pub causes : Holds has_causes (JournalItemsHaveCauses (HasCause wrong_journal_office) [] journal)
-  pub entered : Holds is_entered (AreEntered (rows_played None (wrong_journals_events journal)) journal)
+  pub run : WrongJournalHolds is_run (IsMachineRun wrong_journal_office journal)
+  pub causes : WrongJournalHolds has_causes (JournalItemsHaveCauses (HasMachineCause wrong_journal_office) [] journal)
+  pub entered : WrongJournalHolds is_entered (AreEntered (packet_law_rows_played None (wrong_journals_events journal)) journal)
 
 -- all three are true
 abbrev pub IsRightTriedJournal : List Item → Type 0
 IsRightTriedJournal journal = IsSmallTriedJournal true true true journal
 
 -- it is no run, has an end without its cause, or an entry without its row; the rest is true
-abbrev pub IsNoRun : List Item → Type 0
-IsNoRun journal = IsSmallTriedJournal false true true journal
+abbrev pub WrongJournalIsNoRun : List Item → Type 0
+WrongJournalIsNoRun journal = IsSmallTriedJournal false true true journal
 
 abbrev pub WrongJournalLacksCause : List Item → Type 0
 WrongJournalLacksCause journal = IsSmallTriedJournal true false true journal
@@ -46,5 +46,5 @@ abbrev pub WrongJournalLacksRow : List Item → Type 0
 WrongJournalLacksRow journal = IsSmallTriedJournal true true false journal
 
 -- two are false, and its rows and entries are the schedule's
-abbrev pub IsNoRunNorCaused : List Item → Type 0
-IsNoRunNorCaused journal = IsSmallTriedJournal false false true journal
+abbrev pub WrongJournalLacksRunAndCause : List Item → Type 0
+WrongJournalLacksRunAndCause journal = IsSmallTriedJournal false false true journal

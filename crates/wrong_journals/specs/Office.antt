@@ -82,8 +82,8 @@ gets version action = item.Decided 1 version (Some 100) action (Authority 0 0)
 -- ---- in print
 
 -- an allowed packet enters at a
-abbrev pub printed_in_at_a : List (List ℕ)
-printed_in_at_a = codes "row 1: packet a 1.2.3.4 10.2.0.1 5000 80 tcp" ∷ codes "  entered 1 a" ∷ []
+abbrev pub wrong_journal_printed_in : List (List ℕ)
+wrong_journal_printed_in = codes "row 1: packet a 1.2.3.4 10.2.0.1 5000 80 tcp" ∷ codes "  entered 1 a" ∷ []
 
 -- the same after an update
 abbrev pub wrong_journal_printed_behind : List (List ℕ)

@@ -1,7 +1,7 @@
 //! What the wrong and the right journals print, and which facts are true of them.
 ghost use Rattle.std.specs.Prelude.{[], ◌∷◌, ◌++◌, codes};
-ghost use Rattle.wrong_journals.specs.Judged.{IsNoRun, IsNoRunNorCaused, IsRightTriedJournal, WrongJournalLacksCause, WrongJournalLacksRow, TriedJournalPrintsAs};
-ghost use Rattle.wrong_journals.specs.Office.{wrong_journal_printed_behind, printed_in_at_a};
+ghost use Rattle.wrong_journals.specs.Judged.{WrongJournalIsNoRun, WrongJournalLacksRunAndCause, IsRightTriedJournal, WrongJournalLacksCause, WrongJournalLacksRow, TriedJournalPrintsAs};
+ghost use Rattle.wrong_journals.specs.Office.{wrong_journal_printed_behind, wrong_journal_printed_in};
 ghost use Rattle.wrong_journals.specs.Right.{right_journal_decided, right_journal_dropped, right_journal_left, right_journal_lost, right_journal_stuck, right_journal_updated};
 ghost use Rattle.wrong_journals.specs.Wrong.{another_row, decided_twice, dropped_undecided, entered_unasked, half_and_half, lost_by_nothing, other_port, retired_version, stuck_beside_a_route, unknown_version};
 
@@ -15,7 +15,7 @@ pub fn wrong_journals_print()
         ∷ codes "row 2: packet a 1.2.3.4 10.2.0.1 5000 80 tcp" ∷ codes "  entered 1 a"
         ∷ codes "  decided 1 v1 rule 100 out:2 authority a part 0" ∷ []) }
     ensures unknown_version { TriedJournalPrintsAs unknown_version
-        (printed_in_at_a ++ codes "  decided 1 v2 rule 100 drop authority a part 0" ∷ []) }
+        (wrong_journal_printed_in ++ codes "  decided 1 v2 rule 100 drop authority a part 0" ∷ []) }
     ensures decided_twice { TriedJournalPrintsAs decided_twice
         (wrong_journal_printed_behind ++ codes "  decided 1 v1 rule 100 out:2 authority a part 0"
         ∷ codes "  decided 1 v2 rule 100 drop authority a part 0" ∷ []) }
@@ -23,29 +23,30 @@ pub fn wrong_journals_print()
         (wrong_journal_printed_behind
         ++ codes "  decided 1 v2 rule 100 out:2 authority a part 0" ∷ []) }
     ensures other_port { TriedJournalPrintsAs other_port
-        (printed_in_at_a ++ codes "  decided 1 v1 rule 100 out:2 authority a part 0"
+        (wrong_journal_printed_in ++ codes "  decided 1 v1 rule 100 out:2 authority a part 0"
         ∷ codes "  out 1 port 1" ∷ []) }
     ensures dropped_undecided { TriedJournalPrintsAs dropped_undecided
-        (printed_in_at_a ++ codes "  dropped 1" ∷ []) }
+        (wrong_journal_printed_in ++ codes "  dropped 1" ∷ []) }
     ensures lost_by_nothing { TriedJournalPrintsAs lost_by_nothing
-        (printed_in_at_a ++ codes "  lost 1" ∷ []) }
+        (wrong_journal_printed_in ++ codes "  lost 1" ∷ []) }
     ensures stuck_beside_a_route { TriedJournalPrintsAs stuck_beside_a_route
-        (printed_in_at_a ++ codes "  decided 1 v1 rule 100 out:2 authority a part 0"
+        (wrong_journal_printed_in ++ codes "  decided 1 v1 rule 100 out:2 authority a part 0"
         ∷ codes "  stuck 1 a no-route" ∷ []) }
     ensures entered_unasked { TriedJournalPrintsAs entered_unasked (codes "  entered 1 a" ∷ []) }
 {}
 
-/// A packet is decided once, only by the first match and by no other row that matches it. It isn't
-/// decided by a version that was retired when it entered, nor by one that was never submitted. Nor
-/// is it decided by an old version and then by a new one, nor by the rule of the new one with the
-/// old one's action. One that wasn't decided isn't dropped, and a packet leaves only by the port of
-/// its decision. It is lost only by its row or by the crash of its switch, isn't stuck if its
-/// switch knows a route to a target of its leg, and enters only by a row of the schedule.
+/// A packet is decided at most once, by the first match and by no other row that matches it. It
+/// isn't decided by a version that was retired when it entered, nor by one that was never
+/// submitted. Nor is it decided by an old version and then by a new one, nor by the rule of the new
+/// one with the old one's action. One that wasn't decided isn't dropped, and a packet leaves only
+/// by the port of its decision. It is lost only by its row or by the crash of its switch, isn't
+/// stuck if its switch knows a route to a target of its leg, and enters only by a row of the
+/// schedule.
 #[tactic(auto, using(crate::proofs::WrongJournalNoRuns::another_row_is_no_run, crate::proofs::WrongJournalNoRuns::retired_version_is_no_run, crate::proofs::WrongJournalNoRuns::unknown_version_is_no_run, crate::proofs::WrongJournalNoRuns::decided_twice_is_no_run, crate::proofs::WrongJournalNoRuns::half_and_half_is_no_run, crate::proofs::WrongJournalNoRuns::other_port_is_no_run, crate::proofs::WrongJournalNoRuns::dropped_undecided_is_no_run, crate::proofs::WrongJournalRuns::lost_by_nothing_is_run, crate::proofs::WrongJournalRuns::stuck_beside_a_way_is_run, crate::proofs::WrongJournalRuns::entered_unasked_is_run, crate::proofs::WrongJournalCauses::other_port_has_no_cause, crate::proofs::WrongJournalCauses::lost_by_nothing_has_no_cause, crate::proofs::WrongJournalCauses::stuck_beside_a_way_has_no_cause), unfolding(update_machine::specs::Causes::journal_present_step, update_machine::specs::Links::serves, update_machine::specs::Packets::journal_next_packet))]
 pub fn wrong_journals_are_refused()
-    ensures no_runs { IsNoRun another_row × IsNoRun retired_version × IsNoRun unknown_version
-        × IsNoRun decided_twice × IsNoRun half_and_half × IsNoRun dropped_undecided }
-    ensures no_run_nor_caused { IsNoRunNorCaused other_port }
+    ensures no_runs { WrongJournalIsNoRun another_row × WrongJournalIsNoRun retired_version × WrongJournalIsNoRun unknown_version
+        × WrongJournalIsNoRun decided_twice × WrongJournalIsNoRun half_and_half × WrongJournalIsNoRun dropped_undecided }
+    ensures no_run_nor_caused { WrongJournalLacksRunAndCause other_port }
     ensures no_causes { WrongJournalLacksCause lost_by_nothing × WrongJournalLacksCause stuck_beside_a_route }
     ensures no_row { WrongJournalLacksRow entered_unasked }
 {}

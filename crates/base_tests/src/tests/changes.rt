@@ -1,7 +1,7 @@
 //! Changes of policies read from CSV text, and refused.
 use crate::refusals::first_other;
 use policy_file::{
-    NoPort, PolicyError, PolicyFile, check_file_ports, is_change, read_change, read_file,
+    NoPort, PolicyError, PolicyFile, check_policy_file_ports, is_change, read_change, read_file,
     read_policy, write_change,
 };
 use policy_rules::{Action, PortRange, Prefix, Proto, Row};
@@ -163,7 +163,7 @@ fn takes_2000_edits_and_no_more(rt: HostRuntime) {
 fn checked(alloc: Global, ports: u64) -> Option<Result<(), NoPort>> {
     let text = file(alloc).ok()?;
     let change = read_file(alloc, &text).ok()?;
-    Some(check_file_ports(&change, ports))
+    Some(check_policy_file_ports(&change, ports))
 }
 
 #[test]

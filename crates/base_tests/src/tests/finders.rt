@@ -10,7 +10,7 @@ use std::rc::Rc;
 use std::test::Fail;
 use switch_table::{Cache, Found, PartRow, PartRows, Partitions, Tables, lookup};
 use table_tree::{BitTree, Finder, HeaderBit};
-use ternary::{Word, any_laws, fix_laws};
+use ternary::{Word, any_laws, word_fix_laws};
 
 // Tables of three regions, of a switch that is no authority.
 fn tables(alloc: Global) -> Result<Tables, Fail>
@@ -21,7 +21,7 @@ fn tables(alloc: Global) -> Result<Tables, Fail>
     ensures auth { IfOk result (λ t. t.auth ≡ []) }
 {
     any_laws();
-    fix_laws();
+    word_fix_laws();
     let low = Word::any().fix(71, false);
     let targets = Targets::new(&[1]).ok_or("targets")?;
     let mut rows = Vec::new(alloc);

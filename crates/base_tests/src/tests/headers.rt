@@ -1,8 +1,8 @@
 //! Texts of headers and of the fields that match them.
 use five_tuple::{
-    Fields, Header, PortBlock, Proto, count_port_blocks, cover, read_address, read_fields,
-    read_number, read_port, read_prefix, read_proto, read_proto_number, read_range, write_address,
-    write_prefix, write_proto, write_range,
+    Fields, Header, PortBlock, Proto, count_tuple_port_blocks, cover, read_address, read_number,
+    read_port, read_prefix, read_proto, read_proto_number, read_range, read_tuple_fields,
+    write_address, write_prefix, write_proto, write_range,
 };
 use std::alloc::{AllocError, Global};
 
@@ -99,7 +99,7 @@ fn web_fields(proto: u8) -> Fields {
 
 // The fields of a packet from this address.
 fn packet_from(src: &str) -> Option<Fields> {
-    read_fields(src.as_bytes(), b"9.9.9.9", b"5000", b"80", b"tcp")
+    read_tuple_fields(src.as_bytes(), b"9.9.9.9", b"5000", b"80", b"tcp")
 }
 
 #[test]
@@ -194,7 +194,7 @@ fn is_covered(alloc: Global, text: &str, count: u32, first: PortBlock) -> Option
     let range = read_range(text.as_bytes())?;
     let blocks = cover(alloc, &range).ok()?;
     let is_first = blocks.first().copied() == Some(first);
-    Some(is_first && blocks.len() == count as usize && count_port_blocks(&range) == count)
+    Some(is_first && blocks.len() == count as usize && count_tuple_port_blocks(&range) == count)
 }
 
 #[test]

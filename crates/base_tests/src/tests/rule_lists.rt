@@ -4,7 +4,7 @@ ghost use Rattle.std.specs.Prelude.{◌<◌, ◌^◌, length};
 use crate::packets::web_header;
 use policy_rules::{
     Action, Hit, Partition, Policy, PortRange, Prefix, Proto, Row, Rule, Rules, Targets,
-    count_match_words, first_hit, to_rules,
+    count_policy_match_words, first_hit, to_rules,
 };
 use std::alloc::{AllocError, Global};
 use ternary::Word;
@@ -149,7 +149,7 @@ fn counts_words(rt: HostRuntime) {
 fn is_cloned(alloc: Global) -> Option<bool> {
     let policy = policy_of(alloc, &[wide_row()])?;
     let copy = policy.clone().ok()?;
-    Some(copy.rows() == policy.rows() && count_match_words(&policy) == 1)
+    Some(copy.rows() == policy.rows() && count_policy_match_words(&policy) == 1)
 }
 
 // Whether a partition of these rules is cloned.

@@ -2,7 +2,7 @@
 use crate::refusals::first_other;
 use five_tuple::Fields;
 use net_file::read_net;
-use schedule::{Event, Header, Kind, ScheduleError, Step, read_kind, read_schedule};
+use schedule::{Event, Header, Kind, ScheduleError, Step, read_schedule, read_schedule_kind};
 use std::alloc::{AllocError, Global};
 
 // Two switches and the link between them, and a third one without links.
@@ -123,7 +123,9 @@ fn reads_events(rt: HostRuntime) {
 
 #[test]
 fn reads_kinds(rt: HostRuntime) {
-    assert!(rt; read_kind(b"linkup") == Some(Kind::LinkUp) && read_kind(b"link").is_none());
+    assert!(rt;
+        read_schedule_kind(b"linkup") == Some(Kind::LinkUp) && read_schedule_kind(b"link").is_none()
+    );
 }
 
 // The code and the row of the refusal of this text, with this many policies.

@@ -5,7 +5,7 @@ ghost use Rattle.ternary.specs.Meets.{any_word};
 ghost use Rattle.policy_rules.specs.Hosted.{is_in_policy_partition};
 ghost use Rattle.policy_rules.specs.declared.packet.Leg.TheVariants.{Seek};
 ghost use Rattle.switch_table.specs.Tables.{AreSoundSwitchTables};
-ghost use Rattle.switch_core.specs.Exports.{CanSwitchLookUp, HasSwitchAdvertUpTo, IsAtAuthoritySwitch, PacketStandsAtSwitch, own_part, serves};
+ghost use Rattle.switch_core.specs.Exports.{CanSwitchLookUp, HasSwitchAdvertUpTo, IsSwitchAuthorityForLeg, SwitchStandsAtRoutePlace, own_part, serves};
 ghost use Rattle.tunnel.specs.Moves.{next};
 
 use ctrl_msg::{Body, SharedTables};
@@ -102,14 +102,14 @@ fn seeking(version: u32) -> Result<Tunnel, Fail>
 
 // Whether the packet is at the switch.
 fn is_at(packet: &Tunnel, switch: &Switch) -> bool
-    ensures { IsTrue result → PacketStandsAtSwitch switch.now packet.now.route packet.now.place }
+    ensures { IsTrue result → SwitchStandsAtRoutePlace switch.now packet.now.route packet.now.place }
 {
     packet.here() == switch.number()
 }
 
 // Whether it is there at the end of its route.
 fn is_at_end(packet: &Tunnel, switch: &Switch) -> bool
-    ensures here { IsTrue result → PacketStandsAtSwitch switch.now packet.now.route packet.now.place }
+    ensures here { IsTrue result → SwitchStandsAtRoutePlace switch.now packet.now.route packet.now.place }
     ensures last { IsTrue result → next packet.now ≡ None }
 {
     is_at(packet, switch) && packet.next().is_none()
@@ -122,7 +122,7 @@ fn authority(alloc: Global) -> Result<Switch, Fail>
     ensures seq { IfOk result (λ s. s.seq ≡ 1) }
     ensures serves { IfOk result (λ s. IsTrue (serves s)) }
     ensures stamped { IfOk result CanSwitchLookUp }
-    ensures part { IfOk result (λ s. (header : Header) → IsAtAuthoritySwitch s header (Seek 1 0)) }
+    ensures part { IfOk result (λ s. (header : Header) → IsSwitchAuthorityForLeg s header (Seek 1 0)) }
 {
     let tables = authority_tables(alloc, 1)?;
     Ok(Switch::begin(alloc, 1, 4, tables, chain())?)

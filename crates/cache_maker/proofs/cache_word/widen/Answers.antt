@@ -3,8 +3,8 @@ use Rattle.std.proofs.lemmas.List.Quantifiers.{position-Some}
 use Rattle.std.proofs.lemmas.Nat.{one_shl, or_lt, xor_lt}
 use Rattle.five_tuple.specs.Exports.{number_of}
 use Rattle.policy_rules.specs.Exports.{is_held}
-use Rattle.ternary.specs.Exports.{IsWord, WordValue, exact_word, free_of, holds, is_fixed_of}
-use Rattle.cache_maker.specs.Differing.{IsWideningWithoutReasons}
+use Rattle.ternary.specs.Exports.{IsWord, WordValue, exact_word, ternary_with_bit_freed, holds, is_fixed_of}
+use Rattle.cache_maker.specs.Differing.{AreWidenedBitsWithoutReason}
 use Rattle.cache_maker.specs.Independent.{IsIndependentCacheWord, widen, widening_of}
 use Rattle.cache_maker.proofs.IndependentCacheWords.{exact_independent}
 use Rattle.cache_maker.proofs.CacheWordFixedBits.{IsGiven, IsNewReason, closes_both, differs_somewhere, fixed_at_first, fixed_next, independent_at, is_new_reason, left_less, left_over, without_open, word_at_last, word_is_sound}
@@ -19,7 +19,7 @@ loop-place-init c =
     let index = c.args.index in
     let closed = bit_or c.mask.result c.mask-2.result in
     let same = c.number-number.ensures.number in
-    let sound = c.words_are_sound.ensures in
+    let sound = c.cache_maker_words_are_sound.ensures in
     let bound = subst (λ n. n < 2 ^ 104) same c.number-number.ensures.bound in
     let start = exact_independent c.covers_laws.ensures c.meet_laws.ensures region rules index
     (number_of c.args.h.now) sound.region sound.rules bound c.requires.region c.requires.first_hit in
@@ -27,7 +27,7 @@ loop-place-init c =
     let given : IsGiven number region rules index closed = record {
       covers = c.covers_laws.ensures;
       meet = c.meet_laws.ensures;
-      exact = c.exact_laws.ensures;
+      exact = c.ternary_exact_laws.ensures;
       free = c.free_laws.ensures;
       bound = c.number-number.ensures.bound;
       words = sound.rules;
@@ -39,7 +39,7 @@ loop-place-init c =
           c.mask.ensures.mask c.mask-2.ensures.mask;
     } in record {
       given = given;
-      are = rw c.no_reasons-reasons.ensures (fixed_at_first number closed (take index rules)
+      are = rw c.no_cache_word_reasons-reasons.ensures (fixed_at_first number closed (take index rules)
           (or_lt 104 c.mask.result c.mask-2.result c.mask.ensures.bound c.mask-2.ensures.bound));
       from = omega arith;
     }
@@ -69,7 +69,7 @@ closed_bound : (c : goal.After-without) → bit_or c.mask.result c.mask-2.result
 closed_bound c = or_lt 104 c.mask.result c.mask-2.result c.mask.ensures.bound c.mask-2.ensures.bound
 
 -- what stays of all fixed bits
-stays : (c : goal.After-without) → IsWideningWithoutReasons c.loop-place.fixed c.loop-place.reasons
+stays : (c : goal.After-without) → AreWidenedBitsWithoutReason c.loop-place.fixed c.loop-place.reasons
     c.ilog2-bit.result (bit_or (bit_or c.mask.result c.mask-2.result) c.without.result)
 stays c = without_open c.loop-place.invariant.are (closed_bound c) c.without.ensures
 
@@ -149,6 +149,6 @@ returns c =
           (independent_at given 104);
       widest = λ bit within fixed is. widest given.covers given.meet given.free number region rules
           index bit within (subst (λ (w : WordValue). IsTrue (is_fixed_of w bit)) made fixed)
-          (subst (λ (w : WordValue). IsIndependentCacheWord region rules index (free_of w bit)) made is);
+          (subst (λ (w : WordValue). IsIndependentCacheWord region rules index (ternary_with_bit_freed w bit)) made is);
       word = is_word;
     }

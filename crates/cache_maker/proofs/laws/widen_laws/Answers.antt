@@ -8,7 +8,7 @@ unfolding widen
 returns c =
     let covers = c.covers_laws.ensures in
     let meet = c.meet_laws.ensures in
-    let exact = c.exact_laws.ensures in
+    let exact = c.ternary_exact_laws.ensures in
     let free = c.free_laws.ensures in record {
       widest = λ h region rules index is. record {
         is_word = widened_word free h region rules index 104 (exact.word h is.bound);

@@ -1,11 +1,11 @@
 use Rattle.std.proofs.Common.{[], ◌++◌, ◌+◌, ◌==◌, ◌∙◌, ◌∷◌, ◌≡◌, ◌≤◌, All, Bool, Err, Global, IsSome, IsTrue, List, Ok, Vec, ap, arith, drop, get_or, length, length-append, subst, sym, ℕ}
 use Rattle.base.proofs.Exports.{All-push, ForSome, length-map}
-use Rattle.policy_file.specs.Exports.{policy_file_length, policy_file_names_port}
-use Rattle.policy_rules.specs.Exports.{PolicyRulesGiveOnly, IsPolicyOrAmendment}
+use Rattle.policy_file.specs.Exports.{policy_file_length, policy_names_only_ports}
+use Rattle.policy_rules.specs.Exports.{PolicyFileRowsAre, IsPolicyRulesOrAmendment}
 use Rattle.update_machine.specs.Exports.{PolicyFile}
 use Rattle.command_line.specs.Exports.{argument_names_seen}
 use Rattle.world.specs.Exports.{first_policy}
-use Rattle.command_inputs.specs.Exports.{CommandEndsRead, CommandStatusNamesOneOf, read_file, command_status_of}
+use Rattle.command_inputs.specs.Exports.{CommandInputReadEnds, CommandStatusNamesOneOf, read_file, command_status_of}
 use Rattle.command_inputs.specs.declared.status.Stop.TheVariants as stop
 use Rattle.command_inputs.proofs.InputCalmReads.{stops_behind, stops_with}
 use Rattle.command_inputs.proofs.InputFileReads.{HasRead, at_next, first_behind, is_none, name_there, one_read, reads_at, stops_at}
@@ -27,10 +27,10 @@ returns-in_err-file-clause-read g c =
     c.loop-name-test.true in
     stops_at _ _ _ _ _ (λ (read : Vec PolicyFile Global). read.items) old middle now stop
     c.from_residual.result c.from_residual.ensures.1 so_far
-    (subst (λ (is_first : Bool). CommandEndsRead middle.files (λ files. read_file is_first c.args.ports
+    (subst (λ (is_first : Bool). CommandInputReadEnds middle.files (λ files. read_file is_first c.args.ports
     files (get_or (argument_names_seen names) c.loop-name.name-index [])) (λ (file : PolicyFile). file)
     middle now (Err stop)) (c.is_empty.ensures ∙ counted c.loop-name.read)
-    (subst (λ (name : List ℕ). CommandEndsRead middle.files (λ files. read_file c.is_empty.result
+    (subst (λ (name : List ℕ). CommandInputReadEnds middle.files (λ files. read_file c.is_empty.result
     c.args.ports files name) (λ (file : PolicyFile). file) middle now (Err stop))
     (name_there names c.loop-name.name-index _ c.loop-name-test.true) c.in_err-file.ensures.read))
 
@@ -68,7 +68,7 @@ loop-name-preserved g c =
     let before = c.loop-name.read.items in
     let file = c.in_ok-file.file in
     let pushed : c.push.new.self.items ≡ before ++ file ∷ [] = c.in_ok-push.ensures.items in
-    let HasOwn : PolicyFile → Type 0 = PolicyRulesGiveOnly (λ row. IsTrue (policy_file_names_port c.args.ports row.action)) in
+    let HasOwn : PolicyFile → Type 0 = PolicyFileRowsAre (λ row. IsTrue (policy_names_only_ports c.args.ports row.action)) in
     let IsShort : PolicyFile → Type 0 = λ (file : PolicyFile). policy_file_length file ≤ 2000 in
     let name = get_or (argument_names_seen names) c.loop-name.name-index [] in
     let is_first : c.is_empty.result ≡ is_none before =
@@ -96,8 +96,8 @@ loop-name-preserved g c =
           c.in_ok-file.ensures.whole);
       own_ports = subst (All HasOwn) (sym pushed) (All-push HasOwn before file
           c.loop-name.invariant.own_ports c.in_ok-file.ensures.own_ports);
-      sound = subst (All IsPolicyOrAmendment) (sym pushed)
-          (All-push IsPolicyOrAmendment before file c.loop-name.invariant.sound c.in_ok-file.ensures.sound);
+      sound = subst (All IsPolicyRulesOrAmendment) (sym pushed)
+          (All-push IsPolicyRulesOrAmendment before file c.loop-name.invariant.sound c.in_ok-file.ensures.sound);
       few = subst (All IsShort) (sym pushed)
           (All-push IsShort before file c.loop-name.invariant.few c.in_ok-file.ensures.few);
       calm = c.in_ok-file.ensures.shelf.calm ∙ c.loop-name.invariant.calm;

@@ -1,6 +1,6 @@
 use Rattle.std.proofs.Common.{◌<◌, ◌≡◌, ◌≤◌, All, IsSome, IsTrue, drop, length}
-use Rattle.policy_file.specs.Exports.{policy_file_length, policy_file_names_port}
-use Rattle.policy_rules.specs.Exports.{PolicyRulesGiveOnly, IsPolicyOrAmendment}
+use Rattle.policy_file.specs.Exports.{policy_file_length, policy_names_only_ports}
+use Rattle.policy_rules.specs.Exports.{PolicyFileRowsAre, IsPolicyRulesOrAmendment}
 use Rattle.world.specs.Exports.{first_policy}
 use Rattle.command_line.specs.Exports.{argument_names_seen}
 use Rattle.command_inputs.proofs.InputFileReads.{HasRead}
@@ -12,8 +12,8 @@ invariant-loop-name g l = record {
       (g.F.Shelf.state l.fn.shelf) (g.F.Shelf.state l.shelf);
   many : length l.read.items ≡ l.name-index;
   first : 0 < l.name-index → IsSome (first_policy l.read.items);
-  own_ports : All (PolicyRulesGiveOnly (λ row. IsTrue (policy_file_names_port l.ports row.action))) l.read.items;
-  sound : All IsPolicyOrAmendment l.read.items;
+  own_ports : All (PolicyFileRowsAre (λ row. IsTrue (policy_names_only_ports l.ports row.action))) l.read.items;
+  sound : All IsPolicyRulesOrAmendment l.read.items;
   few : All (λ file. policy_file_length file ≤ 2000) l.read.items;
   calm : (g.F.Shelf.state l.shelf).faults ≡ (g.F.Shelf.state l.fn.shelf).faults;
 }

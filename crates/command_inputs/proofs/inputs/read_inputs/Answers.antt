@@ -1,7 +1,7 @@
 use Rattle.world.specs.Exports.{world_setting_at}
 use Rattle.base.proofs.Exports.{ForSome, common_steps, length-map}
 use Rattle.std.proofs.Common.{[], ◌+◌, ◌∙◌, ◌∷◌, ◌≡◌, Some, ap, arith, option_to_list, refl}
-use Rattle.shelf.specs.Exports.{IsAfterReads}
+use Rattle.shelf.specs.Exports.{IsShelfAfterReads}
 use Rattle.command_line.specs.Exports.{Replay, replay_arguments_named}
 use Rattle.command_inputs.specs.Exports.{command_replay_inputs, command_most_reads, command_net_reads}
 use Rattle.command_inputs.proofs.InputBegunNetwork.{all_are_events, as_many, asked_for, ends_in_check, few_named, inputs_are, inputs_then, plan_accounts, planned_inputs}
@@ -49,7 +49,7 @@ returns-in_err-files-clause-shelf g c =
 
 -- the network, the schedule and the policies are all that is read
 policies_read : (g : Over) (c : In_ok-files g)
-    → IsAfterReads (command_most_reads (g.F.Shelf.state c.args.shelf.now).files
+    → IsShelfAfterReads (command_most_reads (g.F.Shelf.state c.args.shelf.now).files
     (Some (Replay (replay_arguments_named c.args.args.now))))
     (g.F.Shelf.state c.args.shelf.now) (g.F.Shelf.state c.read_files.new.shelf)
 policies_read g c = all_reads (replay_arguments_named c.args.args.now) c.in_ok-net.net

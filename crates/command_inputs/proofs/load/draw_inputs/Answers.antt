@@ -9,14 +9,14 @@ drawn c = are_drawn c.net_port_laws.ensures (case_seen c.in-Ok.case) c.in_ok-fil
     (subst (λ (load : LoadCase). 1 ≤ length load.policies) (sym c.in-Ok.ensures.case) (omega arith))
     c.in-Ok.ensures.policies c.in-Ok.ensures.playable c.in_ok-files.ensures
 
-pub begin_world-requires-clause-first : goal.begin_world-requires-clause-first
-begin_world-requires-clause-first c =
-    (drawn (goal.at.begin_world-requires-clause-first c).In_ok-files).first
+pub begin_world_of_inputs-requires-clause-first : goal.begin_world_of_inputs-requires-clause-first
+begin_world_of_inputs-requires-clause-first c =
+    (drawn (goal.at.begin_world_of_inputs-requires-clause-first c).In_ok-files).first
 
-pub begin_world-requires-clause-sound : goal.begin_world-requires-clause-sound
-begin_world-requires-clause-sound c =
-    (drawn (goal.at.begin_world-requires-clause-sound c).In_ok-files).sound
+pub begin_world_of_inputs-requires-clause-sound : goal.begin_world_of_inputs-requires-clause-sound
+begin_world_of_inputs-requires-clause-sound c =
+    (drawn (goal.at.begin_world_of_inputs-requires-clause-sound c).In_ok-files).sound
 
-pub begin_world-requires-clause-ports : goal.begin_world-requires-clause-ports
-begin_world-requires-clause-ports c =
-    (drawn (goal.at.begin_world-requires-clause-ports c).In_ok-files).ports
+pub begin_world_of_inputs-requires-clause-ports : goal.begin_world_of_inputs-requires-clause-ports
+begin_world_of_inputs-requires-clause-ports c =
+    (drawn (goal.at.begin_world_of_inputs-requires-clause-ports c).In_ok-files).ports

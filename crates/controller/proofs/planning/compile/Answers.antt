@@ -47,7 +47,7 @@ new-requires-clause-sound c =
     let ready = ready_to_host (goal.at.new-requires-clause-sound c).After-place in
     let planned = planned_at _ _ _ _ _ _ _ ready c.in_ok-targets.ensures.value in
     let sound = plan_sound _ _ _ c.requires
-    (c.plan_laws.ensures.holds _ _ _ c.in_ok-rules.ensures.policy c.requires planned) in
+    (c.partition_plan_laws.ensures.holds _ _ _ c.in_ok-rules.ensures.policy c.requires planned) in
     rw (c.in_ok-policy.ensures.cases, c.deref-5.ensures.value, c.in_ok-parts.ensures.parts) sound
 
 pub returns-clause-plan : goal.returns-clause-plan
@@ -66,7 +66,7 @@ returns-clause-parts c =
       c.in_ok-plan.ensures.hosted,
       c.deref-5.ensures.value,
       c.in_ok-parts.ensures.parts,
-    ) (c.plan_laws.ensures.holds _ _ _ c.in_ok-rules.ensures.policy c.requires planned)
+    ) (c.partition_plan_laws.ensures.holds _ _ _ c.in_ok-rules.ensures.policy c.requires planned)
 
 pub returns-clause-leads : goal.returns-clause-leads
 returns-clause-leads c = plan_leads _ _ _ (returns-clause-parts c)

@@ -13,13 +13,13 @@ pub returns-then-fixed-eq0 : goal.returns-then-fixed-eq0
 returns-then-fixed-eq0 c = λ bit free.
     let is = fixed_is (goal.at.returns-then-fixed-eq0 c).After-mask-2 in
     covered_whole c.args.word.now c.args.region.now bit c.args.one _ c.requires
-    (sym is ∙ c.if-fixed-eq0.true) (c.halves_met-met.ensures bit free.bound)
+    (sym is ∙ c.if-fixed-eq0.true) (c.cut_halves_met-met.ensures bit free.bound)
 
 pub returns-then-is_one_cut_bit : goal.returns-then-is_one_cut_bit
 returns-then-is_one_cut_bit c = λ bit free.
     let is = fixed_is (goal.at.returns-then-is_one_cut_bit c).After-mask-2 in
     rw is (covered_one c.args.word.now c.args.region.now _ bit c.args.one _ c.requires (sym is
-    ∙ c.is_one_cut_bit.ensures.0 c.if-is_one_cut_bit.true) (c.halves_met-met.ensures bit free.bound))
+    ∙ c.is_one_cut_bit.ensures.0 c.if-is_one_cut_bit.true) (c.cut_halves_met-met.ensures bit free.bound))
 
 pub returns-else-is_one_cut_bit : goal.returns-else-is_one_cut_bit
 returns-else-is_one_cut_bit c = λ bit free.

@@ -12,5 +12,5 @@ pub returns : goal.returns
 returns c =
     rw (c.new.ensures, c.count.ensures, c.count-2.ensures)
     (counted_cut c.count_cut_sides.result.0 c.count_cut_sides.result.1 c.args.rules.now c.args.region.now c.free_bits_to_cut-free.result
-    c.least_cut_bit-bit.result c.count_cut_sides.ensures.low c.count_cut_sides.ensures.high
-    c.free_bits_to_cut-free.ensures c.least_cut_bit-bit.ensures.member c.least_cut_bit-bit.ensures.least)
+    c.cut_tree_cheapest_bit-bit.result c.count_cut_sides.ensures.low c.count_cut_sides.ensures.high
+    c.free_bits_to_cut-free.ensures c.cut_tree_cheapest_bit-bit.ensures.member c.cut_tree_cheapest_bit-bit.ensures.least)

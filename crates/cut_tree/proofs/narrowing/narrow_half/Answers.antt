@@ -11,7 +11,7 @@ loop-rule-preserved-in_default c =
     let rules = c.args.rules.now in
     let region = c.args.region.now in
     let lies = lies_at region rules _ _ c.requires.within (omega arith) c.rule-item.is in
-    let none = sym (c.with_bit.ensures region c.mask.ensures.word c.requires.free lies) ∙ c.in_default.is in
+    let none = sym (c.cut_word_with_bit.ensures region c.mask.ensures.word c.requires.free lies) ∙ c.in_default.is in
     c.loop-rule.invariant ∙ ap (λ (xs : List Rule). c.loop-rule.kept.items ++ xs)
     (narrow_past rules _ _ _ (omega arith) c.rule-item.is none)
 
@@ -22,7 +22,7 @@ meets_half : (c : After-mask-in-loop-rule) → ◌≡◌ {A = Option WordValue}
 meets_half c =
     let region = c.args.region.now in
     let lies = lies_at region c.args.rules.now _ _ c.requires.within (omega arith) c.rule-item.is in
-    sym (c.with_bit.ensures region c.mask.ensures.word c.requires.free lies) ∙ c.in-Some.is
+    sym (c.cut_word_with_bit.ensures region c.mask.ensures.word c.requires.free lies) ∙ c.in-Some.is
 
 mask_is : (c : After-mask-in-loop-rule)
     → c.mask-whole.result ≡ (word_fix_of c.args.region.now c.args.bit c.args.one).mask

@@ -10,9 +10,9 @@ returns-clause-outcome g c = let ended = c.run-finished.result in
     come_to (argument_texts c.args.words.now) (g.F.Shelf.state c.args.shelf.now).files
     g.K.Sink.takes_memory ended.status ended.journal _ _ (g.K.Sink.state c.args.out.now)
     (g.K.Sink.state c.run-finished.new.out)
-    (seen_are _ (new_command_meter c.command_asks_flows-counts_flows.result) (range_with_len 0 64)
+    (seen_are _ (new_command_meter c.program_call_asks_flows-counts_flows.result) (range_with_len 0 64)
     c.in_ok-meters.meters.items c.in_ok-meters.ensures
-    ∙ ap new_command_meters c.command_asks_flows-counts_flows.ensures)
+    ∙ ap new_command_meters c.program_call_asks_flows-counts_flows.ensures)
     c.run-finished.ensures.outcome
 
 pub returns-clause-flows : goal.returns-clause-flows

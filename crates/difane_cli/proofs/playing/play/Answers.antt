@@ -1,85 +1,133 @@
-use Rattle.std.proofs.Common.{◌∙◌, Bool, IsTrue, List, ap, inr, map, subst, sym, ℕ}
-use Rattle.meters.specs.Exports.{gone_records, kept_meters}
+use Rattle.std.proofs.Common.{◌∙◌, ◌≡◌, Bool, IsTrue, List, Ok, Option, Some, ap, inr, map, subst, sym, ℕ}
+use Rattle.base.proofs.Exports.{ForSome}
+use Rattle.shelf.specs.Exports.{Files}
+use Rattle.command_line.specs.Exports.{Command}
+use Rattle.meters.specs.Exports.{gone_meter_records, kept_meters}
 use Rattle.meters.specs.declared.flows.FlowRecord.{FlowRecord}
 use Rattle.update_machine.specs.Exports.{Event, IsMachinePlay, Net}
 use Rattle.replay.specs.Leavings.{left_in, kept_by}
-use Rattle.difane_cli.specs.Exports.{IsAfterCommandText, command_gone_records_by, is_command_verdict_asked, is_command_output_made, play_text}
-use Rattle.command_inputs.specs.Exports.{task_inputs_stated}
+use Rattle.difane_cli.specs.Exports.{CommandPlayOutcome, CommandStatusEndsWork, IsAfterCommandText, ProgramMemoryRanOut, command_gone_records_by, is_command_verdict_asked, is_command_output_made, program_play_text}
+use Rattle.command_inputs.specs.Exports.{AreCommandPlayInputs, Play, command_status_after, known_command_input_task, task_inputs_stated}
+use Rattle.command_inputs.specs.declared.status.Status.TheVariants.{NoMemory}
 use Rattle.difane_cli.proofs.ProgramPlayOutcomes.{judged, played, told, unjudged}
 use Rattle.difane_cli.proofs.ProgramStatus.{after_work, by_failed, by_memory, of_failed, on_err, out_of_judging, out_of_writing}
 use Rattle.difane_cli.proofs.playing.play.Goals as goal
+use Rattle.difane_cli.proofs.playing.play.Goals.{After-write_report, in-Err, in-Ok-write_report}
+use Rattle.difane_cli.proofs.playing.play.Given.{Over}
 
-pub returns-clause-outcome : goal.returns-clause-outcome
-returns-clause-outcome g c = λ command files asked read. let inputs = task_inputs_stated c.args.inputs in
+-- what the play comes to, by what became of its text
+outcome_of : (g : Over) (c : After-write_report g) (command : Command) (files : Option Files)
+    → AreCommandPlayInputs command (task_inputs_stated c.args.inputs)
+    → ForSome (known_command_input_task files (Some command))
+    (λ read. read ≡ Ok (Play (task_inputs_stated c.args.inputs)))
+    → CommandPlayOutcome command files g.K.Sink.takes_memory
+    (command_status_after c.write_report.result c.in-Ok.played.full) c.in-Ok.played.journal
+    (map g.M.Meter.seen c.args.meters.items) (map g.M.Meter.seen c.in-Ok.played.meters.items)
+    (g.K.Sink.state c.args.out.now) (g.K.Sink.state c.write_report.new.out)
+outcome_of g c command files asked read = let inputs = task_inputs_stated c.args.inputs in
     let full = c.in-Ok.played.full in
     let journal = c.in-Ok.played.journal in
-    let said = c.in-Ok-judge.answer in
-    let laws = c.answer_laws.ensures in
+    let said = c.in-Ok-judge_program_quiet.answer in
+    let laws = c.program_answer_laws.ensures in
     let play = subst (λ (events : List Event). IsMachinePlay inputs.setting events journal full)
     c.deref.ensures.value c.in-Ok.ensures.play in
     let answer = played laws command files inputs journal full asked read c.requires.ready.sound play
     c.in-Ok.ensures.held in
     let verdict = judged laws command files inputs journal full c.args.inputs.net said answer
     c.requires.ready.net
-    (c.in-Ok-judge.ensures.asked ∙ ap (λ q. is_command_verdict_asked q full) c.command_asks_quiet.ensures)
-    c.in-Ok-judge.ensures.decides in
+    (c.in-Ok-judge_program_quiet.ensures.asked ∙ ap (λ q. is_command_verdict_asked q full) c.program_asks_quiet.ensures)
+    c.in-Ok-judge_program_quiet.ensures.decides in
     let taken = map g.M.Meter.seen c.args.meters.items in
     let given = map g.M.Meter.seen c.in-Ok.played.meters.items in
     let before = g.K.Sink.state c.args.out.now in
-    let now = g.K.Sink.state c.write_report-written.new.out in
-    let written = c.write_report-written.result in
+    let now = g.K.Sink.state c.write_report.new.out in
+    let written = c.write_report.result in
     let in_memory = is_command_output_made inputs.report full in
     let takes_memory = g.K.Sink.takes_memory in
     let kept = c.in-Ok.ensures.kept
     ∙ ap (λ (ports : ℕ). kept_meters ports (left_in journal) taken) c.port_mask.ensures
     ∙ ap (λ (net : Net). kept_by net journal taken) (sym c.requires.ready.net) in
     let gone = c.in-Ok.ensures.gone
-    ∙ ap (λ (ports : ℕ). gone_records ports (left_in journal) taken) c.port_mask.ensures in
-    let after = subst (λ (net : Net). IsAfterCommandText (play_text inputs.report net journal full
+    ∙ ap (λ (ports : ℕ). gone_meter_records ports (left_in journal) taken) c.port_mask.ensures in
+    let after = subst (λ (net : Net). IsAfterCommandText (program_play_text inputs.report net journal full
     (command_gone_records_by net journal taken) given said) in_memory takes_memory before now written)
     (sym c.requires.ready.net) (subst (λ (records : List FlowRecord). IsAfterCommandText
-    (play_text inputs.report c.args.inputs.net journal full records given said) in_memory
-    takes_memory before now written) gone c.write_report-written.ensures) in
-    rw c.after.ensures (told laws command files inputs journal full taken given said before now
-    takes_memory written answer kept verdict after)
+    (program_play_text inputs.report c.args.inputs.net journal full records given said) in_memory
+    takes_memory before now written) gone c.write_report.ensures) in
+    told laws command files inputs journal full taken given said before now takes_memory written answer
+    kept verdict after
 
-pub returns-in_default-judge-clause-outcome : goal.returns-in_default-judge-clause-outcome
-returns-in_default-judge-clause-outcome g c = λ command files asked read.
+ends_of : (g : Over) (c : After-write_report g)
+    → CommandStatusEndsWork (command_status_after c.write_report.result c.in-Ok.played.full)
+    (g.K.Sink.state c.args.out.now) (g.K.Sink.state c.write_report.new.out)
+ends_of g c = let written = c.write_report.result in
+    let full = c.in-Ok.played.full in
+    let after = c.write_report.ensures in record {
+      worked = after_work written full;
+      failed = λ is. after.failed (by_failed written full is);
+      calm = λ not. after.calm (λ is. not (of_failed written full is));
+      faults = after.faults;
+    }
+
+memory_of : (g : Over) (c : After-write_report g) (command : Command)
+    → AreCommandPlayInputs command (task_inputs_stated c.args.inputs)
+    → command_status_after c.write_report.result c.in-Ok.played.full ≡ NoMemory
+    → ProgramMemoryRanOut (Some command) g.K.Sink.takes_memory c.in-Ok.played.journal
+    (g.K.Sink.state c.args.out.now) (g.K.Sink.state c.write_report.new.out)
+memory_of g c command own is = out_of_writing command (task_inputs_stated c.args.inputs)
+    c.in-Ok.played.full g.K.Sink.takes_memory _ _ _ own
+    (c.write_report.ensures.no_memory (by_memory c.write_report.result c.in-Ok.played.full is))
+
+pub returns-clause-outcome : goal.returns-clause-outcome
+returns-clause-outcome g c = λ command files asked read. let ended : c.match-write_report.status
+    ≡ command_status_after c.write_report.result c.in-Ok.played.full = elim c.match-write_report.branch [
+      | in-Ok-write_report w ↦ w.status-is ∙ w.after-status.ensures
+          ∙ ap (λ result. command_status_after result c.in-Ok.played.full) (sym w.in-Ok-write_report.is)
+      | in-Err w ↦ w.status-is ∙ w.from-status.ensures
+          ∙ ap (λ result. command_status_after result c.in-Ok.played.full) (sym w.in-Err.is)
+    ] in
+    rw ended (outcome_of g (goal.at.returns-clause-outcome g c).After-write_report command files asked read)
+
+pub returns-clause-ended : goal.returns-clause-ended
+returns-clause-ended g c = let ended : c.match-write_report.status
+    ≡ command_status_after c.write_report.result c.in-Ok.played.full = elim c.match-write_report.branch [
+      | in-Ok-write_report w ↦ w.status-is ∙ w.after-status.ensures
+          ∙ ap (λ result. command_status_after result c.in-Ok.played.full) (sym w.in-Ok-write_report.is)
+      | in-Err w ↦ w.status-is ∙ w.from-status.ensures
+          ∙ ap (λ result. command_status_after result c.in-Ok.played.full) (sym w.in-Err.is)
+    ] in
+    rw ended (ends_of g (goal.at.returns-clause-ended g c).After-write_report)
+
+pub returns-clause-no_memory : goal.returns-clause-no_memory
+returns-clause-no_memory g c = λ command own is. let ended : c.match-write_report.status
+    ≡ command_status_after c.write_report.result c.in-Ok.played.full = elim c.match-write_report.branch [
+      | in-Ok-write_report w ↦ w.status-is ∙ w.after-status.ensures
+          ∙ ap (λ result. command_status_after result c.in-Ok.played.full) (sym w.in-Ok-write_report.is)
+      | in-Err w ↦ w.status-is ∙ w.from-status.ensures
+          ∙ ap (λ result. command_status_after result c.in-Ok.played.full) (sym w.in-Err.is)
+    ] in
+    memory_of g (goal.at.returns-clause-no_memory g c).After-write_report command own (rw ended at is)
+
+pub returns-in_default-judge_program_quiet-clause-outcome : goal.returns-in_default-judge_program_quiet-clause-outcome
+returns-in_default-judge_program_quiet-clause-outcome g c = λ command files asked read.
     let inputs = task_inputs_stated c.args.inputs in
     let full = c.in-Ok.played.full in
     let journal = c.in-Ok.played.journal in
-    let laws = c.answer_laws.ensures in
+    let laws = c.program_answer_laws.ensures in
     let play = subst (λ (events : List Event). IsMachinePlay inputs.setting events journal full)
     c.deref.ensures.value c.in-Ok.ensures.play in
     let answer = played laws command files inputs journal full asked read c.requires.ready.sound play
     c.in-Ok.ensures.held in
     let kept = c.in-Ok.ensures.kept ∙ ap (λ (ports : ℕ). kept_meters ports (left_in journal)
     (map g.M.Meter.seen c.args.meters.items)) c.port_mask.ensures in
-    let wants = on_err c.judge.result _ c.judge.ensures.wants c.in_default-judge.not-Ok in
+    let wants = on_err c.judge_program_quiet.result _ c.judge_program_quiet.ensures.wants c.in_default-judge_program_quiet.not-Ok in
     inr (unjudged command files g.K.Sink.takes_memory inputs journal full
     (map g.M.Meter.seen c.args.meters.items) (map g.M.Meter.seen c.in-Ok.played.meters.items)
     (g.K.Sink.state c.args.out.now) answer (rw c.requires.ready.net kept)
-    (subst (λ (asked : Bool). IsTrue (is_command_verdict_asked asked full)) c.command_asks_quiet.ensures wants))
+    (subst (λ (asked : Bool). IsTrue (is_command_verdict_asked asked full)) c.program_asks_quiet.ensures wants))
 
-pub returns-clause-ended : goal.returns-clause-ended
-returns-clause-ended g c =
-    let written = c.write_report-written.result in
-    let full = c.in-Ok.played.full in
-    let after = c.write_report-written.ensures in record {
-      worked = rw c.after.ensures (after_work written full);
-      failed = λ is. after.failed (by_failed written full (rw c.after.ensures at is));
-      calm = λ not. after.calm (λ is. not (c.after.ensures ∙ of_failed written full is));
-      faults = after.faults;
-    }
-
-pub returns-clause-no_memory : goal.returns-clause-no_memory
-returns-clause-no_memory g c = λ command own is. out_of_writing command
-    (task_inputs_stated c.args.inputs) c.in-Ok.played.full g.K.Sink.takes_memory _ _ _ own
-    (c.write_report-written.ensures.no_memory (by_memory c.write_report-written.result
-    c.in-Ok.played.full (rw c.after.ensures at is)))
-
-pub returns-in_default-judge-clause-no_memory : goal.returns-in_default-judge-clause-no_memory
-returns-in_default-judge-clause-no_memory g c = λ command own is. let full = c.in-Ok.played.full in
-    let wants = on_err c.judge.result _ c.judge.ensures.wants c.in_default-judge.not-Ok in
+pub returns-in_default-judge_program_quiet-clause-no_memory : goal.returns-in_default-judge_program_quiet-clause-no_memory
+returns-in_default-judge_program_quiet-clause-no_memory g c = λ command own is. let full = c.in-Ok.played.full in
+    let wants = on_err c.judge_program_quiet.result _ c.judge_program_quiet.ensures.wants c.in_default-judge_program_quiet.not-Ok in
     out_of_judging command (task_inputs_stated c.args.inputs) full g.K.Sink.takes_memory _ _ own
-    (subst (λ (asked : Bool). IsTrue (is_command_verdict_asked asked full)) c.command_asks_quiet.ensures wants)
+    (subst (λ (asked : Bool). IsTrue (is_command_verdict_asked asked full)) c.program_asks_quiet.ensures wants)

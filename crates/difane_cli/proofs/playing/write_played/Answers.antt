@@ -14,15 +14,15 @@ returns-in-None-clause-after g c =
     let lines = command_last_lines (map g.M.Meter.seen c.deref.result.now) c.args.answer in
     let before = g.K.Sink.state c.args.out.now in
     let middle = g.K.Sink.state c.write_text.new.sink in
-    let now = g.K.Sink.state c.write_last_lines.new.out in
+    let now = g.K.Sink.state c.write_program_last_lines.new.out in
     subst (λ (bytes : List ℕ).
-    IsAfterWrite bytes g.K.Sink.takes_memory before now c.write_last_lines.result)
+    IsAfterWrite bytes g.K.Sink.takes_memory before now c.write_program_last_lines.result)
     (ap (λ (meters : List g.row.M.Denot). journal_text net journal
     ++ command_last_lines (map g.M.Meter.seen meters) c.args.answer) c.deref.ensures.value
     ∙ text_whole net journal c.args.played.now.full _ c.args.answer c.in-None.is)
     (both_written before middle now (journal_text net journal) lines g.K.Sink.takes_memory
-    c.write_last_lines.result c.in_ok-write_text.ensures.after.whole
-    (c.in_ok-write_text.ensures.after.calm (λ is. absurd (cc is))) c.write_last_lines.ensures.after)
+    c.write_program_last_lines.result c.in_ok-write_text.ensures.after.whole
+    (c.in_ok-write_text.ensures.after.calm (λ is. absurd (cc is))) c.write_program_last_lines.ensures.after)
 
 pub returns-in-None-clause-no_lines : goal.returns-in-None-clause-no_lines
 returns-in-None-clause-no_lines g c = λ none. let net = c.args.net.now in
@@ -31,7 +31,7 @@ returns-in-None-clause-no_lines g c = λ none. let net = c.args.net.now in
     let both = ap (λ (meters : List g.row.M.Denot). journal_text net journal
     ++ command_last_lines (map g.M.Meter.seen meters) c.args.answer) c.deref.ensures.value
     ∙ text_whole net journal c.args.played.now.full _ c.args.answer c.in-None.is ∙ none in
-    c.write_last_lines.ensures.no_lines (none_right (journal_text net journal) lines both)
+    c.write_program_last_lines.ensures.no_lines (none_right (journal_text net journal) lines both)
     ∙ c.in_ok-write_text.ensures.no_text (none_left (journal_text net journal) lines both)
 
 pub returns-in_err-write_text-clause-after : goal.returns-in_err-write_text-clause-after

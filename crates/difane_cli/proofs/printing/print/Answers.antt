@@ -1,15 +1,20 @@
-use Rattle.std.proofs.Common.{◌∙◌, List, ap, subst, ℕ}
-use Rattle.shelf.specs.Exports.{IsAfterWrite}
-use Rattle.command_inputs.specs.Exports.{printing_stated}
-use Rattle.difane_cli.proofs.PrintedTexts.{printed}
+use Rattle.std.proofs.Common.{◌∙◌, List, inl, subst, ℕ}
+use Rattle.command_inputs.specs.Exports.{print_inputs_stated}
+use Rattle.difane_cli.specs.Exports.{IsAfterProgramOutput}
+use Rattle.difane_cli.proofs.ProgramPrintedTexts.{printed}
+use Rattle.difane_cli.proofs.ProgramStatus.{output_ends, output_memory}
 use Rattle.difane_cli.proofs.printing.print.Goals as goal
 
-pub returns-clause-outcome : goal.returns-clause-outcome
-returns-clause-outcome g c = λ command files own read. let before = g.K.Sink.state c.args.out.now in
-    let now = g.K.Sink.state c.write_whole.new.sink in
-    let is = c.deref.ensures.value ∙ c.in_ok-text.ensures in
-    printed command files (printing_stated c.args.inputs.now) g.K.Sink.takes_memory before now
-    c.write_whole.result own read
-    (subst (λ (text : List ℕ). IsAfterWrite text g.K.Sink.takes_memory before now
-    c.write_whole.result) is c.write_whole.ensures.after)
-    (λ none. ap (λ k. g.K.Sink.state k) (c.write_whole.ensures.no_bytes (is ∙ none)).1)
+pub returns-in-Ok-clause-outcome : goal.returns-in-Ok-clause-outcome
+returns-in-Ok-clause-outcome g c = λ command files own read. let before = g.K.Sink.state c.args.out.now in
+    let now = g.K.Sink.state c.write_output.new.out in
+    printed command files (print_inputs_stated c.args.inputs.now) g.K.Sink.takes_memory before now
+    c.write_output.result own read
+    (subst (λ (text : List ℕ). IsAfterProgramOutput text g.K.Sink.takes_memory before now
+    c.write_output.result) (c.deref.ensures.value ∙ c.in-Ok.ensures) c.write_output.ensures)
+
+pub returns-in-Ok-clause-no_memory : goal.returns-in-Ok-clause-no_memory
+returns-in-Ok-clause-no_memory g c = λ is. inl (output_memory c.write_output.ensures is)
+
+pub returns-in-Ok-clause-ended : goal.returns-in-Ok-clause-ended
+returns-in-Ok-clause-ended g c = output_ends c.write_output.ensures

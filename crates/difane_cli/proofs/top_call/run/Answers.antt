@@ -3,7 +3,7 @@ use Rattle.update_machine.specs.Exports.{Item}
 use Rattle.meters.specs.Exports.{Seen}
 use Rattle.shelf.specs.Exports.{Files, SinkState}
 use Rattle.command_line.specs.Exports.{command_named, command_of}
-use Rattle.difane_cli.specs.Exports.{Outcome, CommandRanOut}
+use Rattle.difane_cli.specs.Exports.{Outcome, ProgramMemoryRanOut}
 use Rattle.command_line.specs.Commands as grammar
 use Rattle.difane_cli.specs.declared.ended.Ended.{Ended}
 use Rattle.command_inputs.specs.declared.status.Status.{Status}
@@ -20,10 +20,10 @@ command_is command found args owned is read same = sym (ap (option_map command_n
 -- where work ran out of memory, a call that ends so did
 ran_out_so : (asked command : Option grammar.Command) (worked ended : List Item)
     (takes_memory : Bool) (before now : SinkState) → asked ≡ command → ended ≡ worked
-    → CommandRanOut asked takes_memory worked before now → CommandRanOut command takes_memory ended before now
+    → ProgramMemoryRanOut asked takes_memory worked before now → ProgramMemoryRanOut command takes_memory ended before now
 ran_out_so asked command worked ended takes_memory before now own same out =
-    subst (λ (c : Option grammar.Command). CommandRanOut c takes_memory ended before now) own
-    (subst (λ (items : List Item). CommandRanOut asked takes_memory items before now) (sym same) out)
+    subst (λ (c : Option grammar.Command). ProgramMemoryRanOut c takes_memory ended before now) own
+    (subst (λ (items : List Item). ProgramMemoryRanOut asked takes_memory items before now) (sym same) out)
 
 -- what work came to, a call that ends so comes to
 ended_so : {M : Type 0} (seen : M → Seen) (files : Option Files)

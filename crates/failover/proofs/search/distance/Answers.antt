@@ -18,7 +18,7 @@ loop-k-init c = record {
 pub returns-then-wide-ball-clause-none : goal.returns-then-wide-ball-clause-none
 returns-then-wide-ball-clause-none c =
     no_more (advertised_links_of_each c.args.neighbours.now c.args.down.now) c.args.target c.loop-k.k c.loop-k.ball _ c.args.from
-    c.loop-k.invariant.here c.wider-wide.ensures c.if-wide-ball.true
+    c.loop-k.invariant.here c.widened_route_ball-wide.ensures c.if-wide-ball.true
     (sym c.has.ensures.has ∙ c.if-has.false) c.loop-k.invariant.before
 
 -- the switch has a link into the ball
@@ -45,10 +45,10 @@ returns-then-links_within-ne0-clause-balls c = more_balls _ c.args.target c.loop
 pub loop-k-preserved : goal.loop-k-preserved
 loop-k-preserved c = record {
   here = next_ball (advertised_links_of_each c.args.neighbours.now c.args.down.now) c.args.target c.loop-k.k c.loop-k.ball _ c.loop-k.invariant.here
-      c.wider-wide.ensures;
+      c.widened_route_ball-wide.ensures;
   places = length-set c.loop-k.balls c.loop-k.k c.loop-k.ball ∙ c.loop-k.invariant.places;
   edge = edge_next _ c.loop-k.ball _ (length-link_rows c.args.neighbours.now c.args.down.now)
-      (row_turned c.args.neighbours.now c.args.down.now) c.wider-wide.ensures;
+      (row_turned c.args.neighbours.now c.args.down.now) c.widened_route_ball-wide.ensures;
   balls = more_balls (advertised_links_of_each c.args.neighbours.now c.args.down.now) c.args.target c.loop-k.balls c.loop-k.k c.loop-k.ball
       (omega (arith, c.loop-k.invariant.places)) c.loop-k.invariant.here c.loop-k.invariant.balls;
   before = before_more (advertised_links_of_each c.args.neighbours.now c.args.down.now) c.args.target c.loop-k.k c.loop-k.ball c.args.from

@@ -19,11 +19,11 @@ returns-in_err-distance c = c.from_residual.ensures
     ∙ sym (route_to-out _ _ _ c.if-from-ge-MAX_SWITCHES.false c.if-target-ge-MAX_SWITCHES.false
     c.in_err-distance.ensures.none)
 
-pub walk-requires : goal.walk-requires
-walk-requires c = is_route_list _ _ c.args.target _ _ (length-link_rows c.args.neighbours.now c.args.down.now) c.if-target-ge-MAX_SWITCHES.false
+pub walk_failover_route-requires : goal.walk_failover_route-requires
+walk_failover_route-requires c = is_route_list _ _ c.args.target _ _ (length-link_rows c.args.neighbours.now c.args.down.now) c.if-target-ge-MAX_SWITCHES.false
     c.if-from-ge-MAX_SWITCHES.false c.in_ok-distance.ensures.away c.in_ok-distance.ensures.balls
 
 pub returns : goal.returns
-returns c = ap Some c.walk.ensures
+returns c = ap Some c.walk_failover_route.ensures
     ∙ sym (route_to-along _ _ _ _ _ (length-link_rows c.args.neighbours.now c.args.down.now) c.if-target-ge-MAX_SWITCHES.false
     c.if-from-ge-MAX_SWITCHES.false c.in_ok-distance.ensures.away c.in_ok-distance.ensures.balls)

@@ -6,6 +6,6 @@ use Rattle.five_tuple.proofs.port_blocks.cover.Goals as goal
 
 pub returns-clause-blocks : goal.returns-clause-blocks
 returns-clause-blocks c =
-    let blocks = is_cover_of c.args.range.now c.collect_port_blocks.ensures.sound in
-    IfOk-weaker c.collect_port_blocks.result (λ v. v.items ≡ cover_of c.args.range.now) _
-    (λ v is. subst (IsPortRangeCover c.args.range.now) (sym is) blocks) c.collect_port_blocks.ensures.blocks
+    let blocks = is_cover_of c.args.range.now c.collect_tuple_port_blocks.ensures.sound in
+    IfOk-weaker c.collect_tuple_port_blocks.result (λ v. v.items ≡ cover_of c.args.range.now) _
+    (λ v is. subst (IsPortRangeCover c.args.range.now) (sym is) blocks) c.collect_tuple_port_blocks.ensures.blocks

@@ -1,5 +1,5 @@
 use Rattle.std.proofs.Common.{◌∙◌, Option, Some, ap, rules, sym, ℕ}
-use Rattle.five_tuple.specs.Exports.{address_from}
+use Rattle.five_tuple.specs.Exports.{address_from_bytes}
 use Rattle.five_tuple.proofs.HeaderDottedParts.{four_parts, lacks_first, lacks_second, lacks_third}
 use Rattle.five_tuple.proofs.read.read_address.Goals as goal
 
@@ -22,7 +22,7 @@ returns-in_err-fourth c =
     c.in_ok-third.rest.now c.in_ok-first.first c.in_ok-second.second c.in_ok-third.third
     c.in_ok-first.ensures c.in_ok-second.ensures c.in_ok-third.ensures in
     rw c.from_residual-in_err-fourth.ensures (sym (read
-    ∙ ap (λ (n : Option ℕ). address_from (Some c.in_ok-first.first) (Some c.in_ok-second.second)
+    ∙ ap (λ (n : Option ℕ). address_from_bytes (Some c.in_ok-first.first) (Some c.in_ok-second.second)
     (Some c.in_ok-third.third) n) (sym c.in_err-fourth.ensures)))
 
 pub returns : goal.returns
@@ -30,6 +30,6 @@ returns c =
     let read = four_parts c.args.text.now c.in_ok-first.rest.now c.in_ok-second.rest.now
     c.in_ok-third.rest.now c.in_ok-first.first c.in_ok-second.second c.in_ok-third.third
     c.in_ok-first.ensures c.in_ok-second.ensures c.in_ok-third.ensures
-    ∙ ap (λ (n : Option ℕ). address_from (Some c.in_ok-first.first) (Some c.in_ok-second.second)
+    ∙ ap (λ (n : Option ℕ). address_from_bytes (Some c.in_ok-first.first) (Some c.in_ok-second.second)
     (Some c.in_ok-third.third) n) (sym c.in_ok-fourth.ensures) in
     search rules

@@ -6,13 +6,13 @@ use Rattle.journal_reports.proofs.bucket.is_said_in_bucket.Goals as goal
 pub loop-kept-preserved : goal.loop-kept-preserved
 loop-kept-preserved c = none_more c.args.messages.now c.loop-kept.kept-index c.kept-item.result
     c.args.message.now c.loop-kept-test.true c.kept-item.is c.loop-kept.invariant (λ says.
-    true≢false (sym (c.says_as_much.ensures.1 (rw c.get.ensures says)) ∙ c.if-says_as_much.false))
+    true≢false (sym (c.says_as_much_in_report.ensures.1 (rw c.get.ensures says)) ∙ c.if-says_as_much_in_report.false))
 
-pub returns-then-says_as_much : goal.returns-then-says_as_much
-returns-then-says_as_much c = (
+pub returns-then-says_as_much_in_report : goal.returns-then-says_as_much_in_report
+returns-then-says_as_much_in_report c = (
   λ yes. some_at c.args.messages.now c.loop-kept.kept-index c.kept-item.result c.args.message.now
       c.loop-kept-test.true c.kept-item.is (subst (λ m. ReportedMessageSaysAsMuch m c.args.message.now)
-      c.get.ensures (c.says_as_much.ensures.0 c.if-says_as_much.true)),
+      c.get.ensures (c.says_as_much_in_report.ensures.0 c.if-says_as_much_in_report.true)),
   λ has. refl,
 )
 

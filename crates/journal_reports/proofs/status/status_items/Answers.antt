@@ -9,5 +9,5 @@ loop-item-init c = λ s. ap (λ (js : List Item). report_switch_status_in js s) 
 
 pub loop-item-preserved : goal.loop-item-preserved
 loop-item-preserved c = λ s. told_of_item c.args.items.now c.loop-item.item-index s
-    c.item-item.result c.loop-item.told.items c.push_status_item.new.told.items
-    c.loop-item-test.true c.item-item.is (c.loop-item.invariant s) c.in_ok-push_status_item.ensures
+    c.item-item.result c.loop-item.told.items c.push_report_status_item.new.told.items
+    c.loop-item-test.true c.item-item.is (c.loop-item.invariant s) c.in_ok-push_report_status_item.ensures

@@ -12,7 +12,7 @@ returns-clause-text c =
     let line = c.args.line.now in
     let own : List ℕ = item_line net c.args.item.now in
     let within = line_within c.switch_name_laws.ensures net c.requires.net c.args.item.now
-    c.push_item.ensures.of_type in
-    c.push.ensures ∙ ap (λ l. line_with l (10 ∷ [])) c.push_item.ensures.text
+    c.push_journal_item_text.ensures.of_type in
+    c.push.ensures ∙ ap (λ l. line_with l (10 ∷ [])) c.push_journal_item_text.ensures.text
     ∙ pushed_append line own (10 ∷ [])
     ∙ held_whole line (own ++ 10 ∷ []) (omega (arith, c.requires.room, within.size))

@@ -17,12 +17,12 @@ returns-in_err-read_document-clause-refused c =
 
 pub returns-clause-net : goal.returns-clause-net
 returns-clause-net c = rw (net_of_document _ _ c.in_ok-read_document.ensures.document)
-    c.read_table.ensures.net
+    c.read_net_document.ensures.net
 
 pub returns-clause-refused : goal.returns-clause-refused
 returns-clause-refused c = rw (net_of_document _ _ c.in_ok-read_document.ensures.document)
-    c.read_table.ensures.refused
+    c.read_net_document.ensures.refused
 
 pub returns-clause-sound : goal.returns-clause-sound
-returns-clause-sound c = IfOk-weaker c.read_table.result _ IsNet
-    (λ net e. sound_net (table_view c.in_ok-read_document.field-0) net e) c.read_table.ensures.net
+returns-clause-sound c = IfOk-weaker c.read_net_document.result _ IsNet
+    (λ net e. sound_net (table_view c.in_ok-read_document.field-0) net e) c.read_net_document.ensures.net

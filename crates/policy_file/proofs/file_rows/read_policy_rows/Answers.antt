@@ -11,8 +11,8 @@ returns-clause-read g c = let format = g.R.FileRow.format in record {
       ∙ under_heading format c.new-records.result c.read_next.new.self
       (fields_of c.read_next.new.fields) c.in_ok-read_next.field-0 c.if-not-branch.false
       c.in_ok-read_next.ensures.takes (sym c.is_heading.ensures ∙ c.if-not-is_heading.false);
-  read = c.in_ok-read_row_records.ensures.read;
+  read = c.in_ok-read_policy_row_records.ensures.read;
 }
 
 pub returns-clause-few : goal.returns-clause-few
-returns-clause-few g c = c.in_ok-read_row_records.ensures.read.few
+returns-clause-few g c = c.in_ok-read_policy_row_records.ensures.read.few

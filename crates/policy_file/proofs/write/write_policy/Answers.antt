@@ -4,5 +4,5 @@ use Rattle.policy_file.proofs.write.write_policy.Goals as goal
 
 pub returns-clause-read_back : goal.returns-clause-read_back
 returns-clause-read_back c = λ few small.
-    ap policy_of (c.in_ok-text_of.ensures ∙ ap policy_text c.rows.ensures.rows)
+    ap policy_of (c.in_ok-policy_csv_text_of.ensures ∙ ap policy_text c.rows.ensures.rows)
     ∙ c.policy_texts_are_read_back.ensures.policy c.args.policy.now c.rows.ensures.policy few small

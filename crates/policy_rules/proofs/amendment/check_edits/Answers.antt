@@ -14,14 +14,14 @@ loop-edit-preserved c =
     let more : take (i + 1) edits ≡ take i edits ++ edit ∷ [] = take_more edits i edit within
     ∙ ap (λ next. take i edits ++ next ∷ []) (sym c.edit-item.is) in record {
       counts = ap (λ n. n + 1) known.counts;
-      seen = subst (AreEditsSeen (contains nat_cmp c.is_new.new.removed)
-          (contains nat_cmp c.is_new.new.added)) (sym more)
-          (c.in_ok-is_new.ensures.seen (take i edits) known.seen);
+      seen = subst (AreEditsSeen (contains nat_cmp c.is_policy_edit_new.new.removed)
+          (contains nat_cmp c.is_policy_edit_new.new.added)) (sym more)
+          (c.in_ok-is_policy_edit_new.ensures.seen (take i edits) known.seen);
       sound = All-more IsSoundEdit edits i edit within known.sound
-          (subst IsSoundEdit c.edit-item.is c.edit_is_sound.ensures);
+          (subst IsSoundEdit c.edit-item.is c.policy_edit_is_sound.ensures);
       distinct = subst AreDistinctEdits (sym more)
           (distinct_edits_push (take i edits) edit known.distinct (not-true _
-          (sym (c.in_ok-is_new.ensures.new (take i edits) known.seen) ∙ c.if-not-branch.false)));
+          (sym (c.in_ok-is_policy_edit_new.ensures.new (take i edits) known.seen) ∙ c.if-not-branch.false)));
     }
 
 pub returns-clause-amendment : goal.returns-clause-amendment

@@ -42,14 +42,14 @@ taken_is c = let new = contains nat_cmp c.in_ok-new.new in
     taken_by new c.args.policy.now c.args.change.now
     (rw c.added-added.ensures.rows at c.in_ok-new.ensures)
 
-pub returns-then-has_some-clause-refused : goal.returns-then-has_some-clause-refused
-returns-then-has_some-clause-refused c =
-    let before = (goal.at.returns-then-has_some-clause-refused c).In_ok-amended in
+pub returns-then-policy_rows_meet_priorities-clause-refused : goal.returns-then-policy_rows_meet_priorities-clause-refused
+returns-then-policy_rows_meet_priorities-clause-refused c =
+    let before = (goal.at.returns-then-policy_rows_meet_priorities-clause-refused c).In_ok-amended in
     is_taken c.args.policy.now c.args.change.now
     (absent_is before ∙ le-ltb _ _ (omega arith))
-    (taken_is (goal.at.returns-then-has_some-clause-refused c).In_ok-new
+    (taken_is (goal.at.returns-then-policy_rows_meet_priorities-clause-refused c).In_ok-new
     ∙ ap (list_any (λ (row : Row). contains nat_cmp c.in_ok-new.new row.priority))
-    (sym (c.deref.ensures.value ∙ staying_is before)) ∙ sym c.has_some.ensures ∙ c.if-has_some.true)
+    (sym (c.deref.ensures.value ∙ staying_is before)) ∙ sym c.policy_rows_meet_priorities.ensures ∙ c.if-policy_rows_meet_priorities.true)
 
 -- ---- where nothing is absent or taken
 

@@ -1,6 +1,6 @@
 use Rattle.std.proofs.Common.{[], ◌++◌, ◌∙◌, ◌∷◌, ◌≡◌, Bool, ap, cond, false, filter, refl, subst, sym, take}
 use Rattle.std.proofs.lemmas.List.Elements.{filter_more}
-use Rattle.policy_rules.specs.Exports.{row_matches}
+use Rattle.policy_rules.specs.Exports.{policy_row_matches}
 use Rattle.policy_rules.specs.declared.policy.Row.{Row}
 use Rattle.policy_rules.proofs.PolicyFirstMatch.{IsBest, best_keeps, best_takes}
 use Rattle.policy_rules.proofs.policy.highest_match.Goals as goal
@@ -11,7 +11,7 @@ loop-row-preserved c =
     let rows = c.args.rows.now in
     let i = c.loop-row.row-index in
     let row = c.row-item.result in
-    let p : Row → Bool = λ row. row_matches row c.args.fields.now in
+    let p : Row → Bool = λ row. policy_row_matches row c.args.fields.now in
     let more = filter_more p rows i row c.loop-row-test.true
     ∙ ap (λ x. filter p (take i rows) ++ cond (p x) (x ∷ []) []) (sym c.row-item.is) in
     let kept = filter p (take i rows) in

@@ -1,6 +1,6 @@
 use Rattle.std.proofs.Common.{◌∙◌, All, ap, arith, option_map, subst, sym}
 use Rattle.base.proofs.Exports.{All-permutation, sum_by-IsPermutation}
-use Rattle.policy_rules.specs.Exports.{IsSoundRow, by_falling_priority, first_rule, policy_hit_of_rule, rules_ranked_from, rules_of, with_default, policy_row_word_count, rule_word_total}
+use Rattle.policy_rules.specs.Exports.{IsSoundPolicyRow, by_falling_priority, first_rule, policy_hit_of_rule, rules_ranked_from, rules_of, with_default, policy_row_word_count, policy_row_word_total}
 use Rattle.policy_rules.proofs.PolicyFallingRows.{IsPermutation-by_falling_priority}
 use Rattle.policy_rules.proofs.rule_list.to_rules.Goals as goal
 
@@ -8,18 +8,18 @@ pub list_rules-requires-clause-few : goal.list_rules-requires-clause-few
 list_rules-requires-clause-few c = let rows = c.args.policy.now in
     omega (
       arith,
-      ap rule_word_total (c.deref.ensures.value ∙ c.in_ok-sorted.ensures ∙ ap by_falling_priority
+      ap policy_row_word_total (c.deref.ensures.value ∙ c.in_ok-sorted.ensures ∙ ap by_falling_priority
           c.rows.ensures.rows),
       sum_by-IsPermutation policy_row_word_count rows (by_falling_priority rows)
           (IsPermutation-by_falling_priority rows c.rows.ensures.policy.sound),
-      c.count_match_words-words.ensures,
+      c.count_policy_match_words-words.ensures,
     )
 
 pub list_rules-requires-clause-sound : goal.list_rules-requires-clause-sound
 list_rules-requires-clause-sound c = let rows = c.args.policy.now in
-    subst (All IsSoundRow) (sym (c.deref.ensures.value ∙ c.in_ok-sorted.ensures
+    subst (All IsSoundPolicyRow) (sym (c.deref.ensures.value ∙ c.in_ok-sorted.ensures
     ∙ ap by_falling_priority c.rows.ensures.rows))
-    (All-permutation IsSoundRow rows (by_falling_priority rows)
+    (All-permutation IsSoundPolicyRow rows (by_falling_priority rows)
     (IsPermutation-by_falling_priority rows c.rows.ensures.policy.sound)
     c.rows.ensures.policy.sound)
 

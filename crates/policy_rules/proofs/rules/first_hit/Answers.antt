@@ -4,5 +4,5 @@ use Rattle.policy_rules.proofs.rules.first_hit.Goals as goal
 use Rattle.base.proofs.Exports.{find-position}
 
 pub returns-clause-rule : goal.returns-clause-rule
-returns-clause-rule c = rw (c.place_of.ensures, c.number.ensures.number)
+returns-clause-rule c = rw (c.policy_rule_place.ensures, c.number.ensures.number)
     (find-position (is_held (number_of c.args.header.now)) c.args.rules.now)

@@ -87,7 +87,7 @@ returns c = found_for c.args.plan.now.policy c.args.plan.now.hosted c.args.net.n
       bound = c.bound-bound.result;
     })
     c.in_ok-sizes.sizes.items c.in_ok-weights.weights.items c.in_ok-rooms.rooms.items
-    c.in_ok-old.old.items c.in_ok-new.new.items c.spread_laws.ensures c.requires.net
+    c.in_ok-old.old.items c.in_ok-new.new.items c.rebalance_spread_laws.ensures c.requires.net
     c.requires.plan (measured (goal.at.returns c).In_ok-old)
     (chosen (goal.at.returns c).In_ok-new)
     (rw c.in_ok-copy.ensures.cases at c.in_ok-plan.ensures.policy)

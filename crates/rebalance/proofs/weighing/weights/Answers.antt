@@ -24,7 +24,7 @@ add_one_weight-requires c = λ p d within. let items = c.items-items.result.now 
       ap (λ numbers. get_or numbers p d) c.deref_mut.ensures.value,
       get_or_default c.loop-item.weights.items p d 0 here,
       c.loop-item.invariant.counts p (omega (arith, here, c.loop-item.invariant.number)),
-      asked-room c.weighed_version_at_end-current.result p (take i items),
+      asked-room c.rebalance_version_at_end-current.result p (take i items),
       length-take i items,
       c.loop-item-test.true,
     )
@@ -44,7 +44,7 @@ loop-item-preserved c =
       counts = λ p within.
           let here : p < length c.deref_mut.result.now =
           omega (arith, within, c.loop-item.invariant.number, ap length c.deref_mut.ensures.value) in
-          asked-step c.weighed_version_at_end-current.result p items i c.item-item.result c.weighed_partition_in.result
+          asked-step c.rebalance_version_at_end-current.result p items i c.item-item.result c.weighed_partition_in.result
           (get_or c.deref_mut.result.now p 0) (get_or new p 0) c.loop-item-test.true c.item-item.is
           c.weighed_partition_in.ensures
           (ap (λ numbers. get_or numbers p 0) c.deref_mut.ensures.value
@@ -54,11 +54,11 @@ loop-item-preserved c =
 pub returns-clause-weights : goal.returns-clause-weights
 returns-clause-weights c =
     let items = c.items-items.result.now in
-    let current = c.weighed_version_at_end-current.result in
+    let current = c.rebalance_version_at_end-current.result in
     weights-are c.args.journal.now c.args.parts c.loop-item.weights.items
     c.loop-item.invariant.number (λ p within. c.loop-item.invariant.counts p within
     ∙ ap (asked_count current p) (take_all c.loop-item.item-index items c.loop-item-test.false)
-    ∙ ap (λ version. asked_count version p items) c.weighed_version_at_end-current.ensures
+    ∙ ap (λ version. asked_count version p items) c.rebalance_version_at_end-current.ensures
     ∙ ap (λ journal. asked_count (journal_current_mark journal) p journal) c.items-items.ensures)
 
 pub returns-clause-small : goal.returns-clause-small

@@ -5,7 +5,7 @@ use Rattle.steps.specs.Exports.{IsEvent}
 use Rattle.update_machine.specs.Exports.{Setting}
 use Rattle.world.specs.Exports.{WorldValue, no_world_step, world_setting_at}
 use Rattle.replay.specs.Leavings.{ReplayMetersKeepUp}
-use Rattle.replay.specs.Playing.{EventStopsWithin}
+use Rattle.replay.specs.Playing.{ReplayEventStopsWithin}
 use Rattle.replay.proofs.ReplayAskedStep.{Asked, asked, brought_all, none_yet}
 use Rattle.replay.proofs.ReplayBoard.{keep_up_next, keep_up_none, rest_is}
 use Rattle.replay.proofs.ReplayEventStepping.{begins_next, begins_whole, happens_whole, stops_next, took_next, took_none}
@@ -26,7 +26,7 @@ loop-next-init g c = record {
 -- what is true of the step that is asked for next
 next_asked : (g : Over) (c : After-refines g) → Asked (world_setting_at c.loop-next.world) c.args.row
     c.args.event.now c.loop-next.is_begun c.loop-next.world.journal c.in-Some.next
-next_asked g c = asked c.drains_end.ensures.fewer c.deliveries_rise.ensures c.loop-next.world
+next_asked g c = asked c.packet_drains_end.ensures.fewer c.deliveries_rise.ensures c.loop-next.world
     c.args.row c.args.event.now c.loop-next.is_begun c.in-Some.next
     (c.refines.ensures c.loop-next.invariant.able) (sym c.in-Some.ensures)
 
@@ -73,7 +73,7 @@ loop-next-preserved g c =
           let items = c.items.result.now in
           keep_up_next c.args.world.now.journal world.journal c.step.new.self.journal _
           (take (length items - length before) (drop (length before) items)) _ _ _
-          c.in_ok-step.ensures.written so_far.kept c.in_ok-note_left_packets.ensures
+          c.in_ok-step.ensures.written so_far.kept c.in_ok-replay_note_left_packets.ensures
           (rest_is world.journal c.step.new.self.journal before items (c.items-before.ensures
           ∙ c.journal.ensures) (c.items.ensures ∙ c.journal-in-Some.ensures));
     }
@@ -88,7 +88,7 @@ returns-in_err-step-clause-part g c = let so_far = c.loop-next.invariant in
 pub returns-in_err-step-clause-stops : goal.returns-in_err-step-clause-stops
 returns-in_err-step-clause-stops g c = λ is.
     let full = ap Err (same_error c.from_residual.result _ no_world_step c.from_residual.ensures.1 is) in
-    subst (λ (world : WorldValue). EventStopsWithin (world_setting_at c.args.world.now) c.args.row
+    subst (λ (world : WorldValue). ReplayEventStopsWithin (world_setting_at c.args.world.now) c.args.row
     c.args.event.now c.args.world.now.journal world.journal)
     (sym (c.in_err-step.ensures.unchanged full))
     (stops_next (world_setting_at c.args.world.now) c.args.row c.args.event.now c.loop-next.is_begun
@@ -103,8 +103,8 @@ returns-in_err-step-clause-kept_part g c = on_err_holds c.from_residual.result _
   kept = c.loop-next.invariant.kept;
 })
 
-pub returns-in_err-note_left_packets-clause-kept_part : goal.returns-in_err-note_left_packets-clause-kept_part
-returns-in_err-note_left_packets-clause-kept_part g c = on_err_holds c.from_residual-in_err-note_left_packets.result
+pub returns-in_err-replay_note_left_packets-clause-kept_part : goal.returns-in_err-replay_note_left_packets-clause-kept_part
+returns-in_err-replay_note_left_packets-clause-kept_part g c = on_err_holds c.from_residual-in_err-replay_note_left_packets.result
     _ (λ spent. absurd (true≢false (sym spent ∙ c.in_ok-step.ensures.goes_on)))
 
 pub returns-in_err-step-clause-able_full : goal.returns-in_err-step-clause-able_full
@@ -126,9 +126,9 @@ returns-in_err-step-clause-kept_full g c = λ is.
     (seen_board g.M.Meter.seen c.args.board.now) (seen_board g.M.Meter.seen c.loop-next.board))
     (sym (c.in_err-step.ensures.unchanged full)) c.loop-next.invariant.kept
 
-pub returns-in_err-note_left_packets-clause-part : goal.returns-in_err-note_left_packets-clause-part
-returns-in_err-note_left_packets-clause-part g c = let so_far = c.loop-next.invariant in
-    on_err_holds c.from_residual-in_err-note_left_packets.result _
+pub returns-in_err-replay_note_left_packets-clause-part : goal.returns-in_err-replay_note_left_packets-clause-part
+returns-in_err-replay_note_left_packets-clause-part g c = let so_far = c.loop-next.invariant in
+    on_err_holds c.from_residual-in_err-replay_note_left_packets.result _
     (begins_whole (world_setting_at c.args.world.now) c.args.row c.args.event.now true
     c.args.world.now.journal c.step.new.self.journal
     (took_next (world_setting_at c.args.world.now) c.args.row c.args.event.now c.loop-next.is_begun
@@ -139,12 +139,12 @@ returns-in_err-note_left_packets-clause-part g c = let so_far = c.loop-next.inva
 pub returns-clause-happens : goal.returns-clause-happens
 returns-clause-happens g c = happens_whole (world_setting_at c.args.world.now) c.args.row c.args.event.now
     c.loop-next.is_begun c.args.world.now.journal c.loop-next.world.journal
-    c.loop-next.invariant.took (sym c.next_of.ensures ∙ c.in_default.is)
+    c.loop-next.invariant.took (sym c.next_replay_step.ensures ∙ c.in_default.is)
 
 pub returns-clause-packets : goal.returns-clause-packets
 returns-clause-packets g c = omega (
   arith,
   c.loop-next.invariant.packets,
   brought_all c.args.event.now c.loop-next.is_begun c.loop-next.world.journal
-      (sym c.next_of.ensures ∙ c.in_default.is),
+      (sym c.next_replay_step.ensures ∙ c.in_default.is),
 )

@@ -103,13 +103,13 @@ returns-clause-gone g c = rw (c.ended-2.ensures.journal, c.ended-2.ensures.gone)
     (ap (λ (board : BoardValue Seen). board.gone) c.loop-event.invariant.board)
 
 pub returns-in-Err-Refused-clause-held : goal.returns-in-Err-Refused-clause-held
-returns-in-Err-Refused-clause-held g c = c.plays_held_on_the_way.ensures (world_setting_at c.args.world)
+returns-in-Err-Refused-clause-held g c = c.packet_plays_held_on_way.ensures (world_setting_at c.args.world)
     c.args.events.now c.ended.result.journal c.ended.result.full
     (tie_of c.args.world (c.refines.ensures c.requires.begun.able)).sound c.requires.events
     (returns-in-Err-Refused-clause-play g c)
 
 pub returns-clause-held : goal.returns-clause-held
-returns-clause-held g c = c.plays_held_on_the_way.ensures (world_setting_at c.args.world)
+returns-clause-held g c = c.packet_plays_held_on_way.ensures (world_setting_at c.args.world)
     c.args.events.now c.ended-2.result.journal c.ended-2.result.full
     (tie_of c.args.world (c.refines.ensures c.requires.begun.able)).sound c.requires.events
     (returns-clause-play g c)
@@ -126,5 +126,5 @@ returns-clause-plan g c = rw (c.ended-2.ensures.journal, c.ended-2.ensures.plan)
     (subst (λ setting. IsReplayPlanInForce setting c.loop-event.world.journal c.in_ok-plan.plan)
     c.loop-event.invariant.setting c.in_ok-plan.ensures)
 
-pub plan_in_force-requires : goal.plan_in_force-requires
-plan_in_force-requires g c = c.in-Err-Refused.ensures.able_full (ap Err c.in-Err-Refused.field-0-is)
+pub replay_plan_in_force-requires : goal.replay_plan_in_force-requires
+replay_plan_in_force-requires g c = c.in-Err-Refused.ensures.able_full (ap Err c.in-Err-Refused.field-0-is)

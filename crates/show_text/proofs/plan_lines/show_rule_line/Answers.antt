@@ -7,6 +7,6 @@ use Rattle.show_text.proofs.plan_lines.show_rule_line.Goals as goal
 pub returns : goal.returns
 returns c =
     let rule = c.args.rule.now in
-    let fits = rule_fits rule (search rules) c.push_rule.ensures.of_type c.push_action.ensures.of_type in
+    let fits = rule_fits rule (search rules) c.push_rule.ensures.of_type c.push_line_action.ensures.of_type in
     let whole = pushed_whole (shown_with_line_feed (shown_rule_text rule)) fits in
     grind (arith, pushed_append, whole)

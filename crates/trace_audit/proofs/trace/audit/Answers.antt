@@ -14,7 +14,7 @@ returns-in-None c =
     let verdict = No c.saturating_add-line.result in
     let is : IsTraceAuditVerdict c.args.files.now lines verdict =
     bad_here c.args.files.now c.args.trace.now rest c.loop-rest.line (trace_state_seen c.loop-rest.auditor)
-    (Open rest) [] c.audited_files_are_sound.ensures c.loop-rest.invariant
+    (Open rest) [] c.trace_audit_files_sound.ensures c.loop-rest.invariant
     (lines_open rest (some_left rest (sym c.is_empty.ensures ∙ c.loop-rest-test.true))
     c.in-None.ensures) (λ other r. absurd r) _ c.saturating_add-line.ensures in record {
       verdict = is;
@@ -30,7 +30,7 @@ returns-then-not-good c =
     let verdict = No c.saturating_add-line.result in
     let is : IsTraceAuditVerdict c.args.files.now lines verdict = bad_here c.args.files.now
     c.args.trace.now rest c.loop-rest.line (trace_state_seen c.loop-rest.auditor)
-    (Whole c.in-Some.text.now) (lines_of c.in-Some.next.now) c.audited_files_are_sound.ensures
+    (Whole c.in-Some.text.now) (lines_of c.in-Some.next.now) c.trace_audit_files_sound.ensures
     c.loop-rest.invariant (lines_next rest c.in-Some.text.now c.in-Some.next.now c.in-Some.ensures)
     (subst (λ good. IsTraceLineRead c.args.files.now (trace_state_seen c.loop-rest.auditor)
     (Whole c.in-Some.text.now) (trace_state_seen c.take_trace_line.new.auditor) good) c.if-not-good.true

@@ -5,9 +5,9 @@ pub returns : goal.returns
 returns c = texts_good (record {
   texts = record {
     names = c.switch_name_laws.ensures;
-    number = c.printed_fields_are_read_back.ensures.number;
-    address = c.printed_fields_are_read_back.ensures.address;
-    proto_number = c.printed_fields_are_read_back.ensures.proto_number;
+    number = c.tuple_fields_read_back.ensures.number;
+    address = c.tuple_fields_read_back.ensures.address;
+    proto_number = c.tuple_fields_read_back.ensures.proto_number;
   };
   ports = c.net_port_laws.ensures;
   planned = c.versions_are_planned.ensures;

@@ -10,8 +10,8 @@ returns-in-Held c =
     let f = c.args.frame.now in
     let r = c.wire_message_of.result in
     let answer : IsWireMessageAssembled held (count_in_frame f) r =
-    subst (λ n. IsWireMessageAssembled held n r) c.count_of.ensures
-    (subst (λ fs. IsWireMessageAssembled fs c.count_of.result r) c.deref-in-Held.ensures.value c.wire_message_of.ensures) in
+    subst (λ n. IsWireMessageAssembled held n r) c.wire_count_of.ensures
+    (subst (λ fs. IsWireMessageAssembled fs c.wire_count_of.result r) c.deref-in-Held.ensures.value c.wire_message_of.ensures) in
     fed_held held f r c.requires
     (subst (λ fs. IsFrameCheck fs f Held) c.deref.ensures.value c.in-Held.ensures) answer
 

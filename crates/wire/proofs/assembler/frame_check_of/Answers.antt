@@ -4,4 +4,4 @@ use Rattle.wire.proofs.assembler.frame_check_of.Goals as goal
 
 pub returns-then-not-agree : goal.returns-then-not-agree
 returns-then-not-agree c = let a = c.if-not-agree.ensures in
-    another_count a.0 a.1 a.2 (λ e. a.3 (e ∙ sym c.count_of-2.ensures))
+    another_count a.0 a.1 a.2 (λ e. a.3 (e ∙ sym c.wire_count_of-2.ensures))

@@ -8,7 +8,7 @@ pub loop-s-preserved : goal.loop-s-preserved
 unfolding logged_near_mask_by
 loop-s-preserved c =
     let near = logged_near_mask_by c.args.links.now c.args.switches.now in
-    let is : c.usable_mask_from.result ≡ near c.loop-s.s = c.usable_mask_from.ensures
+    let is : c.world_log_usable_mask.result ≡ near c.loop-s.s = c.world_log_usable_mask.ensures
     ∙ same_near _ _ _ _ _ (c.serving-serving.ensures c.loop-s.s (omega (
       arith,
       c.loop-s-test.true,

@@ -1,6 +1,6 @@
 use Rattle.controller.proofs.ControllerKeptVersions.{versions_within}
 use Rattle.controller.proofs.controller.Controller.resend_to_member.Goals as goal
 
-pub install_missing-requires-clause-versions : goal.install_missing-requires-clause-versions
-install_missing-requires-clause-versions c = versions_within c.self.inside.marks
+pub add_missing_controller_installs-requires-clause-versions : goal.add_missing_controller_installs-requires-clause-versions
+add_missing_controller_installs-requires-clause-versions c = versions_within c.self.inside.marks
     c.self.inside.versions.items _ c.deref.ensures.value c.self.invariant

@@ -14,7 +14,7 @@ returns c =
       idle = ap (λ (value : ControllerValue). controller_settling_acts (current_plan_touched value) value.marks
           value.marks) (sym c.self.view_is) ∙ nothing_sent _ marks is.marks;
       after = subst Stay c.self.view_is (record {
-        marks = (update_no_mark_rose true, c.settling_laws.ensures.idle marks true is.marks);
+        marks = (update_no_mark_rose true, c.version_mark_settling_laws.ensures.idle marks true is.marks);
         plans = sym (all_kept marks.current marks.current _ c.self.inside.versions.items
             (omega arith) is.versions);
       });

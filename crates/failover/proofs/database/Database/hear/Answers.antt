@@ -1,6 +1,6 @@
 use Rattle.std.proofs.Common.{◌∙◌, Some, ap, set, sym}
 use Rattle.base.proofs.Exports.{map-set}
-use Rattle.failover.specs.Exports.{neighbours_named}
+use Rattle.failover.specs.Exports.{neighbours_named_by_advert}
 use Rattle.failover.proofs.FailoverHeldAdverts.{after_no_news, after_news, by_origin-set}
 use Rattle.failover.proofs.database.Database.hear.Goals as goal
 
@@ -9,7 +9,7 @@ invariant_of-self c = record {
   by_origin = by_origin-set c.self.inside.adverts c.args.advert.now c.self.invariant.by_origin
       c.if-not-is_news.ensures.switch;
   neighbours = ap (λ named. set named c.args.advert.now.origin c.args.advert.now.up)
-      c.self.invariant.neighbours ∙ sym (map-set neighbours_named c.self.inside.adverts
+      c.self.invariant.neighbours ∙ sym (map-set neighbours_named_by_advert c.self.inside.adverts
       c.args.advert.now.origin (Some c.args.advert.now));
 }
 

@@ -7,10 +7,10 @@ use Rattle.failover.proofs.database.Database.route.Goals as goal
 pub returns-clause-value : goal.returns-clause-value
 unfolding route_of known_links advertised_links_of_each
 returns-clause-value c = c.first_route.ensures ∙ ap (λ targets. first_route
-    (advertised_links_of_each c.set_own_links.new.neighbours c.args.down.now) c.args.from targets)
+    (advertised_links_of_each c.set_own_link_state.new.neighbours c.args.down.now) c.args.from targets)
     c.items.ensures.list ∙ ap (λ neighbours. first_route (advertised_links_of_each neighbours c.args.down.now)
     c.args.from c.args.targets.now) (rw (← c.self.view_is) (named_links_held c.self.inside.adverts
-    c.self.inside.named c.args.from c.args.near _ c.self.invariant c.set_own_links.ensures))
+    c.self.inside.named c.args.from c.args.near _ c.self.invariant c.set_own_link_state.ensures))
 
 pub returns-clause-route : goal.returns-clause-route
 returns-clause-route c = rw (returns-clause-value c) (known_route_is_route c.args.self.now

@@ -9,9 +9,9 @@ returns-then-self-clause-steps c =
     (past, past)
 
 pub returns-clause-steps : goal.returns-clause-steps
-returns-clause-steps c = let e = c.largest_port_block-size.result in
-    cover_of-step c.args.self.now.next c.args.self.now.high e _ c.largest_port_block-size.ensures.largest
-    (one_shl e 32 (omega (arith, c.largest_port_block-size.ensures.bound))) c.args.self.now.ports
+returns-clause-steps c = let e = c.largest_tuple_port_block-size.result in
+    cover_of-step c.args.self.now.next c.args.self.now.high e _ c.largest_tuple_port_block-size.ensures.largest
+    (one_shl e 32 (omega (arith, c.largest_tuple_port_block-size.ensures.bound))) c.args.self.now.ports
 
 pub returns-clause-goes : goal.returns-clause-goes
 returns-clause-goes c = let shorter = ap length (returns-clause-steps c) in search rules

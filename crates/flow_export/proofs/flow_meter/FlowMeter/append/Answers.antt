@@ -1,6 +1,6 @@
 use Rattle.std.proofs.Common.{[], ◌++◌, ◌∙◌, ◌∷◌, ◌≤◌, List, ap, arith, cond, length, subst, sym, ℕ}
 use Rattle.five_tuple.specs.declared.header.Header.{Header}
-use Rattle.flow_export.specs.Counts.{count_of_header}
+use Rattle.flow_export.specs.Counts.{flow_count_of_header}
 use Rattle.flow_export.proofs.FlowCounts.{count_few, counts_after}
 use Rattle.flow_export.proofs.flow_meter.FlowMeter.append.Goals as goal
 
@@ -8,8 +8,8 @@ pub count-requires : goal.count-requires
 count-requires c =
     let held = c.self.inside.held in
     let header = c.args.leaving.now.header in
-    let few : count_of_header header c.self.inside.counts.entries ≤ length held.items =
-    subst (λ (counts : List (Header × ℕ)). count_of_header header counts ≤ length held.items)
+    let few : flow_count_of_header header c.self.inside.counts.entries ≤ length held.items =
+    subst (λ (counts : List (Header × ℕ)). flow_count_of_header header counts ≤ length held.items)
     (sym c.self.invariant) (count_few header held.items) in
     omega (arith, few, held.ok.0, held.ok.1, held.small)
 

@@ -6,8 +6,8 @@ use Rattle.message_bag.proofs.BagCopiedMessages.{AreLike, copied, found, has, lo
 use Rattle.message_bag.proofs.BagPostedMessages.{kept_after, posted_after}
 use Rattle.message_bag.proofs.bag.Bag.post_like.Goals as goal
 
-pub set_receiver-requires-clause-long : goal.set_receiver-requires-clause-long
-set_receiver-requires-clause-long c = omega (
+pub set_wire_receiver-requires-clause-long : goal.set_wire_receiver-requires-clause-long
+set_wire_receiver-requires-clause-long c = omega (
   arith,
   long c.self.inside.tables.items c.in-Some.frame.now c.in-Some.tables c.args.message.now
       (found c.self.inside.tables.items c.self.inside.firsts c.args.self.now c.args.number
@@ -23,13 +23,13 @@ like c = found c.self.inside.tables.items c.self.inside.firsts c.args.self.now c
 
 has_frames : (c : goal.After-push) → HasBagFrames c.args.message.now
 has_frames c = has c.self.inside.tables.items _ c.args.message.now (like c)
-    c.set_receiver.ensures.fits c.requires.spelling
+    c.set_wire_receiver.ensures.fits c.requires.spelling
 
 its : (c : goal.After-push)
     → bag_frames_in c.self.inside.tables.items (c.deref.result.now, c.in-Some.tables) ≡ frames c.args.message.now
-its c = let written : c.deref.result.now ≡ c.set_receiver.new.frame = grind (arith, common_steps) in
+its c = let written : c.deref.result.now ≡ c.set_wire_receiver.new.frame = grind (arith, common_steps) in
     ap (λ (b : List ℕ). bag_frames_in c.self.inside.tables.items (b, c.in-Some.tables))
-    (written ∙ c.set_receiver.ensures.written
+    (written ∙ c.set_wire_receiver.ensures.written
     ∙ ap (wire_begun_for c.args.message.now.to) (c.deref_mut.ensures.value ∙ c.in_ok-extend_from_slice.ensures.items
     ∙ ap (λ (b : List ℕ). b ++ c.in-Some.frame.now) c.clear.ensures.items))
     ∙ copied c.self.inside.tables.items c.in-Some.frame.now c.in-Some.tables c.args.message.now (like c)

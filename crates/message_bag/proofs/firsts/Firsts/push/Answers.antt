@@ -23,12 +23,12 @@ returns c =
     let span : Span = c.in_ok-span.span in
     let grown : c.extend_from_slice.new.self.items ≡ bytes ++ c.args.frame.now = grind (arith, common_steps) in
     let longer : c.push.new.self.items ≡ spans ++ span ∷ [] =
-    c.in_ok-push.ensures.items ∙ ap (λ (all : List Span). all ++ span ∷ []) c.make_room.ensures.spans in
+    c.in_ok-push.ensures.items ∙ ap (λ (all : List Span). all ++ span ∷ []) c.make_bag_frame_room.ensures.spans in
     let many : c.len-2.result ≡ length c.push.new.self.items = grind (arith, common_steps) in
     record {
       number = omega (arith, many, ap length longer, length-append spans (span ∷ []), ap length c.self.view_is, length-map spans (first_in bytes));
       posted = pushed bytes c.args.frame.now c.extend_from_slice.new.self.items spans c.push.new.self.items span c.self.invariant
-          grown longer (omega (arith, c.in_ok-span.ensures.start, ap length c.make_room.ensures.bytes)) c.in_ok-span.ensures.len
+          grown longer (omega (arith, c.in_ok-span.ensures.start, ap length c.make_bag_frame_room.ensures.bytes)) c.in_ok-span.ensures.len
           ∙ ap (λ (firsts : List First). firsts ++ (c.args.frame.now, span.tables) ∷ []) c.self.view_is
           ∙ ap (λ (tables : Option ℕ). c.args.self.now ++ (c.args.frame.now, tables) ∷ []) c.in_ok-span.ensures.tables;
       unchanged = tt;

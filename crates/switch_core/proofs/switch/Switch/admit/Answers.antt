@@ -1,13 +1,13 @@
 use Rattle.std.proofs.Common.{◌∙◌, ap, sym}
 use Rattle.failover.specs.Exports.{no_links}
-use Rattle.switch_core.specs.Exports.{SwitchValue, incoming_packet}
+use Rattle.switch_core.specs.Exports.{SwitchValue, switch_incoming_packet}
 use Rattle.switch_core.proofs.SwitchAdmissions.{not_admitted, was_admitted}
 use Rattle.switch_core.proofs.SwitchLookupAnswers.{entry_uncached}
 use Rattle.switch_core.proofs.switch.Switch.admit.Goals as goal
 
 pub returns-then-not-serves-clause-answer : goal.returns-then-not-serves-clause-answer
 returns-then-not-serves-clause-answer c = λ site number. not_admitted c.args.self.now site
-    (incoming_packet c.args.self.now number c.args.h.now)
+    (switch_incoming_packet c.args.self.now number c.args.h.now)
     (sym c.serves.ensures ∙ c.if-not-serves.true)
 
 pub returns-then-not-serves-clause-uncached : goal.returns-then-not-serves-clause-uncached

@@ -1,25 +1,25 @@
 use Rattle.std.proofs.Common.{◌≡◌, None, Option, ap, option_map, rules}
-use Rattle.switch_core.specs.Exports.{Answer, Answered, SwitchValue, admitted, around, switch_entry_of, incoming_packet}
+use Rattle.switch_core.specs.Exports.{Answer, Answered, SwitchValue, admitted, around, switch_entered_by_answer, switch_incoming_packet}
 use Rattle.switch_core.proofs.SwitchAdmissions.{answered, by_lookup}
 use Rattle.switch_core.proofs.SwitchLookupAnswers.{entry_uncached}
 use Rattle.switch_core.proofs.switch.Switch.enter.Goals as goal
 
 -- a packet that isn't looked up finds the switch closed
 closed : (answer : Option Answer) → None ≡ option_map Answered answer
-    → switch_entry_of None ≡ switch_entry_of answer
+    → switch_entered_by_answer None ≡ switch_entered_by_answer answer
 closed answer is = search rules
 
 pub answer_entry-requires : goal.answer_entry-requires
 answer_entry-requires c = let site = around c.args.near c.args.ports.now in
     by_lookup c.admit.new.self site
-    (incoming_packet c.args.self.now c.args.packet c.args.h.now) c.in-Some.forwarding
-    (admitted c.args.self.now site (incoming_packet c.args.self.now c.args.packet c.args.h.now))
+    (switch_incoming_packet c.args.self.now c.args.packet c.args.h.now) c.in-Some.forwarding
+    (admitted c.args.self.now site (switch_incoming_packet c.args.self.now c.args.packet c.args.h.now))
     (c.in-Some.ensures.answer site c.args.packet)
 
 pub returns-in-None : goal.returns-in-None
 returns-in-None c = let site = around c.args.near c.args.ports.now in record {
   answer = closed (admitted c.args.self.now site
-      (incoming_packet c.args.self.now c.args.packet c.args.h.now)) (c.in-None.ensures.answer site c.args.packet);
+      (switch_incoming_packet c.args.self.now c.args.packet c.args.h.now)) (c.in-None.ensures.answer site c.args.packet);
   uncached = entry_uncached c.args.self.now site c.args.packet c.args.h.now;
   after = c.admit.ensures.after;
 }

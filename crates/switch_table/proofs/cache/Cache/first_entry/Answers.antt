@@ -1,7 +1,7 @@
 use Rattle.std.proofs.Common.{◌&&◌, ◌+◌, ◌∙◌, ◌≡◌, IfSome, None, Option, Some, ap, eqb, find, option_map, rules, subst, sym}
 use Rattle.base.proofs.Exports.{YieldsList-from_first, find_from_yields_List, found_is, option_map_id}
 use Rattle.ternary.specs.Exports.{holds}
-use Rattle.switch_table.specs.Exports.{CacheValue, Pair, first_entry, is_cache_hit, kept_entry}
+use Rattle.switch_table.specs.Exports.{CacheValue, Pair, first_entry, is_cache_key_hit, kept_entry}
 use Rattle.switch_table.specs.declared.cache.CacheEntry.{CacheEntry}
 use Rattle.switch_table.proofs.FirstCacheHits.{first_by_hits}
 use Rattle.switch_table.proofs.CachePairs.{HasVersion}
@@ -9,7 +9,7 @@ use Rattle.switch_table.proofs.cache.Cache.first_entry.Goals as goal
 use Rattle.switch_table.proofs.cache.Cache.first_entry.Goals.{After-first_hit}
 
 -- the first entry, by the first pair of such a key
-entry_is : (c : After-first_hit) (pair : Option Pair) → pair ≡ find (λ (p : Pair). is_cache_hit
+entry_is : (c : After-first_hit) (pair : Option Pair) → pair ≡ find (λ (p : Pair). is_cache_key_hit
     (c.from.result + c.self.inside.shift) c.args.number c.in-Some.masks.now p.0) c.self.inside.slots
     → option_map (kept_entry c.self.inside.shift) pair
     ≡ first_entry c.args.version c.args.number c.args.self.now.entries
@@ -18,7 +18,7 @@ entry_is c pair is =
     let masks = c.in-Some.masks.now in
     let pairs = c.self.inside.slots in
     ap (option_map (kept_entry shift)) (is ∙ ap (λ version. find
-    (λ (p : Pair). is_cache_hit (version + shift) c.args.number masks p.0) pairs) c.from.ensures)
+    (λ (p : Pair). is_cache_key_hit (version + shift) c.args.number masks p.0) pairs) c.from.ensures)
     ∙ first_by_hits shift c.args.version c.args.number masks pairs c.self.invariant.versions
     (rw c.in-Some.ensures at c.self.invariant.masked)
     ∙ ap (λ (cache : CacheValue). first_entry c.args.version c.args.number cache.entries)

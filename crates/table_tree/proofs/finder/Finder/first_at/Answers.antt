@@ -2,7 +2,7 @@ use Rattle.std.proofs.Common.{◌∙◌, ap, get_or, option_and_then, position, 
 use Rattle.five_tuple.specs.Exports.{number_of}
 use Rattle.policy_rules.specs.Exports.{is_held}
 use Rattle.switch_table.specs.declared.tables.Tables.{Tables}
-use Rattle.table_tree.specs.declared.trees.Trees.{Trees}
+use Rattle.table_tree.specs.declared.trees.TableTrees.{TableTrees}
 use Rattle.table_tree.specs.Finding.{FinderValue}
 use Rattle.table_tree.proofs.TableTreeFinder.{IsThere, first_in, is_there}
 use Rattle.table_tree.proofs.finder.Finder.first_at.Goals as goal
@@ -15,7 +15,7 @@ there c = is_there c.self.inside.tables.value c.args.self.now.tables c.args.head
     c.self.inside.trees.value.rule_trees.items (ap (λ (v : FinderValue). v.tables) c.self.view_is)
     c.requires (c.items.ensures ∙ ap (λ (t : Tables). t.auth) c.deref.ensures)
     c.self.invariant.rules c.index-items-own.is (c.index.ensures
-    ∙ ap (λ (t : Trees). get_or t.rule_trees.items c.args.own c.index.result.now) c.deref-2.ensures)
+    ∙ ap (λ (t : TableTrees). get_or t.rule_trees.items c.args.own c.index.result.now) c.deref-2.ensures)
 
 pub first-requires-clause-built : goal.first-requires-clause-built
 first-requires-clause-built c = cc ((there c).shape, c.items-2.ensures)

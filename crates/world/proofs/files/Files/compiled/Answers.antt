@@ -1,6 +1,6 @@
 use Rattle.std.proofs.Common.{◌<◌, ◌∙◌, ◌≡◌, None, Some, ap, arith, get_or, length, subst, sym}
 use Rattle.base.proofs.Exports.{get_or_default}
-use Rattle.world.specs.Exports.{FilesValue, IsWorldFileMade, world_file_made_at}
+use Rattle.world.specs.Exports.{FilesValue, IsWorldFileCompiled, world_file_made_at}
 use Rattle.world.proofs.WorldKeptFiles.{kept_with, made_at_place}
 use Rattle.world.proofs.files.Files.compiled.Goals as goal
 use Rattle.world.proofs.files.Files.compiled.Goals.{In_ok-compiled}
@@ -14,9 +14,9 @@ returns-in-Some-clause-compiled c =
     let at : get_or kept place None ≡ Some c.in-Some.compiled =
     get_or_default kept place None c.index.result.now
     (omega (arith, c.requires, c.self.invariant.many, as_many)) ∙ sym c.index.ensures ∙ c.in-Some.is in
-    subst (λ (f : FilesValue). IsWorldFileMade f.net (world_file_made_at f.files f.newest place)
+    subst (λ (f : FilesValue). IsWorldFileCompiled f.net (world_file_made_at f.files f.newest place)
     c.in_ok-clone.field-0) c.self.view_is
-    (subst (IsWorldFileMade c.self.inside.net (world_file_made_at c.self.inside.files.items c.self.inside.newest.policy
+    (subst (IsWorldFileCompiled c.self.inside.net (world_file_made_at c.self.inside.files.items c.self.inside.newest.policy
     place)) (sym c.in_ok-clone.ensures.cases) (c.self.invariant.each place c.in-Some.compiled at))
 
 -- the place is that of a file
@@ -24,7 +24,7 @@ within : (c : In_ok-compiled) → c.args.place < length c.self.inside.files.item
 within c = omega (arith, c.requires, ap (λ (f : FilesValue). length f.files) c.self.view_is)
 
 -- and what was compiled was made of that
-made : (c : In_ok-compiled) → IsWorldFileMade c.self.inside.net (world_file_made_at c.self.inside.files.items
+made : (c : In_ok-compiled) → IsWorldFileCompiled c.self.inside.net (world_file_made_at c.self.inside.files.items
     c.self.inside.newest.policy c.args.place) c.in_ok-compiled.compiled
 made c = made_at_place c.self.inside.net c.self.inside.files.items c.self.inside.newest.policy
     c.policy-newest.result.now c.args.place c.index-file.result.now c.in_ok-compiled.compiled
@@ -36,9 +36,9 @@ invariant_of-self c =
     let of_place = world_file_made_at c.self.inside.files.items c.self.inside.newest.policy c.args.place in
     kept_with c.self.inside.net c.self.inside.files.items c.self.inside.newest.policy
     c.self.inside.compiled.items c.args.place c.in_ok-kept.kept c.self.invariant (within at)
-    (subst (IsWorldFileMade c.self.inside.net of_place) (sym c.in_ok-kept.ensures.cases) (made at))
+    (subst (IsWorldFileCompiled c.self.inside.net of_place) (sym c.in_ok-kept.ensures.cases) (made at))
 
 pub returns-clause-compiled : goal.returns-clause-compiled
-returns-clause-compiled c = subst (λ (f : FilesValue). IsWorldFileMade f.net
+returns-clause-compiled c = subst (λ (f : FilesValue). IsWorldFileCompiled f.net
     (world_file_made_at f.files f.newest c.args.place) c.in_ok-compiled.compiled) c.self.view_is
     (made (goal.at.returns-clause-compiled c).In_ok-compiled)

@@ -10,7 +10,7 @@ use Rattle.world.proofs.world.World.begin.Goals.{In_ok-plan}
 
 -- the policy of the first file has this plan
 first_is : (c : In_ok-plan) → first_policy c.args.files.items ≡ Some c.in_ok-plan.plan.policy
-first_is c = cc (c.deref.ensures.value, c.first_policy.ensures, c.in_ok-plan.ensures.policy)
+first_is c = cc (c.deref.ensures.value, c.world_first_policy.ensures, c.in_ok-plan.ensures.policy)
 
 planned : (c : In_ok-plan)
     → partition_plan_of c.in_ok-plan.plan.policy c.args.net.now ≡ Ok c.in_ok-plan.plan.hosted

@@ -1,6 +1,6 @@
 use Rattle.std.proofs.Common.{◌∙◌, ◌≡◌}
 use Rattle.update_machine.specs.Exports.{is_waiting, next_waiting}
-use Rattle.world.specs.Exports.{IsLeastFrom, world_value}
+use Rattle.world.specs.Exports.{IsLeastInWorldFrom, world_value}
 use Rattle.world.proofs.WorldLeastMessage.{least_from_in, least_waits_in}
 use Rattle.world.proofs.WorldViewedParts.{by_view}
 use Rattle.world.proofs.world.World.next_waiting.Goals as goal
@@ -14,6 +14,6 @@ returns-clause-first c = λ able is_one.
 
 pub returns-clause-least : goal.returns-clause-least
 returns-clause-least c = let own = world_value c.self.inside.parts c.self.inside.is_spent in
-    by_view (λ w. IsLeastFrom (is_waiting w.journal) c.args.from c.next_waiting.result)
+    by_view (λ w. IsLeastInWorldFrom (is_waiting w.journal) c.args.from c.next_waiting.result)
     c.self.view_is c.self.invariant.refines
     (λ refines. rw c.next_waiting.ensures (least_from_in own refines c.args.from))

@@ -1,16 +1,16 @@
 use Rattle.std.proofs.Common.{◌∙◌, ◌≡◌, ◌≤◌, List, ap, arith, length, subst, sym}
-use Rattle.update_machine.specs.Exports.{HasRoom, IsJournalFull, Item, journal_next_packet}
+use Rattle.update_machine.specs.Exports.{HasRoom, IsMachineJournalFull, Item, journal_next_packet}
 use Rattle.steps.specs.Exports.{IsStep}
 use Rattle.world.specs.Exports.{WorldPartsKeepNet, WorldValue, world_setting_at, world_setting_in, world_value}
 use Rattle.world.proofs.WorldJournalRoom.{has_room, is_full, not_full}
 use Rattle.world.proofs.WorldSoFar.{part_so_far, so_far_in, step_so_far}
-use Rattle.world.specs.declared.parts.Parts.{Parts}
-use Rattle.packet_laws.specs.Exports.{HoldsSoFar}
+use Rattle.world.specs.declared.parts.WorldParts.{WorldParts}
+use Rattle.packet_laws.specs.Exports.{PacketLawsHoldSoFar}
 use Rattle.world.proofs.world.World.step.Goals as goal
 use Rattle.world.proofs.world.World.step.Goals.{After-play}
 
 -- the network and the files stay
-setting_kept : (old new : Parts) → WorldPartsKeepNet old new → world_setting_in new ≡ world_setting_in old
+setting_kept : (old new : WorldParts) → WorldPartsKeepNet old new → world_setting_in new ≡ world_setting_in old
 setting_kept old new keeps = cc (keeps.same_net, keeps.same_files)
 
 pub returns-in_err-play-clause-setting : goal.returns-in_err-play-clause-setting
@@ -38,7 +38,7 @@ play-requires c =
     }
 
 pub returns-then-sent-ge-FULL_AT-clause-full : goal.returns-then-sent-ge-FULL_AT-clause-full
-returns-then-sent-ge-FULL_AT-clause-full c = λ is. subst (λ (w : WorldValue). IsJournalFull w.journal)
+returns-then-sent-ge-FULL_AT-clause-full c = λ is. subst (λ (w : WorldValue). IsMachineJournalFull w.journal)
     c.self.view_is (is_full (c.self.invariant.refines c.if-self.false)
     (omega (arith, c.sent.ensures, c.if-sent-ge-FULL_AT.true)))
 
@@ -68,22 +68,22 @@ returns-clause-refused c = λ able full. absurd (omega (arith, room))
 
 pub returns-then-sent-ge-FULL_AT-clause-so_far : goal.returns-then-sent-ge-FULL_AT-clause-so_far
 returns-then-sent-ge-FULL_AT-clause-so_far c = λ able. subst
-    (λ (w : WorldValue). HoldsSoFar (world_setting_at w) w.journal) c.self.view_is
-    (so_far_in c.journals_hold_so_far.ensures (world_value c.self.inside.parts
+    (λ (w : WorldValue). PacketLawsHoldSoFar (world_setting_at w) w.journal) c.self.view_is
+    (so_far_in c.packet_journals_hold_so_far.ensures (world_value c.self.inside.parts
     c.self.inside.is_spent) (c.self.invariant.refines c.if-self.false))
 
 pub returns-in_err-play-clause-so_far : goal.returns-in_err-play-clause-so_far
 returns-in_err-play-clause-so_far c = λ able. let after : List Item = c.play.new.self.log.journal in
-    subst (λ (w : WorldValue). HoldsSoFar (world_setting_at w) after) c.self.view_is
-    (part_so_far c.journals_hold_so_far.ensures
+    subst (λ (w : WorldValue). PacketLawsHoldSoFar (world_setting_at w) after) c.self.view_is
+    (part_so_far c.packet_journals_hold_so_far.ensures
     (world_value c.self.inside.parts c.self.inside.is_spent)
     c.args.row c.args.step.now after (c.self.invariant.refines c.if-self.false)
     (may (goal.at.returns-in_err-play-clause-so_far c).After-play) c.in_err-play.ensures.part)
 
 pub returns-clause-so_far : goal.returns-clause-so_far
 returns-clause-so_far c = λ able. let after : List Item = c.play.new.self.log.journal in
-    subst (λ (w : WorldValue). HoldsSoFar (world_setting_at w) after) c.self.view_is
-    (step_so_far c.journals_hold_so_far.ensures
+    subst (λ (w : WorldValue). PacketLawsHoldSoFar (world_setting_at w) after) c.self.view_is
+    (step_so_far c.packet_journals_hold_so_far.ensures
     (world_value c.self.inside.parts c.self.inside.is_spent)
     c.args.row c.args.step.now after (c.self.invariant.refines c.if-self.false)
     (may (goal.at.returns-clause-so_far c).After-play) c.in_ok-play.ensures.written)

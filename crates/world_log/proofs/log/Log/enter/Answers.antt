@@ -1,7 +1,7 @@
 -- What was written of a packet that enters is its switch's answer.
 use Rattle.std.proofs.Common.{[], ◌+◌, ◌∷◌, ◌≡◌, None, Option, Result, Some, append-nil, length, option_map, refl, subst, sym, ℕ}
 use Rattle.journal.specs.declared.item.Item.TheVariants as item
-use Rattle.switch_core.specs.Exports.{Answer, Answered, SwitchArrival, admitted, answer_of, incoming_packet, switch_site_of}
+use Rattle.switch_core.specs.Exports.{Answer, Answered, SwitchArrival, admitted, answer_of, switch_incoming_packet, switch_site_of}
 use Rattle.travelling.specs.Travelling.{Standing}
 use Rattle.world_log.specs.Exports.{LogAfter, log_arrived_flight, log_arrived_items, log_arrived_posts, log_coming_in, log_entered_flight, log_entered_items, log_entered_posts, log_packet_standing}
 use Rattle.world_log.specs.declared.log.Log.{Log}
@@ -33,7 +33,7 @@ returns-in-None-clause-log c =
     c.args.packet None c.args.self.now c.end.new.self in
     closed c.end.result (length c.args.self.now.bag + 1) c.args.packet
     (log_coming_in c.args.packet c.args.header.now s.number) c.args.self.now c.end.new.self
-    (admitted s (switch_site_of c.args.site) (incoming_packet s c.args.packet c.args.header.now))
+    (admitted s (switch_site_of c.args.site) (switch_incoming_packet s c.args.packet c.args.header.now))
     (c.in-None.ensures.answer (switch_site_of c.args.site) c.args.packet)
     (subst P c.number-number.ensures.number c.end.ensures)
 
@@ -55,7 +55,7 @@ returns-in_ok-push-in-Some-clause-log c =
     c.args.packet (log_arrived_flight 0 None (said here)) self c.settle.new.self in
     entered c.settle.result number c.args.packet (coming s.number) self c.settle.new.self
     (said s.number)
-    (admitted s (switch_site_of c.args.site) (incoming_packet s c.args.packet c.args.header.now))
+    (admitted s (switch_site_of c.args.site) (switch_incoming_packet s c.args.packet c.args.header.now))
     (c.in-Some.ensures.answer (switch_site_of c.args.site) c.args.packet)
     (subst P c.number-number.ensures.number (log_behind c.settle.result
     (item.Entered c.args.packet c.number-number.result c.args.header.now ∷ []) _ [] _ c.args.packet

@@ -3,8 +3,8 @@ use Rattle.std.proofs.Common.{[], ◌+◌, ◌∙◌, ◌≡◌, None, Option, R
 use Rattle.base.proofs.Exports.{on_ok_weaker, slice_get_within}
 use Rattle.journal.specs.declared.item.Item.TheVariants as item
 use Rattle.update_machine.specs.Exports.{Ports}
-use Rattle.switch_core.specs.Exports.{IsAtAuthoritySwitch, PacketStandsAtSwitch, SwitchValue, around, switch_move_answer}
-use Rattle.travelling.specs.Travelling.{Flight, Standing, flight_placed_at, standing_at, traveller_standing_kept}
+use Rattle.switch_core.specs.Exports.{IsSwitchAuthorityForLeg, SwitchStandsAtRoutePlace, SwitchValue, around, switch_move_answer}
+use Rattle.travelling.specs.Travelling.{Flight, Standing, flight_placed_at, traveller_standing_at, traveller_standing_kept}
 use Rattle.tunnel.specs.Exports.{next}
 use Rattle.world_log.specs.Exports.{LogAfter, log_ended_flight, log_ended_items, log_ended_posts, log_ended_switch, log_followed, log_followed_flight, log_followed_items, log_followed_posts}
 use Rattle.world_log.specs.declared.log.Log.{Log}
@@ -63,7 +63,7 @@ returns-in_ok-put-in-Some-clause-asked c = on_ok_weaker c.push.result (λ _. ask
 
 pub receive-forwarding-requires-clause-here : goal.receive-forwarding-requires-clause-here
 receive-forwarding-requires-clause-here c = let t = c.args.kept.tunnel in
-    placed (PacketStandsAtSwitch c.args.switch.now) c.route.result.now c.place-place.result t
+    placed (SwitchStandsAtRoutePlace c.args.switch.now) c.route.result.now c.place-place.result t
     c.route.ensures c.place-place.ensures.place
     (c.requires.last (sym c.next.ensures ∙ c.in-None.is)).0
 
@@ -77,9 +77,9 @@ pub receive-forwarding-requires-clause-authority : goal.receive-forwarding-requi
 receive-forwarding-requires-clause-authority c =
     let s = c.args.switch.now in
     let at = c.in_ok-at-in-None.at in
-    subst (λ h. IsAtAuthoritySwitch s h c.leg-leg.result)
+    subst (λ h. IsSwitchAuthorityForLeg s h c.leg-leg.result)
     (sym (ap (λ (a : Standing). a.header) c.in_ok-at-in-None.ensures.at))
-    (subst (IsAtAuthoritySwitch s c.args.kept.tunnel.header) (sym c.leg-leg.ensures)
+    (subst (IsSwitchAuthorityForLeg s c.args.kept.tunnel.header) (sym c.leg-leg.ensures)
     (c.requires.last (sym c.next.ensures ∙ c.in-None.is)).1)
 
 pub returns-in_err-at-in-None-clause-log : goal.returns-in_err-at-in-None-clause-log
@@ -96,7 +96,7 @@ returns-in_ok-at-in-None-clause-log c =
     let n = length self.bag + 1 in
     let at = c.in_ok-at-in-None.at in
     let says = c.in_ok-at-in-None.ensures in
-    let stands = says.at ∙ ap (λ n. standing_at n t) c.number.ensures.number in
+    let stands = says.at ∙ ap (λ n. traveller_standing_at n t) c.number.ensures.number in
     by_next c.settle.result n s near ports t t.tunnel.packet self c.settle.new.self None
     (sym c.next.ensures ∙ c.in-None.is)
     (arrival_log c.settle.result n s near ports t (traveller_standing_kept at) at.version at.rule

@@ -3,10 +3,10 @@ use Rattle.std.proofs.Common.{[], ◌++◌, ◌+◌, ◌∙◌, ◌∷◌, ◌�
 use Rattle.base.proofs.Exports.{both_written, on_ok_failed, on_ok_weaker}
 use Rattle.base.specs.Exports.{IfRefused}
 use Rattle.failover.specs.Exports.{no_links, route_of}
-use Rattle.switch_core.specs.Exports.{IsAtAuthoritySwitch, PacketStandsAtSwitch, SwitchValue, switch_stuck_cause}
+use Rattle.switch_core.specs.Exports.{IsSwitchAuthorityForLeg, SwitchStandsAtRoutePlace, SwitchValue, switch_stuck_cause}
 use Rattle.update_machine.specs.Exports.{Item, Leg}
 use Rattle.journal.specs.declared.item.Item.TheVariants as item
-use Rattle.travelling.specs.Travelling.{Flight, Standing, flight_begun_at, flight_marked_at, traveller_standing_kept, travels_by}
+use Rattle.travelling.specs.Travelling.{Flight, Standing, flight_begun_at, traveller_found_down_at, traveller_standing_kept, travels_by}
 use Rattle.travelling.specs.declared.standing.Standing as packet
 use Rattle.tunnel.specs.Exports.{next}
 use Rattle.world_log.specs.Exports.{LogHasHopped, LogAfter, LogMeetsDownLink, log_ended_switch, log_followed, log_followed_flight, log_followed_items, log_followed_posts}
@@ -91,12 +91,12 @@ returns-in-Err-Refused c = λ before t met. let at = traveller_standing_kept c.a
 kept_is : (c : In_ok-mark_down) (leg : Leg) (targets route : List ℕ) (kept : Flight)
     → kept ≡ travels_by (flight_begun_at (traveller_standing_kept c.mark_down.new.self) leg targets route)
     c.mark_down.new.self.version c.mark_down.new.self.rule
-    → kept ≡ travels_by (flight_begun_at (flight_marked_at (traveller_standing_kept c.args.at) c.args.other) leg targets route)
+    → kept ≡ travels_by (flight_begun_at (traveller_found_down_at (traveller_standing_kept c.args.at) c.args.other) leg targets route)
     c.args.at.version c.args.at.rule
 kept_is c leg targets route kept is =
     is ∙ ap (λ (a : Standing). travels_by (flight_begun_at a leg targets route)
     c.mark_down.new.self.version c.mark_down.new.self.rule) c.in_ok-mark_down.ensures.marked
-    ∙ ap (λ (a : packet.Standing). travels_by (flight_begun_at (flight_marked_at (traveller_standing_kept c.args.at)
+    ∙ ap (λ (a : packet.Standing). travels_by (flight_begun_at (traveller_found_down_at (traveller_standing_kept c.args.at)
     c.args.other) leg targets route) a.version a.rule) c.mark_down.ensures.rest
 
 pub follow-requires-clause-last : goal.follow-requires-clause-last
@@ -107,7 +107,7 @@ follow-requires-clause-last c =
     let t = c.requires.met.1.0 in
     let met = c.requires.met.1.1 in
     let links : List ℕ = unwrap_or (option_copied c.links.result) no_links in
-    let links_are : links ≡ (flight_marked_at at c.args.other).down =
+    let links_are : links ≡ (traveller_found_down_at at c.args.other).down =
     c.links.ensures ∙ ap (λ (a : Standing). a.down) c.in_ok-mark_down.ensures.marked in
     let route : List ℕ = c.in-Ok.route in
     let some : ◌≡◌ {A = Option (List ℕ)}
@@ -115,7 +115,7 @@ follow-requires-clause-last c =
     let its = kept_is (goal.at.follow-requires-clause-last c).In_ok-mark_down c.args.leg
     c.args.targets route c.begin-kept.result c.begin-kept.ensures in
     let Q : SwitchValue → Flight → Type 0 = λ w k. next k.tunnel ≡ None
-    → PacketStandsAtSwitch w k.tunnel.route k.tunnel.place × IsAtAuthoritySwitch w k.tunnel.header k.tunnel.leg in
+    → SwitchStandsAtRoutePlace w k.tunnel.route k.tunnel.place × IsSwitchAuthorityForLeg w k.tunnel.header k.tunnel.leg in
     subst (λ w. Q w c.begin-kept.result) (sym c.shared_route.ensures.same)
     (subst (Q s) (sym its) (last_here at c.args.at.version c.args.at.rule c.args.leg c.args.targets
     c.args.other c.requires.met.0 s near t met links links_are route some))
@@ -128,7 +128,7 @@ returns-in_ok-push-in-Ok c = λ before t met. let at = traveller_standing_kept c
     let self = c.args.self.now in
     let n = length self.bag + 1 in
     let links : List ℕ = unwrap_or (option_copied c.links.result) no_links in
-    let links_are : links ≡ (flight_marked_at at c.args.other).down =
+    let links_are : links ≡ (traveller_found_down_at at c.args.other).down =
     c.links.ensures ∙ ap (λ (a : Standing). a.down) c.in_ok-mark_down.ensures.marked in
     let route : List ℕ = c.in-Ok.route in
     let some = c.in-Ok.ensures.route in

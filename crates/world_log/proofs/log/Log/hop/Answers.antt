@@ -1,10 +1,10 @@
 -- A packet goes on as it is kept.
 use Rattle.std.proofs.Common.{◌+◌, ◌<◌, ◌∙◌, ◌≡◌, IsErr, IsSomeAnd, None, Option, Result, Some, ap, get_or, length, option_copied, refl, set, slice_get, slice_index, subst, sym, ℕ}
 use Rattle.base.proofs.Exports.{on_ok_failed, slice_get-get_or, slice_get_within}
-use Rattle.switch_core.specs.Exports.{IsAtAuthoritySwitch, Moved, PacketStandsAtSwitch, SwitchValue, around, switch_call_counted, onward_by_switch}
+use Rattle.switch_core.specs.Exports.{IsSwitchAuthorityForLeg, Moved, SwitchStandsAtRoutePlace, SwitchValue, around, switch_call_counted, switch_hop_onward}
 use Rattle.switch_core.specs.declared.packet.Onward.{Onward}
 use Rattle.switch_core.proofs.SwitchOnwardHops.{ends, goes, is_down}
-use Rattle.travelling.specs.Travelling.{Flight, FlightHasPlace, Standing, standing_at, traveller_standing_kept, flight}
+use Rattle.travelling.specs.Travelling.{Flight, FlightHasPlace, Standing, traveller_standing_at, traveller_standing_kept, flight}
 use Rattle.tunnel.specs.Exports.{here, next}
 use Rattle.world_log.specs.Exports.{LogHasHopped, Hops, MayLoggedPacketGoOn, LogMeetsDownLink}
 use Rattle.world_log.specs.declared.log.Log.{Log}
@@ -52,13 +52,13 @@ module _ (c : After-place-place) where
   may = subst (λ n. MayLoggedPacketGoOn c.args.packet asked (slice_index c.args.near.now n) kept)
       (sym c.here-here.ensures.here) (c.requires.may kept asked (sym its) own)
 
-  stands : PacketStandsAtSwitch asked c.route-route.result.now c.place-place.result
-  stands = placed (PacketStandsAtSwitch asked) c.route-route.result.now c.place-place.result kept.tunnel
+  stands : SwitchStandsAtRoutePlace asked c.route-route.result.now c.place-place.result
+  stands = placed (SwitchStandsAtRoutePlace asked) c.route-route.result.now c.place-place.result kept.tunnel
       c.route-route.ensures c.place-place.ensures.place may.here
 
   passed : (answer : Onward)
-      → answer ≡ onward_by_switch links (slice_get c.route-route.result.now (c.place-place.result + 1))
-      → answer ≡ onward_by_switch links (next kept.tunnel)
+      → answer ≡ switch_hop_onward links (slice_get c.route-route.result.now (c.place-place.result + 1))
+      → answer ≡ switch_hop_onward links (next kept.tunnel)
   passed answer = passed_by links answer c.route-route.result.now c.place-place.result kept.tunnel
       c.route-route.ensures c.place-place.ensures.place
 
@@ -133,9 +133,9 @@ receive-forwarding-requires c =
       stamped = (may before).stamped;
       here = stands before;
       last = (ends (links before) _ (sym c.pass.ensures.onward ∙ c.in-AtEnd.is)).0;
-      authority = subst (λ h. IsAtAuthoritySwitch (switch_call_counted s) h c.leg-leg.result)
+      authority = subst (λ h. IsSwitchAuthorityForLeg (switch_call_counted s) h c.leg-leg.result)
           (sym (ap (λ (a : Standing). a.header) c.in_ok-at-in-AtEnd.ensures.at))
-          (subst (IsAtAuthoritySwitch (switch_call_counted s) k.tunnel.header) (sym c.leg-leg.ensures)
+          (subst (IsSwitchAuthorityForLeg (switch_call_counted s) k.tunnel.header) (sym c.leg-leg.ensures)
           (authority_counted s k.tunnel.header k.tunnel.leg ((may before).authority (ap
           (λ (m : Moved). m.end) (free_hop s (links before) c.args.ports.now k None on.1 on.0)))));
     })
@@ -166,7 +166,7 @@ returns-in_ok-at-in-AtEnd c =
     c.settle.result c.args.packet None self c.settle.new.self c.settle.new.switch on.1 on.0
     (arrival_log c.settle.result (length self.bag + 1) (switch_call_counted s) near ports k
     (traveller_standing_kept at) at.version at.rule c.leg-leg.result c.args.packet _ self c.settle.new.self
-    (says.at ∙ ap (λ n. standing_at n k) here) says.version says.rule c.leg-leg.ensures
+    (says.at ∙ ap (λ n. traveller_standing_at n k) here) says.version says.rule c.leg-leg.ensures
     (ap (λ (a : Standing). a.packet) says.at ∙ (may before).known) (rw c.pass.ensures.after at
     (c.receive-forwarding.ensures.answer (around near ports) at.packet (traveller_standing_kept at).down))
     c.settle.ensures.log) (c.settle.ensures.same ∙ c.receive-forwarding.ensures.after
@@ -176,7 +176,7 @@ returns-in_ok-at-in-AtEnd c =
 
 met : (before : After-place-place) (c : In_ok-at-in-LinkDown)
     → MayLoggedPacketGoOn c.args.packet (asked before) (links before) c.in-Some.kept.now
-    → c.pass.result ≡ onward_by_switch (links before) (next c.in-Some.kept.now.tunnel)
+    → c.pass.result ≡ switch_hop_onward (links before) (next c.in-Some.kept.now.tunnel)
     → c.pass.new.self ≡ switch_call_counted (asked before)
     → LogMeetsDownLink (traveller_standing_kept c.in_ok-at-in-LinkDown.at) c.in_ok-at-in-LinkDown.at.version
     c.in_ok-at-in-LinkDown.at.rule c.leg-leg-in-LinkDown.result c.targets-targets.result.now
@@ -184,7 +184,7 @@ met : (before : After-place-place) (c : In_ok-at-in-LinkDown)
 met before c may passed after =
     let k = c.in-Some.kept.now in
     let says = c.in_ok-at-in-LinkDown.ensures in record {
-      stands = says.at ∙ ap (λ n. standing_at n k) (c.number-in-LinkDown.ensures.number
+      stands = says.at ∙ ap (λ n. traveller_standing_at n k) (c.number-in-LinkDown.ensures.number
           ∙ ap (λ (w : SwitchValue). w.number) after);
       version = says.version;
       rule = says.rule;

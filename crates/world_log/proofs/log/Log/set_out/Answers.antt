@@ -2,7 +2,7 @@
 use Rattle.std.proofs.Common.{[], ◌∙◌, ◌∷◌, ◌≡◌, List, None, Result, Some, ap, option_copied, refl, subst, unwrap_or, ℕ}
 use Rattle.base.specs.Exports.{IfRefused}
 use Rattle.failover.specs.Exports.{no_links, route_of}
-use Rattle.update_machine.specs.Exports.{Cause, takes_route}
+use Rattle.update_machine.specs.Exports.{Cause, machine_takes_route}
 use Rattle.switch_core.specs.Exports.{switch_stuck_cause}
 use Rattle.world_log.specs.declared.log.Log.{Log}
 use Rattle.travelling.specs.Travelling.{Flight, flight_begun_at, traveller_standing_kept, travels_by}
@@ -37,13 +37,13 @@ returns-in_ok-put-in-Ok-clause-log c =
     let kept : Flight = travels_by (flight_begun_at at c.args.leg c.args.targets route) c.args.at.version
     c.args.at.rule in
     let now : Log = record c.args.self.now { journal = c.push.new.self; travelling = c.put.new.self } in
-    let item_is : c.takes_route-item.result ≡ takes_route c.args.at.packet c.args.leg route =
-    c.takes_route-item.ensures ∙ ap (takes_route c.args.at.packet c.args.leg) c.in_ok-clone-in-Ok.ensures.cases in
+    let item_is : c.world_log_takes_route-item.result ≡ machine_takes_route c.args.at.packet c.args.leg route =
+    c.world_log_takes_route-item.ensures ∙ ap (machine_takes_route c.args.at.packet c.args.leg) c.in_ok-clone-in-Ok.ensures.cases in
     let Q : Result TunnelValue Cause → Type 0 = λ found.
     LogAfter c.push.result (log_set_item at c.args.leg found ∷ []) [] c.args.at.packet
     (log_set_flight c.args.at.version c.args.at.rule found) c.args.self.now now in
     subst Q (route_known s c.args.near (log_packet_standing at) c.args.leg c.args.targets links route
     c.links.ensures c.in-Ok.ensures.route)
-    (rw item_is at (log_one c.push.result c.takes_route-item.result c.args.at.packet (Some kept)
+    (rw item_is at (log_one c.push.result c.world_log_takes_route-item.result c.args.at.packet (Some kept)
     c.args.self.now now c.push.ensures.pushed c.push.ensures.unchanged refl
     (rw c.begin-kept.ensures at c.in_ok-put-in-Ok.ensures)))

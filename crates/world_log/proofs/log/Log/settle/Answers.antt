@@ -4,7 +4,7 @@ use Rattle.base.proofs.Exports.{both_written}
 use Rattle.update_machine.specs.Exports.{Item, machine_sent_items_from}
 use Rattle.journal.specs.declared.item.Item.TheVariants as item
 use Rattle.message_bag.specs.Exports.{Post, new_post}
-use Rattle.switch_core.specs.Exports.{answer_of, switch_rule_cached_by, set_out, switch_site_of}
+use Rattle.switch_core.specs.Exports.{answer_of, switch_core_cache_rule, set_out, switch_site_of}
 use Rattle.switch_core.specs.declared.forwarding.Forwarding.{Forwarding}
 use Rattle.travelling.specs.Travelling.{traveller_standing_kept}
 use Rattle.world_log.specs.Exports.{LogAfter, log_arrived_flight, log_arrived_items, log_arrived_posts, log_cache_message, log_message_list, log_packet_standing}
@@ -48,7 +48,7 @@ pub returns-in_ok-send_rule-in-Decided-clause-log : goal.returns-in_ok-send_rule
 returns-in_ok-send_rule-in-Decided-clause-log c =
     let at = traveller_standing_kept c.args.at in
     let decision = c.in-Decided.decision in
-    let message = log_cache_message at.ingress (switch_rule_cached_by decision c.in-Decided.word) in
+    let message = log_cache_message at.ingress (switch_core_cache_rule decision c.in-Decided.word) in
     let decided : Item = item.Decided at.packet decision.version decision.rule decision.action
     decision.how in
     let sends : List Item = machine_sent_items_from (length c.args.self.now.bag + 1) (log_message_list message) in

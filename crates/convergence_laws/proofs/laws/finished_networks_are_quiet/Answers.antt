@@ -1,5 +1,0 @@
-use Rattle.convergence_laws.proofs.ConvergenceNewsLaws.{finished_behind}
-use Rattle.convergence_laws.proofs.laws.finished_networks_are_quiet.Goals as goal
-
-pub returns : goal.returns
-returns c = finished_behind

@@ -1,5 +1,0 @@
-use Rattle.cut_tree.proofs.CutNarrowingTwice.{narrow_twice, narrow_first}
-use Rattle.cut_tree.proofs.laws.narrow_laws.Goals as goal
-
-pub returns : goal.returns
-returns c = record { twice = narrow_twice; first = narrow_first }

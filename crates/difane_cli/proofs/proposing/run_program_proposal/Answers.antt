@@ -1,0 +1,77 @@
+-- The plan that a play leaves is the one whose placement is proposed.
+use Rattle.std.proofs.Common.{◌∙◌, ◌≡◌, List, Ok, Option, Some, ap, subst, sym}
+use Rattle.base.proofs.Exports.{ForSome}
+use Rattle.shelf.specs.Exports.{Files}
+use Rattle.command_line.specs.Exports.{ReplayArguments}
+use Rattle.update_machine.specs.Exports.{Event, IsMachinePlay, Net}
+use Rattle.command_line.specs.Commands as grammar
+use Rattle.partition.specs.Plan.{IsPartitionPlan}
+use Rattle.difane_cli.specs.Exports.{CommandProposalOutcome, IsAfterCommandProposing, IsCommandAnswer}
+use Rattle.command_inputs.specs.Exports.{AreCommandPlayInputs, Play, command_status_after, known_command_input_task, task_inputs_stated}
+use Rattle.difane_cli.proofs.ProgramPlayOutcomes.{played}
+use Rattle.difane_cli.proofs.ProposalOutcomes.{out_of_proposing, proposing_ends, whole_told}
+use Rattle.difane_cli.proofs.proposing.run_program_proposal.Goals as goal
+use Rattle.difane_cli.proofs.proposing.run_program_proposal.Goals.{After-write_program_proposal, in-Err-write_program_proposal, in-Ok-write_program_proposal}
+use Rattle.difane_cli.proofs.proposing.run_program_proposal.Given.{Over}
+
+pub write_program_proposal-requires-clause-plan : goal.write_program_proposal-requires-clause-plan
+write_program_proposal-requires-clause-plan g c = let plan = c.in-Ok.played.plan in
+    subst (λ (net : Net). IsPartitionPlan plan.policy net plan.hosted) c.requires.net
+    c.in-Ok.ensures.plan.parts
+
+-- what the proposal comes to, by what became of its text
+outcome_of : (g : Over) (c : After-write_program_proposal g) (command : ReplayArguments) (files : Option Files)
+    → AreCommandPlayInputs (grammar.Replay command) (task_inputs_stated c.args.inputs)
+    → ForSome (known_command_input_task files (Some (grammar.Replay command)))
+    (λ read. read ≡ Ok (Play (task_inputs_stated c.args.inputs)))
+    → CommandProposalOutcome (IsCommandAnswer (grammar.Replay command) files) g.K.Sink.takes_memory
+    (command_status_after c.write_program_proposal.result c.in-Ok.played.full) c.in-Ok.played.journal
+    (g.K.Sink.state c.args.out.now) (g.K.Sink.state c.write_program_proposal.new.out)
+outcome_of g c command files own read = let inputs = task_inputs_stated c.args.inputs in
+    let full = c.in-Ok.played.full in
+    let journal = c.in-Ok.played.journal in
+    let plan = c.in-Ok.played.plan in
+    let before = g.K.Sink.state c.args.out.now in
+    let now = g.K.Sink.state c.write_program_proposal.new.out in
+    let written = c.write_program_proposal.result in
+    let takes_memory = g.K.Sink.takes_memory in
+    let play = subst (λ (events : List Event). IsMachinePlay inputs.setting events journal full)
+    c.deref.ensures.value c.in-Ok.ensures.play in
+    let answer = played c.program_answer_laws.ensures (grammar.Replay command) files inputs journal full own
+    read c.requires.sound play c.in-Ok.ensures.held in
+    let after = subst (λ (net : Net). IsAfterCommandProposing full plan.policy plan.hosted net journal
+    takes_memory before now written) (sym c.requires.net) c.write_program_proposal.ensures in
+    whole_told command files inputs journal full plan takes_memory before now written answer
+    c.in-Ok.ensures.plan after
+
+pub returns-clause-outcome : goal.returns-clause-outcome
+returns-clause-outcome g c = λ command files own read. let ended : c.match-write_program_proposal.status
+    ≡ command_status_after c.write_program_proposal.result c.in-Ok.played.full = elim c.match-write_program_proposal.branch [
+      | in-Ok-write_program_proposal w ↦ w.status-is ∙ w.after-status.ensures
+          ∙ ap (λ result. command_status_after result c.in-Ok.played.full) (sym w.in-Ok-write_program_proposal.is)
+      | in-Err-write_program_proposal w ↦ w.status-is ∙ w.from-status.ensures
+          ∙ ap (λ result. command_status_after result c.in-Ok.played.full) (sym w.in-Err-write_program_proposal.is)
+    ] in
+    rw ended (outcome_of g (goal.at.returns-clause-outcome g c).After-write_program_proposal command files own read)
+
+pub returns-clause-no_memory : goal.returns-clause-no_memory
+returns-clause-no_memory g c = λ is. let ended : c.match-write_program_proposal.status
+    ≡ command_status_after c.write_program_proposal.result c.in-Ok.played.full = elim c.match-write_program_proposal.branch [
+      | in-Ok-write_program_proposal w ↦ w.status-is ∙ w.after-status.ensures
+          ∙ ap (λ result. command_status_after result c.in-Ok.played.full) (sym w.in-Ok-write_program_proposal.is)
+      | in-Err-write_program_proposal w ↦ w.status-is ∙ w.from-status.ensures
+          ∙ ap (λ result. command_status_after result c.in-Ok.played.full) (sym w.in-Err-write_program_proposal.is)
+    ] in
+    out_of_proposing _ _ _ _ c.in-Ok.played.full _ _ _ c.write_program_proposal.result
+    c.write_program_proposal.ensures (rw ended at is)
+
+pub returns-clause-ended : goal.returns-clause-ended
+returns-clause-ended g c = let ended : c.match-write_program_proposal.status
+    ≡ command_status_after c.write_program_proposal.result c.in-Ok.played.full = elim c.match-write_program_proposal.branch [
+      | in-Ok-write_program_proposal w ↦ w.status-is ∙ w.after-status.ensures
+          ∙ ap (λ result. command_status_after result c.in-Ok.played.full) (sym w.in-Ok-write_program_proposal.is)
+      | in-Err-write_program_proposal w ↦ w.status-is ∙ w.from-status.ensures
+          ∙ ap (λ result. command_status_after result c.in-Ok.played.full) (sym w.in-Err-write_program_proposal.is)
+    ] in
+    rw ended (proposing_ends _ _ _ _ c.in-Ok.played.full
+    g.K.Sink.takes_memory _ _ c.write_program_proposal.result c.write_program_proposal.ensures)

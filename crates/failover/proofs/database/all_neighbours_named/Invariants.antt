@@ -1,7 +1,0 @@
-use Rattle.std.proofs.Common.{◌<◌, ◌≡◌, None, get_or, length, ℕ}
-use Rattle.failover.specs.Exports.{neighbours_named}
-use Rattle.failover.proofs.database.all_neighbours_named.Given as goal
-
-abbrev pub invariant-loop-origin : goal.invariant-loop-origin
-invariant-loop-origin l = (length l.named ≡ 64)
-    × ((k : ℕ) → k < l.origin → get_or l.named k 0 ≡ neighbours_named (get_or l.adverts k None))

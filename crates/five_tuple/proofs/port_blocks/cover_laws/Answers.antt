@@ -1,5 +1,0 @@
-use Rattle.five_tuple.proofs.PortCoverBlocks.{is_cover_of, greedy, only}
-use Rattle.five_tuple.proofs.port_blocks.cover_laws.Goals as goal
-
-pub returns : goal.returns
-returns c = record { cover = is_cover_of; greedy = greedy; only = only }

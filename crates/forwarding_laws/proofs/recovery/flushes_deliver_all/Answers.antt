@@ -1,5 +1,0 @@
-use Rattle.forwarding_laws.proofs.RecoveredNetworks.{flushed_all}
-use Rattle.forwarding_laws.proofs.recovery.flushes_deliver_all.Goals as goal
-
-pub returns : goal.returns
-returns c = flushed_all

@@ -1,5 +1,0 @@
-use Rattle.journal_text.proofs.JournalLineLengths.{lines_within}
-use Rattle.journal_text.proofs.laws.lines_fit.Goals as goal
-
-pub returns : goal.returns
-returns c = lines_within c.switch_name_laws.ensures

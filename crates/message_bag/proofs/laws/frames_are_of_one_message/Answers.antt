@@ -1,5 +1,0 @@
-use Rattle.message_bag.proofs.BagFrameArrivals.{same_message}
-use Rattle.message_bag.proofs.laws.frames_are_of_one_message.Goals as goal
-
-pub returns : goal.returns
-returns c = same_message

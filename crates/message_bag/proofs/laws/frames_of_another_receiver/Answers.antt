@@ -1,5 +1,0 @@
-use Rattle.message_bag.proofs.BagFramesOfReceivers.{of_another_receiver}
-use Rattle.message_bag.proofs.laws.frames_of_another_receiver.Goals as goal
-
-pub returns : goal.returns
-returns c = of_another_receiver

@@ -1,5 +1,0 @@
-use Rattle.packet_laws.proofs.PacketPlayExistence.{together}
-use Rattle.packet_laws.proofs.laws.items_keep_versions_whole.Goals as goal
-
-pub returns : goal.returns
-returns c = together assumption

@@ -1,6 +1,0 @@
-use Rattle.packet_laws.proofs.PacketsAtRest.{reached}
-use Rattle.packet_laws.proofs.PacketRouteHops.{untouched_stay}
-use Rattle.packet_laws.proofs.laws.untouched_rules_stay.Goals as goal
-
-pub returns : goal.returns
-returns c = reached _ untouched_stay

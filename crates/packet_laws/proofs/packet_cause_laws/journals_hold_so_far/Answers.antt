@@ -1,5 +1,0 @@
-use Rattle.packet_laws.proofs.PacketHistories.{holds_so_far}
-use Rattle.packet_laws.proofs.packet_cause_laws.journals_hold_so_far.Goals as goal
-
-pub returns : goal.returns
-returns c = holds_so_far assumption

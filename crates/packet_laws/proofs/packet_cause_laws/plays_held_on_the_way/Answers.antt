@@ -1,5 +1,0 @@
-use Rattle.packet_laws.proofs.PacketHistories.{held_on_the_way}
-use Rattle.packet_laws.proofs.packet_cause_laws.plays_held_on_the_way.Goals as goal
-
-pub returns : goal.returns
-returns c = held_on_the_way c.journals_hold_so_far.ensures c.steps_are_kept.ensures

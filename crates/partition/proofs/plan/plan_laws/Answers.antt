@@ -1,5 +1,0 @@
-use Rattle.partition.proofs.PartitionPlans.{plan_holds}
-use Rattle.partition.proofs.plan.plan_laws.Goals as goal
-
-pub returns : goal.returns
-returns c = record { holds = plan_holds }

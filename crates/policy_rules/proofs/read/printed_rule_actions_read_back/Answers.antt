@@ -1,0 +1,13 @@
+use Rattle.std.proofs.Common.{◌<◌, ◌^◌, ◌≡◌, ◌≤◌, Some, decimal, ℕ, rules}
+use Rattle.five_tuple.specs.Exports.{number_up_to}
+use Rattle.policy_rules.specs.declared.policy.Action.{Action}
+use Rattle.policy_rules.specs.Exports.{HasSmallActionPort, action_of, action_text}
+use Rattle.policy_rules.proofs.read.printed_rule_actions_read_back.Goals as goal
+
+back : ((most n : ℕ) → n ≤ most → n < 2 ^ 64 → number_up_to most (decimal n) ≡ Some n)
+    → (action : Action) → HasSmallActionPort action → action_of (action_text action) ≡ Some action
+unfolding action_of
+back number action small = search rules
+
+pub returns : goal.returns
+returns c = back c.tuple_fields_read_back.ensures.number

@@ -1,5 +1,0 @@
-use Rattle.rebalance.proofs.RebalanceSpread.{spread_laws_hold}
-use Rattle.rebalance.proofs.laws.spread_laws.Goals as goal
-
-pub returns : goal.returns
-returns c = spread_laws_hold

@@ -1,5 +1,0 @@
-use Rattle.refinement.proofs.RefinedSwitchKnowledge.{requirements_hold}
-use Rattle.refinement.proofs.switch_laws.calls_may_be_made.Goals as goal
-
-pub returns : goal.returns
-returns c = requirements_hold

@@ -1,5 +1,0 @@
-use Rattle.refinement.proofs.RefinedDeliveredRecords.{hearing_refines}
-use Rattle.refinement.proofs.switch_laws.messages_are_heard.Goals as goal
-
-pub returns : goal.returns
-returns c = hearing_refines

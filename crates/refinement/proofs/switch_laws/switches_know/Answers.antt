@@ -1,5 +1,0 @@
-use Rattle.refinement.proofs.RefinedSwitchKnowledge.{knowledge_refines}
-use Rattle.refinement.proofs.switch_laws.switches_know.Goals as goal
-
-pub returns : goal.returns
-returns c = knowledge_refines

@@ -1,5 +1,0 @@
-use Rattle.refinement.proofs.RefinedControllerCalls.{begins}
-use Rattle.refinement.proofs.world_laws.controllers_begin.Goals as goal
-
-pub returns : goal.returns
-returns c = begins

@@ -1,5 +1,0 @@
-use Rattle.refinement.proofs.RefinedPacketTable.{bags_refine}
-use Rattle.refinement.proofs.world_laws.messages_are_kept.Goals as goal
-
-pub returns : goal.returns
-returns c = bags_refine

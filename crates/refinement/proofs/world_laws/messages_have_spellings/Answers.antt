@@ -1,5 +1,0 @@
-use Rattle.refinement.proofs.RefinedTableSpellings.{reached_spelled}
-use Rattle.refinement.proofs.world_laws.messages_have_spellings.Goals as goal
-
-pub returns : goal.returns
-returns c = reached_spelled

@@ -1,5 +1,0 @@
-use Rattle.refinement.proofs.RefinedPacketTable.{entries_refine}
-use Rattle.refinement.proofs.world_laws.packets_come_in.Goals as goal
-
-pub returns : goal.returns
-returns c = entries_refine

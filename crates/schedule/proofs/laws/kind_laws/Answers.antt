@@ -1,5 +1,0 @@
-use Rattle.schedule.proofs.ScheduleKeywords.{kind_back, keyword_back}
-use Rattle.schedule.proofs.laws.kind_laws.Goals as goal
-
-pub returns : goal.returns
-returns c = record { kind = kind_back; keyword = keyword_back }

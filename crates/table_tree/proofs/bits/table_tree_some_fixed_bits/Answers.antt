@@ -1,0 +1,16 @@
+use Rattle.std.proofs.Common.{◌∙◌, ap, arith, take_all}
+use Rattle.table_tree.specs.Regions.{table_tree_some_fixes}
+use Rattle.table_tree.proofs.TableTreeMasks.{some_more, some_none}
+use Rattle.table_tree.proofs.bits.table_tree_some_fixed_bits.Goals as goal
+
+pub loop-candidate-init : goal.loop-candidate-init
+loop-candidate-init c = λ bit. some_none bit
+
+pub loop-candidate-preserved : goal.loop-candidate-preserved
+loop-candidate-preserved c = λ bit. some_more c.args.candidates.now c.loop-candidate.candidate-index
+    c.candidate-item.result _ _ bit c.loop-candidate-test.true c.candidate-item.is
+    c.mask-bits.ensures.mask (c.loop-candidate.invariant bit)
+
+pub returns : goal.returns
+returns c = λ bit. c.loop-candidate.invariant bit ∙ ap (λ candidates. table_tree_some_fixes candidates bit)
+    (take_all c.loop-candidate.candidate-index c.args.candidates.now (omega arith))

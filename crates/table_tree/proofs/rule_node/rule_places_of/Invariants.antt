@@ -1,7 +1,0 @@
-use Rattle.std.proofs.Common.{◌++◌, ◌≡◌, drop, map}
-use Rattle.table_tree.proofs.TableTreeRules.{rank_of}
-use Rattle.table_tree.proofs.rule_node.rule_places_of.Given as goal
-
-abbrev pub invariant-loop-rule : goal.invariant-loop-rule
-invariant-loop-rule l = map rank_of l.rules
-    ≡ l.places.items ++ map rank_of (drop l.rule-index l.rules)
