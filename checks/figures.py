@@ -25,7 +25,7 @@ LIMITS = (
     ("command_inputs/specs/Codes.antt", r"command_input_most_file_bytes = "),
     ("command_inputs/specs/Codes.antt", r"command_input_most_trace_bytes = "),
     ("update_machine/specs/Full.antt", r"machine_journal_full_at = "),
-    ("control_laws/specs/Sends.antt", r"StepsSendAtMost setting journal |StepsSendAtMost "),
+    ("control_laws/specs/Sends.antt", r"ControlStepsSendAtMost setting journal |ControlStepsSendAtMost "),
     ("control_laws/specs/Sends.antt", r"control_messages_sent_count journal ≤ "),
     ("packet_laws/specs/Hops.antt", r"most_packet_hops = "),
     ("steps/specs/Limits.antt", r"max_events = "),
@@ -86,9 +86,9 @@ def counts():
     laws = text_of("crates/wrong_journals/src/laws.rt")
     right = re.search(r"pub fn right_journals_hold.*?\{\}", laws, re.S)[0]
     yield "docs/THEOREM.md", "six right journals", right.count("IsRightTriedJournal ")
-    refused = body_of("crates/wire/specs/Assembly.antt", "pub data IsRefusedFrame")
+    refused = body_of("crates/wire/specs/Assembly.antt", "pub data IsRefusedWireFrame")
     cases = len(re.findall(r"^  \w+ :", refused, re.M))
-    yield "docs/CLAUSES.md", "six cases (`IsRefusedFrame`)", cases
+    yield "docs/CLAUSES.md", "six cases (`IsRefusedWireFrame`)", cases
     grow = text_of("crates/update_machine/src/laws.rt").partition("pub fn machine_journals_grow")[2]
     ways = grow.partition("\n{}")[0].count("ensures ")
     yield "docs/CLAUSES.md", "five ways to read it", ways

@@ -1,10 +1,11 @@
 #!/usr/bin/env python3
 """Counts the calls between the top and a packet's result: `checks/frames.py`.
 
-It reads the bodies of all functions under `crates/*/src` and prints two of the shortest chains of calls: from `main` to the lookup of a
-header that enters, and from the function that has a decision for a packet to the one that writes the packet's last item. A method call
-may mean each method of its name that the crate can see, so a chain can only be shorter than this by a call that isn't made. It ends
-with 1 if a chain is longer than its limit.
+It reads the bodies of all functions under `crates/*/src` and prints two shortest chains of calls:
+from `main` to the lookup of a header that enters, and from the function that has a decision for a
+packet to the one that writes the packet's last item. A method call may mean each method of its name
+that the crate can see, so a printed chain may use a call that isn't made; then the true one is
+longer. It ends with 1 if a chain is longer than its limit.
 """
 import re
 import sys

@@ -28,36 +28,36 @@ OFFICE = HOME / "crates/wrong_journals/specs/Office.antt"
 # Where the second tier begins, each with what it is about; with its crate where it shares its name.
 STOPS = {
     "IsMachinePlay": "the exact journal",
-    "StrongCause": "strong causes",
+    "PacketStrongCause": "strong causes",
     "partition_plan_of": "plans",
-    "applied": "changes of policies",
-    "IsPolicyRulesOrAmendment": "what holds of each policy",
+    "policy_change_applied": "changes of policies",
+    "IsSoundPolicyFile": "what holds of each policy",
     "PolicyFileRowsAre": "what holds of each policy",
     "PrintArguments": "plans and tables in print",
-    "Printing": "plans and tables in print",
-    "PrintOutcome": "plans and tables in print",
+    "CommandPrintInputs": "plans and tables in print",
+    "ProgramPrintOutcome": "plans and tables in print",
     "AuditArguments": "checks of traces",
     "CommandAuditInputs": "checks of traces",
     "ProgramAuditOutcome": "checks of traces",
-    "IsCommandTraceGood": "checks of traces",
-    "kept_by": "meters",
-    "command_gone_records_by": "flow records",
-    "command_flow_text_unless_full": "flow records",
-    "CommandCountsFlows": "flow records",
-    "CommandProposalOutcome": "placements that are proposed",
+    "IsProgramTraceGood": "checks of traces",
+    "replay_kept_meters": "meters",
+    "program_gone_records_by": "flow records",
+    "program_flow_text_unless_full": "flow records",
+    "ProgramCountsFlows": "flow records",
+    "ProgramProposalOutcome": "placements that are proposed",
     "PacketLawsHeldThroughout": "what held on the way",
     "AreCommandInputsWithinLimits": "limits of files",
     "KeepsForwarding": "recovery and rollouts",
-    "IsCommandQuietVerdict": "quiet networks",
+    "IsProgramQuietVerdict": "quiet networks",
     "program_asks_quiet": "quiet networks",
-    "is_command_verdict_asked": "quiet networks",
-    "command_of": "the grammar of the arguments",
+    "is_program_verdict_asked": "quiet networks",
+    "command_of_arguments": "the grammar of the arguments",
     "net_file.net_of": "how the bytes of a file are read",
     "schedule.schedule_of": "how the bytes of a file are read",
-    "policy_file.policy_of": "how the bytes of a file are read",
+    "policy_file.policy_file_policy_of": "how the bytes of a file are read",
     "policy_file.policy_file_of": "how the bytes of a file are read",
-    "Files": "how files are held",
-    "file_named": "how files are held",
+    "ShelfFiles": "how files are held",
+    "shelf_file_named": "how files are held",
     "known_command_input_task": "the exact task, and refusals",
     "command_inputs_of_load": "load cases",
     "load_case": "load cases",
@@ -65,29 +65,29 @@ STOPS = {
     "IsCommandInputTaskAccepted": "refusals",
     "CommandStatusAccounts": "refusals",
     "CommandStatusNamesOneOf": "refusals",
-    "names_in": "refusals",
+    "command_input_names": "refusals",
     "ProgramMemoryRanOut": "running out of memory",
-    "CommandGivesBackMeters": "meters",
-    "NeedsReadFault": "faults",
+    "ProgramGivesBackMeters": "meters",
+    "CommandNeedsReadFault": "faults",
     "CommandMayFollowFault": "faults",
-    "command_most_reads": "reads",
+    "command_input_most_reads": "reads",
     "IsShelfAfterReads": "reads",
-    "CommandReadsNothing": "reads",
+    "CommandInputReadsNothing": "reads",
 }
-CORE = ("IsMachineRun", "HasMachineCause", "AreEntered")
+CORE = ("IsMachineRun", "HasMachineCause", "ArePacketRowsEntered")
 HELD = ("PacketLawsHeldThroughout",)
 MARK = "-- First tier. "  # with this a file of the first tier begins, and no other one
 DEFINES = re.compile(r"(?:abbrev pub|unfoldable pub|pub record|pub data|pub) ([^\s:]+)")
 TOKEN = re.compile(r"[A-Za-z_][\w-]*(?:\.[A-Za-z_][\w-]*)*")
 # the facts of which a wrong journal lacks one or two, and what its law says so by
-FACT = re.compile(r"`(IsMachineRun|HasMachineCause|AreEntered)`")
+FACT = re.compile(r"`(IsMachineRun|HasMachineCause|ArePacketRowsEntered)`")
 LINE = re.compile(r'codes " *([^"]*)"')
 PRINTS = re.compile(r"TriedJournalPrintsAs (\w+)\s+\((\w*printed_\w+)?(.*?)\}", re.S)
 REFUSES = {
     "WrongJournalIsNoRun": ["IsMachineRun"],
     "WrongJournalLacksRunAndCause": ["IsMachineRun", "HasMachineCause"],
     "WrongJournalLacksCause": ["HasMachineCause"],
-    "WrongJournalLacksRow": ["AreEntered"],
+    "WrongJournalLacksRow": ["ArePacketRowsEntered"],
 }
 # names of fields, which are no definitions
 FIELD = re.compile(r"^  +pub [\w-]+ :|(?<=[{;] )[\w-]+ =|^ +[\w-]+ =(?= .*;$)", re.M)

@@ -5,7 +5,7 @@ use Rattle.std.proofs.lemmas.Nat.{pow_below, or_lt}
 use Rattle.std.proofs.lemmas.Nat.Bits.{bit_at_and, bit_at_or, bit_at-lt, bit_at-zero, bit_at-pow_same, bit_at-pow_other, bit_at_above, same_from_bits, same_from_bits_below, bit_at-trailing_zeros, bit_at_xor}
 use Rattle.std.proofs.lemmas.List.FromFn.{get_or-range_with_len}
 use Rattle.std.proofs.Math.Bool.{or-false}
-use Rattle.base.specs.Exports.{MaskLaws, has, least_in_number_set, small_number_mask, number_set_where, only_if, switches}
+use Rattle.base.specs.Exports.{SmallNumberMaskLaws, has, least_in_number_set, small_number_mask, number_set_where, only_if, switches}
 
 -- ---- one switch of a mask
 
@@ -143,5 +143,5 @@ pub mask_of_is : (mask : ℕ) (test : ℕ → Bool) → mask < 2 ^ 64
     → ((k : ℕ) → k < 64 → has mask k ≡ test k) → mask ≡ small_number_mask test
 mask_of_is mask test fits same = search (rules, same_masks, mask_of_lt, has_mask)
 
-pub laws : MaskLaws
+pub laws : SmallNumberMaskLaws
 laws = record { small = mask_of_lt; bits = has_mask; past = has_above; unique = mask_of_is }

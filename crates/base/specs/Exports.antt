@@ -2,9 +2,9 @@
 pub use Rattle.base.specs.ComputedMasks.{only_if}
 unfoldable pub use Rattle.base.specs.ComputedMasks.{least_in_number_set, small_number_mask, number_set_where}
 pub use Rattle.base.specs.Filled.{filled-take, zero_filled_list}
-pub use Rattle.base.specs.MaskLaws.{MaskLaws}
+pub use Rattle.base.specs.MaskLaws.{SmallNumberMaskLaws}
 unfoldable pub use Rattle.base.specs.Masks.{has, switches}
-pub use Rattle.base.specs.Refusals.{IfRefused, IsCallRefusal, in_row}
+pub use Rattle.base.specs.Refusals.{IfRefused, IsCallRefusal, refusal_in_row}
 pub use Rattle.std.specs.BTreeMap.{get}
 pub use Rattle.std.specs.Bool.{beq}
 pub use Rattle.std.specs.Borrow.{Bor}

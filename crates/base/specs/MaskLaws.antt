@@ -3,7 +3,7 @@ use Rattle.std.specs.Prelude.{◌<◌, ◌^◌, ◌≡◌, ◌≤◌, Bool, fals
 use Rattle.base.specs.Masks.{has}
 use Rattle.base.specs.ComputedMasks.{small_number_mask}
 
-pub record MaskLaws : Type 0 where
+pub record SmallNumberMaskLaws : Type 0 where
   pub small : (test : ℕ → Bool) → small_number_mask test < 2 ^ 64
   pub bits : (test : ℕ → Bool) (k : ℕ) → k < 64 → has (small_number_mask test) k ≡ test k
   pub past : (mask k : ℕ) → mask < 2 ^ 64 → 64 ≤ k → has mask k ≡ false

@@ -15,6 +15,6 @@ IsCallRefusal read (Refused refusal) = read ≡ Err refusal
 IsCallRefusal read NoMemory = ⊤
 
 -- a value, or its refusal in this row
-abbrev pub in_row : {X R : Type 0} → ℕ → Result X R → Result X (InRow R)
-in_row row (Ok value) = Ok value
-in_row row (Err refusal) = Err (record { refusal = refusal; row = row })
+abbrev pub refusal_in_row : {X R : Type 0} → ℕ → Result X R → Result X (InRow R)
+refusal_in_row row (Ok value) = Ok value
+refusal_in_row row (Err refusal) = Err (record { refusal = refusal; row = row })

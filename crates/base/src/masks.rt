@@ -8,7 +8,7 @@ ghost use Rattle.std.specs.Prelude.{◌≡◌, ◌<◌, ◌^◌, ◌==◌, bit_o
 ghost use Rattle.std.specs.Int.{bit_at};
 ghost use Rattle.base.specs.Masks.{has};
 ghost use Rattle.base.specs.ComputedMasks.{only_if};
-ghost use Rattle.base.specs.MaskLaws.{MaskLaws};
+ghost use Rattle.base.specs.MaskLaws.{SmallNumberMaskLaws};
 
 /// Whether the set has this number.
 #[tactic(auto, using(std::proofs::lemmas::Nat::Bits::shr_and_one), unfolding(crate::specs::Masks::has))]
@@ -40,5 +40,5 @@ pub fn with(mask: u64, k: u32) -> u64
 
 /// The mask of a test has exactly the numbers below 64 that pass it, and no other mask has them.
 pub fn small_number_mask_laws()
-    ensures { MaskLaws }
+    ensures { SmallNumberMaskLaws }
 {}

@@ -1,8 +1,8 @@
 -- The tables of the tests are sound: of three regions, one has each header.
 use Rattle.std.proofs.Common.{[], ◌&&◌, ◌+◌, ◌<◌, ◌==◌, ◌∙◌, ◌∷◌, ◌≡◌, IsFalse, List, ap, arith, cond, count_by, false, lit<, refl, true, ℕ}
 use Rattle.base.proofs.Exports.{bit_at, bit_at-lt, nat_tests}
-use Rattle.five_tuple.specs.Exports.{number_of}
-use Rattle.ternary.specs.Exports.{any_word, word_fix_of, holds, is_fixed_of}
+use Rattle.five_tuple.specs.Exports.{header_number_of}
+use Rattle.ternary.specs.Exports.{any_word, word_fix_of, holds, is_word_bit_fixed}
 use Rattle.ternary.proofs.TernaryCallerLemmas.{any_holds, any_unfixed, fix_holds}
 use Rattle.switch_table.specs.Exports.{AreSoundSwitchTables}
 use Rattle.switch_table.specs.declared.tables.PartRow.{PartRow}
@@ -18,8 +18,8 @@ one_third : (a b : ℕ) → a < 2 → b < 2
     → 0 + cond ((a == 0) && (b == 0)) 1 0 + cond ((a == 0) && (b == 1)) 1 0 + cond (a == 1) 1 0 ≡ 1
 one_third a b p q = grind (arith, nat_tests)
 
-free_high : IsFalse (is_fixed_of (word_fix_of any_word 71 false) 103)
-unfolding word_fix_of is_fixed_of
+free_high : IsFalse (is_word_bit_fixed (word_fix_of any_word 71 false) 103)
+unfolding word_fix_of is_word_bit_fixed
 free_high = refl
 
 third_has : (number : ℕ) → count_by (λ (row : PartRow). holds row.region number) thirds ≡ 1
@@ -38,7 +38,7 @@ third_has number =
 
 pub sound_thirds : (t : Tables) → t.parts ≡ thirds → t.auth ≡ [] → AreSoundSwitchTables t
 sound_thirds t parts auth = record {
-  one = λ header is. rw parts (third_has (number_of header));
+  one = λ header is. rw parts (third_has (header_number_of header));
   numbers = rw auth (λ k d within. absurd (omega arith));
   distinct = rw auth (λ i j d less within. absurd (omega arith));
   covers = rw auth (λ k d within. absurd (omega arith));

@@ -6,7 +6,7 @@ use Rattle.std.proofs.lemmas.Bool.Decides.{nat_tests}
 use Rattle.std.proofs.lemmas.Option.{slice_get-get_or}
 use Rattle.std.proofs.lemmas.Nat.{and_mod, and_shr, xor_mod, xor_shr}
 use Rattle.std.proofs.lemmas.Nat.Bits.{bit_at_and, bit_at_xor, bit_at-lt, bit_at_above}
-use Rattle.ternary.specs.Exports.{WordCoversLaws, ExactLaws, FreeLaws, IsWord, WordValue, words_agree_at, word_covers_of, exact_word, ternary_with_bit_freed, is_fixed_of}
+use Rattle.ternary.specs.Exports.{WordCoversLaws, TernaryExactLaws, TernaryFreeLaws, IsWord, WordValue, words_agree_at, word_covers_of, exact_word, ternary_with_bit_freed, is_word_bit_fixed}
 use Rattle.policy_rules.specs.declared.rules.Rule.{Rule}
 use Rattle.cache_maker.specs.Independent.{IsIndependentCacheWord, is_cache_word_apart, is_cache_word_independent, widening_of}
 use Rattle.cache_maker.specs.Differing.{cache_widening_difference, meets_widened_word}
@@ -15,8 +15,8 @@ use Rattle.cache_maker.proofs.WidenedCacheWords.{widened_wider}
 
 -- ---- the fixed bits of a word that is widened from the lowest bit on
 
-pub still_fixed : ExactLaws → FreeLaws → (h : ℕ) (region : WordValue) (rules : List Rule)
-    (index n j : ℕ) → n ≤ j → j < 104 → IsTrue (is_fixed_of (widening_of h region rules index n) j)
+pub still_fixed : TernaryExactLaws → TernaryFreeLaws → (h : ℕ) (region : WordValue) (rules : List Rule)
+    (index n j : ℕ) → n ≤ j → j < 104 → IsTrue (is_word_bit_fixed (widening_of h region rules index n) j)
 unfolding widening_of
 still_fixed exact free h region rules index zero j from below = exact.no_free_bit h j below
 still_fixed exact free h region rules index (suc n) j from below =
@@ -25,17 +25,17 @@ still_fixed exact free h region rules index (suc n) j from below =
     (omega arith)
     before
   where
-    by_test : (b : Bool) → j ≢ n → IsTrue (is_fixed_of (widening_of h region rules index n) j)
-        → IsTrue (is_fixed_of (cond b (ternary_with_bit_freed (widening_of h region rules index n) n)
+    by_test : (b : Bool) → j ≢ n → IsTrue (is_word_bit_fixed (widening_of h region rules index n) j)
+        → IsTrue (is_word_bit_fixed (cond b (ternary_with_bit_freed (widening_of h region rules index n) n)
         (widening_of h region rules index n)) j)
     by_test true other before = free.other_bit (widening_of h region rules index n) n j other
         ∙ before
     by_test false other before = before
 
-pub as_header : WordCoversLaws → FreeLaws → (h : ℕ) (region : WordValue) (rules : List Rule)
-    (index n j : ℕ) → IsTrue (is_fixed_of (widening_of h region rules index n) j)
+pub as_header : WordCoversLaws → TernaryFreeLaws → (h : ℕ) (region : WordValue) (rules : List Rule)
+    (index n j : ℕ) → IsTrue (is_word_bit_fixed (widening_of h region rules index n) j)
     → bit_at (widening_of h region rules index n).value j ≡ bit_at h j
-unfolding widening_of is_fixed_of
+unfolding widening_of is_word_bit_fixed
 as_header covers free h region rules index n j fixed =
     let wider = widened_wider covers free h region rules index 0 n (omega arith) in
     sym (((covers.bitwise _ (exact_word h)).0 wider j (eqb-true _ _ fixed)).1)
@@ -59,19 +59,19 @@ bit_at_differing : (h : ℕ) (rule : WordValue) (j : ℕ) → bit_at (cache_wide
 bit_at_differing h rule j = search (rules, bit_at_and, bit_at_xor)
 
 -- where the word fixes the bit, to the header's
-agrees_as : (word rule : WordValue) (h j : ℕ) → IsTrue (is_fixed_of word j)
+agrees_as : (word rule : WordValue) (h j : ℕ) → IsTrue (is_word_bit_fixed word j)
     → bit_at word.value j ≡ bit_at h j → words_agree_at word rule j ≡ differ (bit_at h j)
     (bit_at rule.value j) (bit_at rule.mask j)
-unfolding words_agree_at is_fixed_of
+unfolding words_agree_at is_word_bit_fixed
 agrees_as word rule h j fixed same = cc (fixed, same)
 
-pub differs_at : (word rule : WordValue) (h j : ℕ) → IsTrue (is_fixed_of word j)
+pub differs_at : (word rule : WordValue) (h j : ℕ) → IsTrue (is_word_bit_fixed word j)
     → bit_at word.value j ≡ bit_at h j
     → words_agree_at word rule j ≡ false → bit_at (cache_widening_difference h rule) j ≡ 1
 differs_at word rule h j fixed same e =
     search (rules, bit_at_differing, digits_differ, bit_at-lt, agrees_as)
 
-pub same_at : (word rule : WordValue) (h j : ℕ) → IsTrue (is_fixed_of word j)
+pub same_at : (word rule : WordValue) (h j : ℕ) → IsTrue (is_word_bit_fixed word j)
     → bit_at word.value j ≡ bit_at h j → IsTrue (words_agree_at word rule j)
     → bit_at (cache_widening_difference h rule) j ≡ 0
 same_at word rule h j fixed same e = bit_at_differing h rule j ∙ digits_agree _ _ _ (bit_at-lt h j)
@@ -86,20 +86,20 @@ past_header h j rule is past = search (rules, bit_at_differing, bit_at_above)
 and_one : (a b c : Bool) → a ≡ (b && c) → c ≡ true → a ≡ b
 and_one a b c e one = search rules
 
-freed_cover : FreeLaws → (a word : WordValue) (bit : ℕ) → IsTrue (word_covers_of a word)
-    → word_covers_of a (ternary_with_bit_freed word bit) ≡ not (is_fixed_of a bit)
+freed_cover : TernaryFreeLaws → (a word : WordValue) (bit : ℕ) → IsTrue (word_covers_of a word)
+    → word_covers_of a (ternary_with_bit_freed word bit) ≡ not (is_word_bit_fixed a bit)
 freed_cover free a word bit covered = and_one _ _ _ (free.freed_covered a word bit) covered
 
-pub test_parts : FreeLaws → (region : WordValue) (rules : List Rule) (index bit : ℕ)
+pub test_parts : TernaryFreeLaws → (region : WordValue) (rules : List Rule) (index bit : ℕ)
     (word : WordValue) (d : Rule) → index < length rules → IsIndependentCacheWord region rules index word
-    → ((not (is_fixed_of region bit) && not (is_fixed_of (get_or rules index d).word bit))
+    → ((not (is_word_bit_fixed region bit) && not (is_word_bit_fixed (get_or rules index d).word bit))
     && is_cache_word_apart (ternary_with_bit_freed word bit) (take index rules)) ≡ is_cache_word_independent region rules index
     (ternary_with_bit_freed word bit)
 test_parts free region rules index bit word d within is =
     sym (is_independent_at region rules index (ternary_with_bit_freed word bit) d within
     ∙ ap (λ b. (b && word_covers_of (get_or rules index d).word (ternary_with_bit_freed word bit))
     && is_cache_word_apart (ternary_with_bit_freed word bit) (take index rules))
-    (freed_cover free region word bit is.in_region) ∙ ap (λ b. (not (is_fixed_of region bit) && b)
+    (freed_cover free region word bit is.in_region) ∙ ap (λ b. (not (is_word_bit_fixed region bit) && b)
     && is_cache_word_apart (ternary_with_bit_freed word bit) (take index rules)) (freed_cover free (get_or rules index d).word
     word bit (subst (λ o. IsSomeAnd o (λ (rule : Rule). IsTrue (word_covers_of rule.word word)))
     (slice_get-get_or rules index d within) is.in_rule)))

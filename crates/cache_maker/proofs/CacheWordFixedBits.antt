@@ -15,10 +15,10 @@ use Rattle.std.proofs.Math.Pow.{pow-lt}
 use Rattle.std.proofs.lemmas.Nat.{or_lt, xor_lt}
 use Rattle.std.proofs.lemmas.Nat.Bits.{and_pow, bit_at_and, bit_at_or, bit_at_xor, bit_at-lt, bit_at-zero, bit_at_above, bit_at-pow_other, bit_at-pow_same, same_from_bits}
 use Rattle.ternary.proofs.TernaryCallerLemmas.{or_left, or_right}
-use Rattle.ternary.specs.Exports.{WordCoversLaws, ExactLaws, FreeLaws, IsWord, MeetLaws, WordValue, words_agree_at, exact_word, ternary_with_bit_freed, is_fixed_of, meet_of, meets}
+use Rattle.ternary.specs.Exports.{WordCoversLaws, TernaryExactLaws, TernaryFreeLaws, IsWord, TernaryMeetLaws, WordValue, words_agree_at, exact_word, ternary_with_bit_freed, is_word_bit_fixed, word_meet_of, word_meets}
 use Rattle.policy_rules.specs.declared.rules.Rule.{Rule}
 use Rattle.cache_maker.specs.Independent.{IsIndependentCacheWord, is_cache_word_apart, is_cache_word_independent, widening_of}
-use Rattle.cache_maker.specs.Differing.{AreWidenedBitsWithoutReason, cache_widening_difference, rule_meets_widened_word}
+use Rattle.cache_maker.specs.Differing.{AreFixedBitsWithoutReason, cache_widening_difference, rule_meets_widened_word}
 use Rattle.cache_maker.proofs.IndependentCacheWords.{true_not}
 use Rattle.cache_maker.proofs.WidenedCacheWords.{widened_independent, widened_word}
 use Rattle.cache_maker.proofs.CacheWordDifferences.{as_header, differs_at, past_header, same_at, still_fixed, test_parts}
@@ -26,16 +26,16 @@ use Rattle.cache_maker.proofs.CacheWordDifferences.{as_header, differs_at, past_
 -- what `widen` is given: `closed` has the bits that the region or the rule fixes
 pub record IsGiven (h : ℕ) (region : WordValue) (rules : List Rule) (index closed : ℕ) : Type 0 where
   pub covers : WordCoversLaws
-  pub meet : MeetLaws
-  pub exact : ExactLaws
-  pub free : FreeLaws
+  pub meet : TernaryMeetLaws
+  pub exact : TernaryExactLaws
+  pub free : TernaryFreeLaws
   pub bound : h < 2 ^ 104
   pub words : All (λ (rule : Rule). IsWord rule.word) rules
   pub start : IsIndependentCacheWord region rules index (exact_word h)
   pub within : index < length rules
   pub d : Rule
   pub closes : (n : ℕ) → not (bit_at closed n == 1)
-      ≡ (not (is_fixed_of region n) && not (is_fixed_of (get_or rules index d).word n))
+      ≡ (not (is_word_bit_fixed region n) && not (is_word_bit_fixed (get_or rules index d).word n))
 
 -- some earlier rule differs from the header in these bits
 pub record IsOfRule (h : ℕ) (earlier : List Rule) (reason : ℕ) : Type 0 where
@@ -68,16 +68,16 @@ digit_same a b p q e = grind (arith, nat_tests)
 -- the bits of two masks
 pub closes_both : (region rule : WordValue) (m n : ℕ) → m ≡ region.mask → n ≡ rule.mask → (bit : ℕ)
     → not (bit_at (bit_or m n) bit == 1)
-    ≡ (not (is_fixed_of region bit) && not (is_fixed_of rule bit))
-unfolding is_fixed_of
+    ≡ (not (is_word_bit_fixed region bit) && not (is_word_bit_fixed rule bit))
+unfolding is_word_bit_fixed
 closes_both region rule m n same also bit = search (rules, nat_tests, bit_at_or, bit_at-lt)
 
 -- ---- a turn
 
 -- a turn leaves the bits before it as they are
-kept_after : FreeLaws → (h : ℕ) (region : WordValue) (rules : List Rule) (index n m : ℕ) → n < m
-    → is_fixed_of (widening_of h region rules index m) n
-    ≡ is_fixed_of (widening_of h region rules index (suc n)) n
+kept_after : TernaryFreeLaws → (h : ℕ) (region : WordValue) (rules : List Rule) (index n m : ℕ) → n < m
+    → is_word_bit_fixed (widening_of h region rules index m) n
+    ≡ is_word_bit_fixed (widening_of h region rules index (suc n)) n
 unfolding widening_of
 kept_after free h region rules index n zero below = absurd (omega arith)
 kept_after free h region rules index n (suc m) below = elim (cases_lt n m) [
@@ -86,24 +86,24 @@ kept_after free h region rules index n (suc m) below = elim (cases_lt n m) [
       other
       ∙ kept_after free h region rules index n m within
   | inr past ↦ let same : suc m ≡ suc n = omega arith in
-      ap (λ k. is_fixed_of (widening_of h region rules index k) n) same
+      ap (λ k. is_word_bit_fixed (widening_of h region rules index k) n) same
 ] where
   by_test : (b : Bool) → n ≢ m
-      → is_fixed_of (cond b (ternary_with_bit_freed (widening_of h region rules index m) m)
-      (widening_of h region rules index m)) n ≡ is_fixed_of (widening_of h region rules index m) n
+      → is_word_bit_fixed (cond b (ternary_with_bit_freed (widening_of h region rules index m) m)
+      (widening_of h region rules index m)) n ≡ is_word_bit_fixed (widening_of h region rules index m) n
   by_test true other = free.other_bit (widening_of h region rules index m) m n other
   by_test false other = refl
 
 -- a bit stays fixed where it can't be freed in its turn
-turn : ExactLaws → FreeLaws → (h : ℕ) (region : WordValue) (rules : List Rule) (index n m : ℕ)
-    → n < m → n < 104 → is_fixed_of (widening_of h region rules index m) n
+turn : TernaryExactLaws → TernaryFreeLaws → (h : ℕ) (region : WordValue) (rules : List Rule) (index n m : ℕ)
+    → n < m → n < 104 → is_word_bit_fixed (widening_of h region rules index m) n
     ≡ not (is_cache_word_independent region rules index (ternary_with_bit_freed (widening_of h region rules index n) n))
 unfolding widening_of
 turn exact free h region rules index n m before below =
     kept_after free h region rules index n m before
     ∙ by_test (is_cache_word_independent region rules index (ternary_with_bit_freed (widening_of h region rules index n) n))
   where
-    by_test : (b : Bool) → is_fixed_of (cond b (ternary_with_bit_freed (widening_of h region rules index n) n)
+    by_test : (b : Bool) → is_word_bit_fixed (cond b (ternary_with_bit_freed (widening_of h region rules index n) n)
         (widening_of h region rules index n)) n ≡ not b
     by_test true = free.same_bit (widening_of h region rules index n) n
     by_test false = still_fixed exact free h region rules index n n (omega arith) below
@@ -116,7 +116,7 @@ independent_at {h} {region} {rules} {index} given n = search (rules, widened_ind
 -- whether a bit is fixed at last
 at_last : {h : ℕ} {region : WordValue} {rules : List Rule} {index closed : ℕ}
     → IsGiven h region rules index closed → (n : ℕ) → n < 104
-    → is_fixed_of (widening_of h region rules index 104) n ≡ not (not (bit_at closed n == 1)
+    → is_word_bit_fixed (widening_of h region rules index 104) n ≡ not (not (bit_at closed n == 1)
     && is_cache_word_apart (ternary_with_bit_freed (widening_of h region rules index n) n) (take index rules))
 at_last {h} {region} {rules} {index} {closed} given n below =
     let word = widening_of h region rules index n in
@@ -130,10 +130,10 @@ at_last {h} {region} {rules} {index} {closed} given n below =
 -- it meets those that differ from the header in none of its fixed bits
 met_if : {h : ℕ} {region : WordValue} {rules : List Rule} {index closed : ℕ}
     → IsGiven h region rules index closed → (n : ℕ) (rule : WordValue)
-    → ((j : ℕ) → j ≢ n → IsTrue (is_fixed_of (widening_of h region rules index n) j)
+    → ((j : ℕ) → j ≢ n → IsTrue (is_word_bit_fixed (widening_of h region rules index n) j)
     → bit_at (cache_widening_difference h rule) j ≡ 0)
-    → IsTrue (meets (ternary_with_bit_freed (widening_of h region rules index n) n) rule)
-unfolding is_fixed_of words_agree_at
+    → IsTrue (word_meets (ternary_with_bit_freed (widening_of h region rules index n) n) rule)
+unfolding is_word_bit_fixed words_agree_at
 met_if {h} {region} {rules} {index} given n rule none = (given.free.meets_others word rule n).1 agrees
   where
     word : WordValue
@@ -142,7 +142,7 @@ met_if {h} {region} {rules} {index} given n rule none = (given.free.meets_others
     agrees : (j : ℕ) → j ≢ n → IsTrue (words_agree_at word rule j)
     agrees j other = elim (cases_Bool (words_agree_at word rule j)) [
       | inl agree ↦ agree
-      | inr apart_at ↦ elim (cases_Bool (is_fixed_of word j)) [
+      | inr apart_at ↦ elim (cases_Bool (is_word_bit_fixed word j)) [
         | inl fixed ↦ let one = differs_at word rule h j fixed
             (as_header given.covers given.free h region rules index n j fixed) apart_at in
             absurd (omega (arith, one, none j other fixed))
@@ -153,8 +153,8 @@ met_if {h} {region} {rules} {index} given n rule none = (given.free.meets_others
 
 met_only : {h : ℕ} {region : WordValue} {rules : List Rule} {index closed : ℕ}
     → IsGiven h region rules index closed → (n : ℕ) (rule : WordValue)
-    → IsTrue (meets (ternary_with_bit_freed (widening_of h region rules index n) n) rule)
-    → (j : ℕ) → j ≢ n → IsTrue (is_fixed_of (widening_of h region rules index n) j)
+    → IsTrue (word_meets (ternary_with_bit_freed (widening_of h region rules index n) n) rule)
+    → (j : ℕ) → j ≢ n → IsTrue (is_word_bit_fixed (widening_of h region rules index n) j)
     → bit_at (cache_widening_difference h rule) j ≡ 0
 met_only {h} {region} {rules} {index} given n rule met j other fixed =
     let word = widening_of h region rules index n in
@@ -171,8 +171,8 @@ AreSameBelow fixed word n = (j : ℕ) → j < n → bit_at fixed j ≡ bit_at wo
 in_turn : {h : ℕ} {region : WordValue} {rules : List Rule} {index closed : ℕ}
     → IsGiven h region rules index closed → (fixed n : ℕ) → n < 104
     → AreSameBelow fixed (widening_of h region rules index 104) n → (j : ℕ) → j < n
-    → is_fixed_of (widening_of h region rules index n) j ≡ (bit_at fixed j == 1)
-unfolding is_fixed_of
+    → is_word_bit_fixed (widening_of h region rules index n) j ≡ (bit_at fixed j == 1)
+unfolding is_word_bit_fixed
 in_turn {h} {region} {rules} {index} given fixed n below same j before =
     kept_after given.free h region rules index j n before
     ∙ sym (kept_after given.free h region rules index j 104 (omega arith))
@@ -189,8 +189,8 @@ unfolding is_cache_word_apart
 reason_meets {h} {region} {rules} {index} {closed} {fixed} {reasons} given are n below same one of =
     elim (cases_Bool (is_cache_word_apart freed (take index rules))) [
       | inr apart ↦ apart
-      | inl apart ↦ absurd (both_ways (meets freed rule.word) (sym (given.meet.some freed rule.word)
-          ∙ (not-true _ (AllPass-from_list_all (λ rule. is_none (meet_of freed rule.word))
+      | inl apart ↦ absurd (both_ways (word_meets freed rule.word) (sym (given.meet.some freed rule.word)
+          ∙ (not-true _ (AllPass-from_list_all (λ rule. is_none (word_meet_of freed rule.word))
           (take index rules) apart of.place of.d of.within))) met)
     ]
   where
@@ -200,7 +200,7 @@ reason_meets {h} {region} {rules} {index} {closed} {fixed} {reasons} given are n
     rule : Rule
     rule = get_or (take index rules) of.place of.d
 
-    met : IsTrue (meets freed rule.word)
+    met : IsTrue (word_meets freed rule.word)
     met = met_if given n rule.word (λ j other fixed_there. elim (cases_lt j n) [
       | inl before ↦
           let set = eqb-true _ _ (sym (in_turn given fixed n below same j before) ∙ fixed_there) in
@@ -218,7 +218,7 @@ unfixed_apart : {h : ℕ} {region : WordValue} {rules : List Rule} {index closed
     → IsTrue (is_cache_word_apart (ternary_with_bit_freed (widening_of h region rules index n) n) (take index rules))
 unfolding is_cache_word_apart
 unfixed_apart {h} {region} {rules} {index} {closed} given fixed n below told same unset =
-    list_all-from_AllPass (λ rule. is_none (meet_of freed rule.word)) (take index rules)
+    list_all-from_AllPass (λ rule. is_none (word_meet_of freed rule.word)) (take index rules)
     (λ k d within. true_not _ (given.meet.some freed (get_or (take index rules) k d).word
     ∙ apart (get_or (take index rules) k d) (words k d within) (told k d within)))
   where
@@ -229,21 +229,21 @@ unfixed_apart {h} {region} {rules} {index} {closed} given fixed n below told sam
     words = All-take (λ (rule : Rule). IsWord rule.word) index rules given.words
 
     apart : (rule : Rule) → IsWord rule.word → IsFalse (rule_meets_widened_word h fixed rule)
-        → meets freed rule.word ≡ false
-    apart rule is_word unmet = elim (cases_Bool (meets freed rule.word)) [
+        → word_meets freed rule.word ≡ false
+    apart rule is_word unmet = elim (cases_Bool (word_meets freed rule.word)) [
       | inr gone ↦ gone
       | inl met ↦ absurd (both_ways (rule_meets_widened_word h fixed rule) unmet
           (eq-eqb _ _ (same_from_bits _ 0 (λ j. bit_at_and (cache_widening_difference h rule.word) fixed j
           ∙ none met j ∙ sym (bit_at-zero j)))))
     ] where
-      none : IsTrue (meets freed rule.word) → (j : ℕ)
+      none : IsTrue (word_meets freed rule.word) → (j : ℕ)
           → min (bit_at (cache_widening_difference h rule.word) j) (bit_at fixed j) ≡ 0
       none met j = elim (cases_eq (bit_at fixed j) 1) [
         | inr other ↦ omega (arith, zero_of _ (bit_at-lt fixed j) other)
         | inl set ↦ let other : j ≢ n = λ here. unset (ap (λ k. bit_at fixed k) (sym here) ∙ set) in
             omega (arith, differs_not met j other set)
       ] where
-        differs_not : IsTrue (meets freed rule.word) → (j : ℕ) → j ≢ n → bit_at fixed j ≡ 1
+        differs_not : IsTrue (word_meets freed rule.word) → (j : ℕ) → j ≢ n → bit_at fixed j ≡ 1
             → bit_at (cache_widening_difference h rule.word) j ≡ 0
         differs_not met j other set = elim (cases_lt j n) [
           | inl before ↦ met_only given n rule.word met j other
@@ -261,7 +261,7 @@ same_bit : {h : ℕ} {region : WordValue} {rules : List Rule} {index closed fixe
     → All (λ rule. IsFalse (rule_meets_widened_word h fixed rule)) (take index rules) → (n : ℕ) → n < 104
     → AreSameBelow fixed (widening_of h region rules index 104) n
     → bit_at fixed n ≡ bit_at (widening_of h region rules index 104).mask n
-unfolding is_fixed_of
+unfolding is_word_bit_fixed
 same_bit {h} {region} {rules} {index} {closed} {fixed} {reasons} given are told n below same =
     digit_same _ _ (bit_at-lt fixed n) (bit_at-lt (widening_of h region rules index 104).mask n)
     (elim (cases_eq (bit_at fixed n) 1) [
@@ -305,7 +305,7 @@ pub word_at_last : {h : ℕ} {region : WordValue} {rules : List Rule} {index clo
     → All (λ rule. IsFalse (rule_meets_widened_word h fixed rule)) (take index rules)
     → let word : WordValue = record { value = bit_and h fixed; mask = fixed } in
     word ≡ widening_of h region rules index 104
-unfolding is_fixed_of
+unfolding is_word_bit_fixed
 word_at_last {h} {region} {rules} {index} {closed} {fixed} given are told =
     ap (λ (m : ℕ). let w : WordValue = record { value = bit_and h m; mask = m } in w) masks
     ∙ ap (λ (v : ℕ). let w : WordValue = record { value = v; mask = word.mask } in w) values
@@ -381,7 +381,7 @@ none_of_both a b j none set = let small = bit_at-lt b j in
     omega (arith, sym (bit_at_and a b j) ∙ ap (λ x. bit_at x j) none ∙ bit_at-zero j, set, small)
 
 -- a bit of the new ones
-new_is : (fixed : ℕ) (reasons : List ℕ) (b stays : ℕ) → AreWidenedBitsWithoutReason fixed reasons b stays → (n : ℕ)
+new_is : (fixed : ℕ) (reasons : List ℕ) (b stays : ℕ) → AreFixedBitsWithoutReason fixed reasons b stays → (n : ℕ)
     → bit_at (bit_or stays (2 ^ b)) n ≡ 1
     → (n ≡ b) ⊎ ((n ≢ b) × (bit_at fixed n ≡ 1) × (bit_at (get_or reasons n 0) b ≡ 0))
 new_is fixed reasons b stays without n set = elim (cases_eq n b) [
@@ -394,8 +394,8 @@ new_is fixed reasons b stays without n set = elim (cases_eq n b) [
 -- the closed bits have no reasons, so they stay with those that stay of the others
 pub without_open : {h closed fixed : ℕ} {earlier : List Rule} {reasons : List ℕ} {b kept : ℕ}
     → AreFixed h closed earlier fixed reasons → closed < 2 ^ 104
-    → AreWidenedBitsWithoutReason (bit_xor fixed closed) reasons b kept
-    → AreWidenedBitsWithoutReason fixed reasons b (bit_or closed kept)
+    → AreFixedBitsWithoutReason (bit_xor fixed closed) reasons b kept
+    → AreFixedBitsWithoutReason fixed reasons b (bit_or closed kept)
 without_open {h} {closed} {fixed} {earlier} {reasons} {b} {kept} are bound without = record {
   small = or_lt 104 closed kept bound without.small;
   gone = λ n one. elim (cases_eq (bit_at closed n) 1) [
@@ -418,7 +418,7 @@ without_open {h} {closed} {fixed} {earlier} {reasons} {b} {kept} are bound witho
 
 pub fixed_next : (h closed fixed : ℕ) (earlier : List Rule) (reasons : List ℕ)
     (reason b stays : ℕ) → AreFixed h closed earlier fixed reasons
-    → IsNewReason h fixed earlier reason b → AreWidenedBitsWithoutReason fixed reasons b stays
+    → IsNewReason h fixed earlier reason b → AreFixedBitsWithoutReason fixed reasons b stays
     → AreFixed h closed earlier (bit_or stays (2 ^ b)) (set reasons b reason)
 fixed_next h closed fixed earlier reasons reason b stays are new without = record {
   sized = length-set reasons b reason ∙ are.sized;
@@ -510,7 +510,7 @@ left_over fixed = 2 ^ 104 - rank fixed 104
 
 pub left_less : (h closed fixed : ℕ) (earlier : List Rule) (reasons : List ℕ) (reason b stays : ℕ)
     → AreFixed h closed earlier fixed reasons → IsNewReason h fixed earlier reason b
-    → AreWidenedBitsWithoutReason fixed reasons b stays → left_over (bit_or stays (2 ^ b)) < left_over fixed
+    → AreFixedBitsWithoutReason fixed reasons b stays → left_over (bit_or stays (2 ^ b)) < left_over fixed
 unfolding left_over
 left_less h closed fixed earlier reasons reason b stays are new without =
     let more = rank_more fixed (bit_or stays (2 ^ b)) b 104 new.within same
@@ -570,7 +570,7 @@ pub part_at_first : (fixed : ℕ) (reasons : List ℕ) (b : ℕ) → fixed < 2 ^
 part_at_first fixed reasons b small = search rules
 
 pub part_at_last : {fixed : ℕ} {reasons : List ℕ} {b stays : ℕ}
-    → IsPartWithout fixed reasons b stays 0 → AreWidenedBitsWithoutReason fixed reasons b stays
+    → IsPartWithout fixed reasons b stays 0 → AreFixedBitsWithoutReason fixed reasons b stays
 part_at_last part = search (rules, bit_at-zero)
 
 -- the bit n stays, since its reason doesn't have b
@@ -622,7 +622,7 @@ pub differs_somewhere : {h : ℕ} {region : WordValue} {rules : List Rule} {inde
     → cache_widening_difference h (get_or (take index rules) place d).word ≢ 0
 unfolding widening_of
 differs_somewhere {h} {region} {rules} {index} given place d within none =
-    both_ways (meets (exact_word h) rule.word)
+    both_ways (word_meets (exact_word h) rule.word)
     (sym (given.meet.some (exact_word h) rule.word) ∙ given.start.earlier place d within)
     (given.free.meets_bit (exact_word h) rule.word 0
     ∙ ap (λ b. b && words_agree_at (exact_word h) rule.word 0)

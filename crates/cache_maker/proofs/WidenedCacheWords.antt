@@ -2,13 +2,13 @@
 use Rattle.std.proofs.Common.{◌<◌, ◌^◌, ◌≡◌, ◌≤◌, Bool, IsTrue, List, arith, cond, eq-eqb, eqb-true, false, inl, inr, refl, subst, suc, sym, true, zero, ℕ, rules}
 use Rattle.std.specs.Int.{bit_at}
 use Rattle.std.proofs.lemmas.Bool.{cases_lt}
-use Rattle.ternary.specs.Exports.{WordCoversLaws, ExactLaws, FreeLaws, IsWord, MeetLaws, WordValue, word_covers_of, exact_word, ternary_with_bit_freed, holds, is_fixed_of}
+use Rattle.ternary.specs.Exports.{WordCoversLaws, TernaryExactLaws, TernaryFreeLaws, IsWord, TernaryMeetLaws, WordValue, word_covers_of, exact_word, ternary_with_bit_freed, holds, is_word_bit_fixed}
 use Rattle.policy_rules.specs.declared.rules.Rule.{Rule}
 use Rattle.cache_maker.specs.Independent.{IsIndependentCacheWord, is_cache_word_independent, with_cache_bit_freed, widening_of}
 use Rattle.cache_maker.proofs.IndependentCacheWords.{test_true, test_of, smaller}
 
 -- a step widens
-freed_wider : WordCoversLaws → FreeLaws → (region : WordValue) (rules : List Rule) (index bit : ℕ)
+freed_wider : WordCoversLaws → TernaryFreeLaws → (region : WordValue) (rules : List Rule) (index bit : ℕ)
     (word : WordValue) → IsTrue (word_covers_of (with_cache_bit_freed region rules index bit word) word)
 freed_wider covers free region rules index bit word =
     by_test (is_cache_word_independent region rules index (ternary_with_bit_freed word bit))
@@ -18,7 +18,7 @@ freed_wider covers free region rules index bit word =
     by_test false = covers.reflexive word
 
 -- later words are wider
-pub widened_wider : WordCoversLaws → FreeLaws → (h : ℕ) (region : WordValue) (rules : List Rule)
+pub widened_wider : WordCoversLaws → TernaryFreeLaws → (h : ℕ) (region : WordValue) (rules : List Rule)
     (index n m : ℕ) → n ≤ m → IsTrue
     (word_covers_of (widening_of h region rules index m) (widening_of h region rules index n))
 unfolding widening_of
@@ -36,10 +36,10 @@ widened_wider covers free h region rules index n (suc m) upto = elim (cases_lt m
 ]
 
 -- a bit that is fixed at last could not be freed in its turn
-unfreed : WordCoversLaws → FreeLaws → (h : ℕ) (region : WordValue) (rules : List Rule) (index bit m : ℕ)
-    → bit < m → IsTrue (is_fixed_of (widening_of h region rules index m) bit)
+unfreed : WordCoversLaws → TernaryFreeLaws → (h : ℕ) (region : WordValue) (rules : List Rule) (index bit m : ℕ)
+    → bit < m → IsTrue (is_word_bit_fixed (widening_of h region rules index m) bit)
     → is_cache_word_independent region rules index (ternary_with_bit_freed (widening_of h region rules index bit) bit) ≡ false
-unfolding widening_of is_fixed_of
+unfolding widening_of is_word_bit_fixed
 unfreed covers free h region rules index bit m within fixed =
     let wider = widened_wider covers free h region rules index (suc bit) m (omega arith) in
     let still = ((covers.bitwise _ _).0 wider bit (eqb-true _ _ fixed)).0 in
@@ -55,8 +55,8 @@ unfreed covers free h region rules index bit m within fixed =
     by_test false is one = refl
 
 -- and can't be freed at last
-pub widest : WordCoversLaws → MeetLaws → FreeLaws → (h : ℕ) (region : WordValue) (rules : List Rule)
-    (index bit : ℕ) → bit < 104 → IsTrue (is_fixed_of (widening_of h region rules index 104) bit)
+pub widest : WordCoversLaws → TernaryMeetLaws → TernaryFreeLaws → (h : ℕ) (region : WordValue) (rules : List Rule)
+    (index bit : ℕ) → bit < 104 → IsTrue (is_word_bit_fixed (widening_of h region rules index 104) bit)
     → IsIndependentCacheWord region rules index (ternary_with_bit_freed (widening_of h region rules index 104) bit) → ⊥
 widest covers meet free h region rules index bit within fixed is =
     let wider = free.monotone _ _ bit
@@ -65,7 +65,7 @@ widest covers meet free h region rules index bit within fixed is =
     let not_then = unfreed covers free h region rules index bit 104 within fixed in cc
 
 -- the header is held all along
-pub widened_holds : WordCoversLaws → ExactLaws → FreeLaws
+pub widened_holds : WordCoversLaws → TernaryExactLaws → TernaryFreeLaws
     → (h : ℕ) (region : WordValue) (rules : List Rule) (index n : ℕ) → h < 2 ^ 104
     → IsTrue (holds (widening_of h region rules index n) h)
 unfolding widening_of
@@ -83,7 +83,7 @@ turn_independent region rules index bit true word after is tested made = rw made
     (test_true region rules index (ternary_with_bit_freed word bit) (sym tested))
 turn_independent region rules index bit false word after is tested made = rw made is
 
-pub turn_word : FreeLaws → (bit : ℕ) (test : Bool) (word after : WordValue) → IsWord word
+pub turn_word : TernaryFreeLaws → (bit : ℕ) (test : Bool) (word after : WordValue) → IsWord word
     → after ≡ cond test (ternary_with_bit_freed word bit) word → IsWord after
 turn_word free bit test word after is made = search rules
 
@@ -99,7 +99,7 @@ widened_independent h region rules index (suc n) start = turn_independent region
     (widening_of h region rules index n) (widening_of h region rules index (suc n))
     (widened_independent h region rules index n start) refl refl
 
-pub widened_word : FreeLaws → (h : ℕ) (region : WordValue) (rules : List Rule) (index n : ℕ)
+pub widened_word : TernaryFreeLaws → (h : ℕ) (region : WordValue) (rules : List Rule) (index n : ℕ)
     → IsWord (exact_word h) → IsWord (widening_of h region rules index n)
 unfolding widening_of
 widened_word free h region rules index zero start = start

@@ -16,7 +16,7 @@ abbrev pub rule_meets_widened_word : ℕ → ℕ → Rule → Bool
 rule_meets_widened_word h fixed rule = meets_widened_word h fixed rule.word
 
 -- of the fixed bits, those whose reasons don't have the bit b
-pub record AreWidenedBitsWithoutReason (fixed : ℕ) (reasons : List ℕ) (b stays : ℕ) : Type 0 where
+pub record AreFixedBitsWithoutReason (fixed : ℕ) (reasons : List ℕ) (b stays : ℕ) : Type 0 where
   pub small : stays < 2 ^ 104
   pub gone : (n : ℕ) → bit_at stays n ≡ 1
       → (bit_at fixed n ≡ 1) × (bit_at (get_or reasons n 0) b ≡ 0)

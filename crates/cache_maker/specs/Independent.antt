@@ -4,7 +4,7 @@
 use Rattle.std.specs.Prelude.{if◌then◌else◌, ◌&&◌, All, Bool, IsNone, IsSomeAnd, IsTrue, List, false, is_none, slice_get, suc, take, zero, ℕ}
 use Rattle.std.specs.List.{list_all}
 use Rattle.std.specs.Option.{option_map_or}
-use Rattle.ternary.specs.Exports.{WordValue, word_covers_of, exact_word, ternary_with_bit_freed, meet_of}
+use Rattle.ternary.specs.Exports.{WordValue, word_covers_of, exact_word, ternary_with_bit_freed, word_meet_of}
 use Rattle.policy_rules.specs.declared.rules.Rule.{Rule}
 
 -- the region and the rule at this place cover the word, and it meets no word of an earlier rule
@@ -12,11 +12,11 @@ pub record IsIndependentCacheWord (region : WordValue) (rules : List Rule) (inde
     (word : WordValue) : Type 0 where
   pub in_region : IsTrue (word_covers_of region word)
   pub in_rule : IsSomeAnd (slice_get rules index) (λ rule. IsTrue (word_covers_of rule.word word))
-  pub earlier : All (λ rule. IsNone (meet_of word rule.word)) (take index rules)
+  pub earlier : All (λ rule. IsNone (word_meet_of word rule.word)) (take index rules)
 
 -- the test that a word meets no word of these rules
 unfoldable pub is_cache_word_apart : WordValue → List Rule → Bool
-is_cache_word_apart word rules = list_all (λ rule. is_none (meet_of word rule.word)) rules
+is_cache_word_apart word rules = list_all (λ rule. is_none (word_meet_of word rule.word)) rules
 
 -- the test that a word is independent
 unfoldable pub is_cache_word_independent : WordValue → List Rule → ℕ → WordValue → Bool

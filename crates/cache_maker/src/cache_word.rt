@@ -1,12 +1,12 @@
 ghost use Rattle.std.specs.Prelude.{ℕ, ◌≡◌, ◌^◌, ◌/◌, ◌%◌, ◌<◌, ◌≤◌, ◌==◌, bit_and, bit_xor, length, slice_get, Some, All, IfSome, IsFalse, IsNone, IsSomeAnd, IsTrue, position, replicate};
-ghost use Rattle.five_tuple.specs.Header.{number_of};
+ghost use Rattle.five_tuple.specs.Header.{header_number_of};
 ghost use Rattle.ternary.specs.Word.{holds};
 ghost use Rattle.ternary.specs.WordBits.{IsWord};
-ghost use Rattle.ternary.specs.Meets.{is_fixed_of, ternary_with_bit_freed};
-ghost use Rattle.policy_rules.specs.Rules.{is_held};
+ghost use Rattle.ternary.specs.Meets.{is_word_bit_fixed, ternary_with_bit_freed};
+ghost use Rattle.policy_rules.specs.Rules.{is_held_by_policy_rule};
 ghost use Rattle.policy_rules.specs.declared.rules.Rule.{Rule};
 ghost use Rattle.cache_maker.specs.Independent.{IsIndependentCacheWord, widen};
-ghost use Rattle.cache_maker.specs.Differing.{AreWidenedBitsWithoutReason, cache_widening_difference, meets_widened_word, rule_meets_widened_word};
+ghost use Rattle.cache_maker.specs.Differing.{AreFixedBitsWithoutReason, cache_widening_difference, meets_widened_word, rule_meets_widened_word};
 
 use five_tuple::Header;
 use policy_rules::Rule;
@@ -29,12 +29,12 @@ const HALF: u128 = 1 << 64;
 /// in which that rule differs, and frees the bits whose reasons have that bit. Each time the fixed
 /// bits come later in an order in which the lowest bit counts most, so the loop ends.
 pub fn widen(h: &Header, region: &Word, rules: &[Rule], index: u32) -> Word
-    requires region { IsTrue (holds region.now (number_of h.now)) }
-    requires first_hit { position (is_held (number_of h.now)) rules.now ≡ Some index }
-    ensures widened { result ≡ widen (number_of h.now) region.now rules.now index }
-    ensures header { IsTrue (holds result (number_of h.now)) }
+    requires region { IsTrue (holds region.now (header_number_of h.now)) }
+    requires first_hit { position (is_held_by_policy_rule (header_number_of h.now)) rules.now ≡ Some index }
+    ensures widened { result ≡ widen (header_number_of h.now) region.now rules.now index }
+    ensures header { IsTrue (holds result (header_number_of h.now)) }
     ensures independent { IsIndependentCacheWord region.now rules.now index result }
-    ensures widest { (bit : ℕ) → bit < 104 → IsTrue (is_fixed_of result bit)
+    ensures widest { (bit : ℕ) → bit < 104 → IsTrue (is_word_bit_fixed result bit)
         → ¬ IsIndependentCacheWord region.now rules.now index (ternary_with_bit_freed result bit) }
     ensures word { IsWord result }
 {
@@ -136,7 +136,7 @@ fn differing(h: u128, word: &Word) -> u128
 fn without(fixed: u128, reasons: &[u128; 104], bit: u32) -> u128
     requires fixed { fixed < 2 ^ 104 }
     requires bit { bit < 104 }
-    ensures { AreWidenedBitsWithoutReason fixed reasons.now bit result }
+    ensures { AreFixedBitsWithoutReason fixed reasons.now bit result }
 {
     let mut stays = fixed;
     let mut left = fixed;

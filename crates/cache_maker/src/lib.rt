@@ -1,5 +1,5 @@
-//! The word of the cache rule that a decision brings: as wide as can be, with every header that it
-//! holds decided as before.
+//! The word of the cache rule that an authority switch sends after a decision: as wide as can be,
+//! with every header that it holds decided as before.
 //!
 //! An authority switch that decided a header sends the ingress a rule for all headers of a word.
 //! The same rule of the partition is the first hit of each of them, so the word overlaps no earlier

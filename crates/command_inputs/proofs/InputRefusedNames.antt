@@ -1,11 +1,11 @@
 -- Which names a refusal names.
 use Rattle.std.proofs.Common.{[], ◌++◌, ◌<◌, ◌∷◌, ◌≡◌, Err, IfErr, List, Ok, Result, arith, get_or, inl, inr, length, refl, subst, suc, unwrap_or, zero, ℕ}
 use Rattle.update_machine.specs.Exports.{Net, PolicyFile, Row, machine_plan_code}
-use Rattle.partition.specs.Plan.{Hosted, partition_plan_of}
+use Rattle.partition.specs.Plan.{HostedPolicyPartition, partition_plan_of}
 use Rattle.policy_rules.specs.Hosted as no_plan
 use Rattle.policy_rules.specs.Exports.{NoPolicyPlan}
-use Rattle.world.specs.Exports.{first_policy}
-use Rattle.command_inputs.specs.Exports.{IsOneOfCommandInputNames, CommandStatusNamesOneOf, CommandInputStopNamesOneOf, CommandInputStopsCheck, first_plan, input_plan_from, input_plan_on, input_file_refused_whole, command_status_of}
+use Rattle.world.specs.Exports.{world_first_file_policy}
+use Rattle.command_inputs.specs.Exports.{IsOneOfCommandInputNames, CommandStatusNamesOneOf, CommandInputStopNamesOneOf, CommandInputStopsCheck, input_first_plan, input_plan_from, input_plan_on, input_file_refused_whole, command_status_of}
 use Rattle.command_inputs.specs.declared.status.Refusal.{Refusal}
 use Rattle.command_inputs.specs.declared.status.Status.{Status}
 use Rattle.command_inputs.specs.declared.status.Status.TheVariants as status
@@ -25,7 +25,7 @@ own_refusal name given own = λ refusal is. let same : given ≡ refusal = cc is
 
 own_plan : (name : List ℕ) (net : Net) (rows : List Row) → IsOwn name (input_plan_on name net rows)
 own_plan name net rows = by (partition_plan_of rows net) where
-  by : (planned : Result (List Hosted) NoPolicyPlan) → IsOwn name (input_plan_from name planned)
+  by : (planned : Result (List HostedPolicyPartition) NoPolicyPlan) → IsOwn name (input_plan_from name planned)
   by (Ok hosted) = λ refusal is. absurd (cc is)
   by (Err (no_plan.NoRoom partition)) = own_refusal name
       (record { file = name; code = machine_plan_code (no_plan.NoRoom partition); row = partition }) refl
@@ -97,8 +97,8 @@ among few all _ wider is = tt
 
 -- the plan of the first of these
 pub first_check : (names : List (List ℕ)) (net : Net) (files : List PolicyFile) (why : Stop)
-    → 0 < length names → CommandInputStopsCheck (first_plan names net files) why
+    → 0 < length names → CommandInputStopsCheck (input_first_plan names net files) why
     → CommandStatusNamesOneOf names (command_status_of why)
 first_check names net files why some is = let name = get_or names 0 [] in
     among (name ∷ []) names (command_status_of why) (among_there names 0 [] some)
-    (plan_check name net (unwrap_or (first_policy files) []) why is)
+    (plan_check name net (unwrap_or (world_first_file_policy files) []) why is)

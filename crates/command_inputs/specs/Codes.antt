@@ -15,8 +15,8 @@ abbrev pub command_input_missing_file_code : ℕ
 command_input_missing_file_code = 0
 
 -- the file has more bytes than it may have
-abbrev pub too_long : ℕ
-too_long = 20
+abbrev pub command_input_too_long_code : ℕ
+command_input_too_long_code = 20
 
 -- a row names a port that the network doesn't have
 abbrev pub command_input_no_port_code : ℕ

@@ -5,7 +5,7 @@ use Rattle.steps.specs.Exports.{max_events}
 use Rattle.world.specs.Exports.{IsWorldBegun, world_setting_at}
 use Rattle.command_inputs.specs.Asked.{AreCommandPlayInputs, MayPlayCommandInputs}
 use Rattle.command_inputs.specs.PrintsAndAudits.{IsAuditInputOf, IsPrintInputOf}
-use Rattle.command_inputs.specs.Tasks.{CommandAuditInputs, Inputs, Printing, Task, Audit, Play, Print}
+use Rattle.command_inputs.specs.Tasks.{CommandAuditInputs, Inputs, CommandPrintInputs, CommandInputTask, Audit, Play, Print}
 use Rattle.command_line.specs.Commands as grammar
 use Rattle.command_inputs.specs.declared.auditing.AuditInputs.{AuditInputs}
 use Rattle.command_inputs.specs.declared.inputs.PlayInputs.{PlayInputs}
@@ -21,7 +21,7 @@ task_inputs_stated inputs = record {
   report = inputs.report;
 }
 
-abbrev pub print_inputs_stated : PrintInputs → Printing
+abbrev pub print_inputs_stated : PrintInputs → CommandPrintInputs
 print_inputs_stated inputs = record {
   policy = inputs.plan.policy;
   net = inputs.net;
@@ -32,7 +32,7 @@ print_inputs_stated inputs = record {
 abbrev pub command_input_audit_stated : AuditInputs → CommandAuditInputs
 command_input_audit_stated inputs = record { trace = inputs.trace.items; files = inputs.files.items }
 
-abbrev pub command_input_task_stated : declared_task.Task → Task
+abbrev pub command_input_task_stated : declared_task.Task → CommandInputTask
 command_input_task_stated (asked.Play inputs) = Play (task_inputs_stated inputs)
 command_input_task_stated (asked.Print inputs) = Print (print_inputs_stated inputs)
 command_input_task_stated (asked.Audit inputs) = Audit (command_input_audit_stated inputs)
@@ -52,7 +52,7 @@ IsTaskInputReady (asked.Print inputs) = IsNet inputs.net
 IsTaskInputReady (asked.Audit inputs) = ⊤
 
 -- the task is of the command's kind, and is as the command names it
-abbrev pub IsCommandInputTask : grammar.Command → Task → Type 0
+abbrev pub IsCommandInputTask : grammar.Command → CommandInputTask → Type 0
 IsCommandInputTask command (Play inputs) = AreCommandPlayInputs command inputs
 IsCommandInputTask (grammar.Print args) (Print printing) = IsPrintInputOf args printing
 IsCommandInputTask (grammar.Audit args) (Audit auditing) = IsAuditInputOf args auditing

@@ -3,12 +3,12 @@ use Rattle.std.specs.Prelude.{[], ◌++◌, ◌∷◌, ◌≡◌, ◌⊎◌, Err
 use Rattle.base.specs.Exports.{ForSome}
 use Rattle.update_machine.specs.Exports.{Failure, InRow}
 use Rattle.base.specs.declared.error.Failure.TheVariants as failure
-use Rattle.shelf.specs.Exports.{Files, IsShelfAfterReads, FaultsRose, ShelfState}
+use Rattle.shelf.specs.Exports.{ShelfFiles, IsShelfAfterReads, SinkFaultsRose, ShelfState}
 use Rattle.shelf.specs.declared.output.SinkError.{SinkError}
 use Rattle.command_line.specs.Exports.{Command}
 use Rattle.command_line.specs.Commands as asked
-use Rattle.command_inputs.specs.Codes.{command_input_missing_file_code, too_long}
-use Rattle.command_inputs.specs.Inputs.{command_load_input_name, command_most_reads}
+use Rattle.command_inputs.specs.Codes.{command_input_missing_file_code, command_input_too_long_code}
+use Rattle.command_inputs.specs.Inputs.{command_load_input_name, command_input_most_reads}
 use Rattle.command_inputs.specs.declared.status.Refusal.{Refusal}
 use Rattle.command_inputs.specs.declared.status.Status.{Status}
 use Rattle.command_inputs.specs.declared.status.Stop.{Stop}
@@ -38,28 +38,28 @@ abbrev pub command_status_after : Result (⊤) SinkError → Option ℕ → Stat
 command_status_after (Ok done) full = command_written_status full
 command_status_after (Err error) full = command_unwritten_status error
 
-abbrev pub status_number : Status → ℕ
-status_number status.Ok = 0
-status_number (status.No line) = 1
-status_number status.Words = 2
-status_number (status.Input file code row) = 3
-status_number status.ReadFault = 4
-status_number status.WriteFault = 5
-status_number (status.Full row) = 6
-status_number status.NoMemory = 7
+abbrev pub command_status_number : Status → ℕ
+command_status_number status.Ok = 0
+command_status_number (status.No line) = 1
+command_status_number status.Words = 2
+command_status_number (status.Input file code row) = 3
+command_status_number status.ReadFault = 4
+command_status_number status.WriteFault = 5
+command_status_number (status.Full row) = 6
+command_status_number status.NoMemory = 7
 
 -- a status that only a fault of the shelf causes: a read fault; and if the files are not known, an
 -- absent file or one too long
-abbrev pub NeedsReadFault : Option Files → Status → Type 0
-NeedsReadFault files status.ReadFault = ⊤
-NeedsReadFault None (status.Input file code row) = (code ≡ command_input_missing_file_code) ⊎ (code ≡ too_long)
-NeedsReadFault _ _ = ⊥
+abbrev pub CommandNeedsReadFault : Option ShelfFiles → Status → Type 0
+CommandNeedsReadFault files status.ReadFault = ⊤
+CommandNeedsReadFault None (status.Input file code row) = (code ≡ command_input_missing_file_code) ⊎ (code ≡ command_input_too_long_code)
+CommandNeedsReadFault _ _ = ⊥
 
 -- a status with which the shelf may have counted a fault: one that only a fault causes; and if the
 -- files are not known, out of memory, which may occur while an absent file is reported
-abbrev pub CommandMayFollowFault : Option Files → Status → Type 0
+abbrev pub CommandMayFollowFault : Option ShelfFiles → Status → Type 0
 CommandMayFollowFault files status.ReadFault = ⊤
-CommandMayFollowFault None (status.Input file code row) = (code ≡ command_input_missing_file_code) ⊎ (code ≡ too_long)
+CommandMayFollowFault None (status.Input file code row) = (code ≡ command_input_missing_file_code) ⊎ (code ≡ command_input_too_long_code)
 CommandMayFollowFault None status.NoMemory = ⊤
 CommandMayFollowFault _ _ = ⊥
 
@@ -82,7 +82,7 @@ abbrev pub CommandInputReadEnds : {K X V : Type 0} → (known : Option K) → (r
 CommandInputReadEnds known read seen old new (Ok value) = ForSome known (λ given. read given ≡ Ok (seen value))
 CommandInputReadEnds known read seen old new (Err stop) =
     ForSome known (λ given. CommandStatusAccounts (read given) (command_status_of stop))
-    × (NeedsReadFault old.files (command_status_of stop) → FaultsRose old.faults new.faults)
+    × (CommandNeedsReadFault old.files (command_status_of stop) → SinkFaultsRose old.faults new.faults)
 
 -- a reading counts no fault, unless it stops as one that met a fault may
 abbrev pub IsCalmCommandInputRead : {V : Type 0} → (old new : ShelfState) → Result V Stop → Type 0
@@ -94,13 +94,13 @@ IsCalmCommandInputRead old new (Err stop) =
 
 -- the names that the arguments have: of the network, of files, and of the switch; a load case has
 -- its own name
-abbrev pub names_in : Option Command → List (List ℕ)
-names_in None = []
-names_in (Some (asked.Replay args)) = option_to_list args.net ++ args.schedule ∷ args.policies
-names_in (Some (asked.Print args)) =
+abbrev pub command_input_names : Option Command → List (List ℕ)
+command_input_names None = []
+command_input_names (Some (asked.Replay args)) = option_to_list args.net ++ args.schedule ∷ args.policies
+command_input_names (Some (asked.Print args)) =
     option_to_list args.net ++ args.policy ∷ option_to_list args.switch
-names_in (Some (asked.Load n)) = command_load_input_name ∷ []
-names_in (Some (asked.Audit args)) = args.trace ∷ args.policies
+command_input_names (Some (asked.Load n)) = command_load_input_name ∷ []
+command_input_names (Some (asked.Audit args)) = args.trace ∷ args.policies
 
 abbrev pub IsOneOfCommandInputNames : List (List ℕ) → List ℕ → Type 0
 IsOneOfCommandInputNames [] file = ⊥
@@ -109,7 +109,7 @@ IsOneOfCommandInputNames (name ∷ names) file = (file ≡ name) ⊎ IsOneOfComm
 -- a refusal names one of these; and that of a file that is absent, or too long, names row 0
 abbrev pub CommandStatusNamesOneOf : List (List ℕ) → Status → Type 0
 CommandStatusNamesOneOf names (status.Input file code row) = IsOneOfCommandInputNames names file
-    × ((code ≡ command_input_missing_file_code) ⊎ (code ≡ too_long) → row ≡ 0)
+    × ((code ≡ command_input_missing_file_code) ⊎ (code ≡ command_input_too_long_code) → row ≡ 0)
 CommandStatusNamesOneOf names _ = ⊤
 
 -- the same for a reading that stops
@@ -126,15 +126,15 @@ pub record ReadsFiles {V : Type 0} (names : List (List ℕ)) (most : ℕ) (old n
   pub stops : CommandInputStopNamesOneOf names result
 
 -- the same for what a command names
-abbrev pub CommandReadsFor : {V : Type 0} → Command → (old new : ShelfState) → Result V Stop → Type 0
-CommandReadsFor command old new result =
-    ReadsFiles (names_in (Some command)) (command_most_reads old.files (Some command)) old new result
+abbrev pub CommandInputReadsFor : {V : Type 0} → Command → (old new : ShelfState) → Result V Stop → Type 0
+CommandInputReadsFor command old new result =
+    ReadsFiles (command_input_names (Some command)) (command_input_most_reads old.files (Some command)) old new result
 
 -- no file is read: a load case has none, and arguments that the grammar refuses name none to read
-abbrev pub CommandReadsNothing : Option Command → Type 0
-CommandReadsNothing None = ⊤
-CommandReadsNothing (Some (asked.Load n)) = ⊤
-CommandReadsNothing _ = ⊥
+abbrev pub CommandInputReadsNothing : Option Command → Type 0
+CommandInputReadsNothing None = ⊤
+CommandInputReadsNothing (Some (asked.Load n)) = ⊤
+CommandInputReadsNothing _ = ⊥
 
 -- ---- checks of what was read
 
@@ -146,7 +146,7 @@ RefusesInput given stop.ReadFault = ⊥
 
 -- a stop at a check of what was read: this accounts for it, and no fault causes it
 abbrev pub CommandInputStopsCheck : {X : Type 0} → Result X Refusal → Stop → Type 0
-CommandInputStopsCheck read stop = CommandStatusAccounts read (command_status_of stop) × (NeedsReadFault None (command_status_of stop) → ⊥)
+CommandInputStopsCheck read stop = CommandStatusAccounts read (command_status_of stop) × (CommandNeedsReadFault None (command_status_of stop) → ⊥)
 
 -- a stop at a text that is refused in a row by a refusal of this code, or for which memory ran out
 abbrev pub CommandInputStopsText : {R : Type 0} → (R → ℕ) → List ℕ → Failure (InRow R) → Stop → Type 0

@@ -1,13 +1,13 @@
 -- The tasks of commands that play nothing.
 use Rattle.std.specs.Prelude.{List, Option, ℕ}
 use Rattle.update_machine.specs.Exports.{Net, PolicyFile, Row}
-use Rattle.partition.specs.Plan.{Hosted}
+use Rattle.partition.specs.Plan.{HostedPolicyPartition}
 
 -- a policy with its plan on a network, and the switch whose tables are printed; without it the plan
-pub record Printing : Type 0 where
+pub record CommandPrintInputs : Type 0 where
   pub policy : List Row
   pub net : Net
-  pub hosted : List Hosted
+  pub hosted : List HostedPolicyPartition
   pub switch : Option ℕ
 
 -- a trace, and the files of the policies and changes of its versions

@@ -1,7 +1,7 @@
 -- First tier. The line of a status, and how it is written.
 use Rattle.std.specs.Prelude.{[], ◌∷◌, ◌≡◌, ◌≤◌, ◌⊎◌, Bool, IsTrue, List, codes, decimal, ℕ}
 use Rattle.base.specs.Exports.{concat}
-use Rattle.shelf.specs.Exports.{FaultsRose, SinkGainedPart, SinkState, sink_with_gained}
+use Rattle.shelf.specs.Exports.{SinkFaultsRose, SinkGainedPart, SinkState, sink_with_gained}
 use Rattle.command_inputs.specs.declared.status.Status.{Status}
 use Rattle.command_inputs.specs.declared.status.Status.TheVariants as status
 
@@ -27,7 +27,7 @@ command_status_line status.NoMemory = codes "difane: no memory\n"
 
 -- a sink gained the line, and counted no fault; or it gained a proper part of it, if it failed or
 -- if its writes allocate
-pub record OutputWritesLine (whole : List ℕ) (takes_memory : Bool) (old new : SinkState) : Type 0 where
+pub record CommandOutputWritesLine (whole : List ℕ) (takes_memory : Bool) (old new : SinkState) : Type 0 where
   pub faults : old.faults ≤ new.faults
   pub line : ((new.bytes ≡ sink_with_gained old.bytes whole) × (new.faults ≡ old.faults))
-      ⊎ (SinkGainedPart old.bytes whole new.bytes × (FaultsRose old.faults new.faults ⊎ IsTrue takes_memory))
+      ⊎ (SinkGainedPart old.bytes whole new.bytes × (SinkFaultsRose old.faults new.faults ⊎ IsTrue takes_memory))

@@ -3,7 +3,7 @@ use Rattle.std.specs.Prelude.{◌≡◌, List, None, Option, Some, ℕ}
 use Rattle.update_machine.specs.Exports.{Event, Net, Setting}
 use Rattle.net_file.specs.Exports.{IsNet, net_of_one_switch}
 use Rattle.command_line.specs.declared.report.Report.{Report}
-pub use Rattle.command_inputs.specs.NotPlayed.{CommandAuditInputs, Printing}
+pub use Rattle.command_inputs.specs.NotPlayed.{CommandAuditInputs, CommandPrintInputs}
 
 pub record Inputs : Type 0 where
   pub setting : Setting
@@ -13,12 +13,12 @@ pub record Inputs : Type 0 where
 
 -- what a command does: it plays inputs, prints a plan or the tables of a switch, or checks a trace,
 -- once its files are read
-pub data Task : Type 0 where
-  Play : Inputs → Task
-  Print : Printing → Task
-  Audit : CommandAuditInputs → Task
+pub data CommandInputTask : Type 0 where
+  Play : Inputs → CommandInputTask
+  Print : CommandPrintInputs → CommandInputTask
+  Audit : CommandAuditInputs → CommandInputTask
 
 -- the network is that of a file, or of one switch
-abbrev pub IsCommandNetOf : Option (List ℕ) → Net → Type 0
-IsCommandNetOf None net = net ≡ net_of_one_switch
-IsCommandNetOf (Some name) net = IsNet net
+abbrev pub IsCommandInputNetOf : Option (List ℕ) → Net → Type 0
+IsCommandInputNetOf None net = net ≡ net_of_one_switch
+IsCommandInputNetOf (Some name) net = IsNet net

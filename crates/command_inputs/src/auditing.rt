@@ -1,6 +1,6 @@
 //! Reads the trace of an audit, and its policies and changes.
 ghost use Rattle.std.specs.Prelude.{Ok, IfOk, length};
-ghost use Rattle.command_inputs.specs.Exports.{Audit, CommandInputReadEnds, IsAuditInputOf, CommandReadsFor, command_audit_inputs, command_input_audit_stated};
+ghost use Rattle.command_inputs.specs.Exports.{Audit, CommandInputReadEnds, IsAuditInputOf, CommandInputReadsFor, command_audit_inputs, command_input_audit_stated};
 ghost use Rattle.command_line.specs.Named.{MayBePolicyArguments, audit_arguments_named};
 ghost use Rattle.command_line.specs.Commands as grammar;
 
@@ -35,7 +35,7 @@ pub fn read_audit_inputs<F: Shelf>(
     ensures read { CommandInputReadEnds (F.state shelf.old).files
         (λ files. command_audit_inputs files (audit_arguments_named args.now)) command_input_audit_stated
         (F.state shelf.old) (F.state shelf.new) result }
-    ensures shelf { CommandReadsFor (grammar.Audit (audit_arguments_named args.now))
+    ensures shelf { CommandInputReadsFor (grammar.Audit (audit_arguments_named args.now))
         (F.state shelf.old) (F.state shelf.new) result }
     ensures asked { IfOk result (λ inputs.
         IsAuditInputOf (audit_arguments_named args.now) (command_input_audit_stated inputs)) }

@@ -1,12 +1,12 @@
 //! Reads and checks the files of a command, one after another.
 ghost use Rattle.std.specs.Prelude.{◌≡◌, ◌<◌, ◌≤◌, All, IsSome, IsTrue, IfOk, IfErr, Ok, [], ◌∷◌, length, true};
 ghost use Rattle.net_file.specs.Net.{IsNet};
-ghost use Rattle.policy_file.specs.Ports.{policy_names_only_ports};
-ghost use Rattle.policy_rules.specs.Exports.{PolicyFileRowsAre, IsPolicy, IsPolicyRulesOrAmendment};
+ghost use Rattle.policy_file.specs.Ports.{action_names_only_ports};
+ghost use Rattle.policy_rules.specs.Exports.{PolicyFileRowsAre, IsPolicy, IsSoundPolicyFile};
 ghost use Rattle.schedule.specs.Reading.{AreSoundScheduleEvents};
 ghost use Rattle.policy_file.specs.Changes.{policy_file_length};
-ghost use Rattle.world.specs.Files.{first_policy, own_policy};
-ghost use Rattle.command_inputs.specs.Exports.{AreCommandInputsReady, CommandInputReadEnds, AreCommandInputsOfReplay, ReadsFiles, CommandReadsFor, RefusesInput, CommandInputStopsCheck, command_input_content, command_content_within, command_file_reads, command_replay_inputs, task_inputs_stated, read_file, read_files, read_policy, read_schedule, command_schedule_in};
+ghost use Rattle.world.specs.Files.{world_first_file_policy, world_file_own_policy};
+ghost use Rattle.command_inputs.specs.Exports.{AreCommandInputsReady, CommandInputReadEnds, AreCommandInputsOfReplay, ReadsFiles, CommandInputReadsFor, RefusesInput, CommandInputStopsCheck, command_input_content, command_input_content_within, command_input_file_reads, command_replay_inputs, task_inputs_stated, read_file, command_input_files, read_policy, read_schedule, command_input_schedule_in};
 ghost use Rattle.command_line.specs.Named.{HasPolicyArguments, argument_names_seen, replay_arguments_named};
 ghost use Rattle.command_line.specs.Commands.{Replay};
 
@@ -58,7 +58,7 @@ pub fn read_file_within<F: Shelf>(
     most: u64,
 ) -> Result<Vec<u8>, Stop>
     ensures read { CommandInputReadEnds (F.state shelf.old).files
-        (λ files. command_content_within most files name.now)
+        (λ files. command_input_content_within most files name.now)
         (λ bytes. bytes.items) (F.state shelf.old) (F.state shelf.new) result }
     ensures shelf { ReadsFiles (name.now ∷ []) 1 (F.state shelf.old) (F.state shelf.new) result }
     ensures within { IfOk result (λ bytes. length bytes.items ≤ most) }
@@ -82,9 +82,9 @@ fn check_input_schedule(
 ) -> Result<Vec<Event>, Stop>
     requires { IsNet net.now }
     ensures value { IfOk result (λ events.
-        command_schedule_in net.now policies name.now bytes.now ≡ Ok events.items) }
+        command_input_schedule_in net.now policies name.now bytes.now ≡ Ok events.items) }
     ensures stopped { IfErr result
-        (CommandInputStopsCheck (command_schedule_in net.now policies name.now bytes.now)) }
+        (CommandInputStopsCheck (command_input_schedule_in net.now policies name.now bytes.now)) }
     ensures sound { IfOk result (λ events. AreSoundScheduleEvents net.now policies events.items) }
 {
     match schedule::read_schedule(alloc, bytes, net, policies) {
@@ -123,7 +123,7 @@ pub fn read_policy<F: Shelf>(
     ensures read { CommandInputReadEnds (F.state shelf.old).files (λ files. read_policy ports files name.now)
         (λ policy. policy) (F.state shelf.old) (F.state shelf.new) result }
     ensures shelf { ReadsFiles (name.now ∷ []) 1 (F.state shelf.old) (F.state shelf.new) result }
-    ensures own_ports { IfOk result (All (λ row. IsTrue (policy_names_only_ports ports row.action))) }
+    ensures own_ports { IfOk result (All (λ row. IsTrue (action_names_only_ports ports row.action))) }
     ensures sound { IfOk result IsPolicy }
     ensures few { IfOk result (λ policy. length policy ≤ 2000) }
 {
@@ -144,10 +144,10 @@ fn read_file<F: Shelf>(
         (λ files. read_file is_first ports files name.now) (λ file. file)
         (F.state shelf.old) (F.state shelf.new) result }
     ensures shelf { ReadsFiles (name.now ∷ []) 1 (F.state shelf.old) (F.state shelf.new) result }
-    ensures own_ports { IfOk result (PolicyFileRowsAre (λ row. IsTrue (policy_names_only_ports ports row.action))) }
-    ensures sound { IfOk result IsPolicyRulesOrAmendment }
+    ensures own_ports { IfOk result (PolicyFileRowsAre (λ row. IsTrue (action_names_only_ports ports row.action))) }
+    ensures sound { IfOk result IsSoundPolicyFile }
     ensures few { IfOk result (λ file. policy_file_length file ≤ 2000) }
-    ensures whole { is_first ≡ true → IfOk result (λ file. IsSome (own_policy file)) }
+    ensures whole { is_first ≡ true → IfOk result (λ file. IsSome (world_file_own_policy file)) }
 {
     let bytes = read_input_bytes(alloc, shelf, name)?;
     check_input_policy_file(alloc, name, &bytes, ports, is_first)
@@ -163,16 +163,16 @@ pub fn read_files<F: Shelf>(
 ) -> Result<Vec<PolicyFile>, Stop>
     requires { 0 < length names.now }
     ensures read { CommandInputReadEnds (F.state shelf.old).files
-        (λ files. read_files true ports files (argument_names_seen names.now)) (λ read. read.items)
+        (λ files. command_input_files true ports files (argument_names_seen names.now)) (λ read. read.items)
         (F.state shelf.old) (F.state shelf.new) result }
     ensures shelf { ReadsFiles (argument_names_seen names.now)
-        (command_file_reads true ports (F.state shelf.old).files (argument_names_seen names.now))
+        (command_input_file_reads true ports (F.state shelf.old).files (argument_names_seen names.now))
         (F.state shelf.old) (F.state shelf.new) result }
     ensures many { IfOk result (λ read. length read.items ≡ length names.now) }
-    ensures first { IfOk result (λ read. IsSome (first_policy read.items)) }
+    ensures first { IfOk result (λ read. IsSome (world_first_file_policy read.items)) }
     ensures own_ports { IfOk result (λ read.
-        All (PolicyFileRowsAre (λ row. IsTrue (policy_names_only_ports ports row.action))) read.items) }
-    ensures sound { IfOk result (λ read. All IsPolicyRulesOrAmendment read.items) }
+        All (PolicyFileRowsAre (λ row. IsTrue (action_names_only_ports ports row.action))) read.items) }
+    ensures sound { IfOk result (λ read. All IsSoundPolicyFile read.items) }
     ensures few { IfOk result (λ read. All (λ file. policy_file_length file ≤ 2000) read.items) }
 {
     let mut read = Vec::new(alloc);
@@ -204,7 +204,7 @@ pub fn read_inputs<F: Shelf>(
     ensures read { CommandInputReadEnds (F.state shelf.old).files
         (λ files. command_replay_inputs files (replay_arguments_named args.now)) task_inputs_stated
         (F.state shelf.old) (F.state shelf.new) result }
-    ensures shelf { CommandReadsFor (Replay (replay_arguments_named args.now))
+    ensures shelf { CommandInputReadsFor (Replay (replay_arguments_named args.now))
         (F.state shelf.old) (F.state shelf.new) result }
     ensures ready { IfOk result AreCommandInputsReady }
     ensures asked { IfOk result (λ inputs.

@@ -2,7 +2,7 @@
 ghost use Rattle.std.specs.Prelude.{◌≡◌, IfOk, IfErr, Ok, option_to_list};
 ghost use Rattle.net_file.specs.Net.{IsNet};
 ghost use Rattle.command_line.specs.Named.{argument_name_seen};
-ghost use Rattle.command_inputs.specs.Exports.{CommandInputReadEnds, IsCommandNetOf, IsCommandInputSwitch, ReadsFiles, CommandInputStopNamesOneOf, CommandInputStopsCheck, command_net_reads, command_net_stated, read_net, command_input_switch_named};
+ghost use Rattle.command_inputs.specs.Exports.{CommandInputReadEnds, IsCommandInputNetOf, IsCommandInputSwitch, ReadsFiles, CommandInputStopNamesOneOf, CommandInputStopsCheck, command_input_net_reads, command_input_net_stated, read_net, command_input_switch_named};
 
 use crate::inputs::{read_input_bytes, refused};
 use crate::policies::NO_SWITCH;
@@ -13,8 +13,8 @@ use std::alloc::Global;
 
 /// The network that the bytes of this file state.
 fn check_command_net_file(alloc: Global, name: &str, bytes: &[u8]) -> Result<Net, Stop>
-    ensures value { IfOk result (λ net. command_net_stated name.now bytes.now ≡ Ok net) }
-    ensures stopped { IfErr result (CommandInputStopsCheck (command_net_stated name.now bytes.now)) }
+    ensures value { IfOk result (λ net. command_input_net_stated name.now bytes.now ≡ Ok net) }
+    ensures stopped { IfErr result (CommandInputStopsCheck (command_input_net_stated name.now bytes.now)) }
     ensures sound { IfOk result IsNet }
 {
     match read_net(alloc, bytes) {
@@ -26,7 +26,7 @@ fn check_command_net_file(alloc: Global, name: &str, bytes: &[u8]) -> Result<Net
 
 /// The network of one switch.
 fn one_switch_input_net(alloc: Global) -> Result<Net, Stop>
-    ensures value { IfOk result (IsCommandNetOf None) }
+    ensures value { IfOk result (IsCommandInputNetOf None) }
     ensures sound { IfOk result IsNet }
     ensures stopped { IfErr result (λ stop. stop ≡ Stop.NoMemory) }
 {
@@ -45,9 +45,9 @@ pub fn take_input_network<F: Shelf>(
     ensures read { CommandInputReadEnds (F.state shelf.old).files (λ files. read_net files (argument_name_seen name.entry))
         (λ net. net) (F.state shelf.old) (F.state shelf.new) result }
     ensures shelf { ReadsFiles (option_to_list (argument_name_seen name.entry))
-        (command_net_reads (argument_name_seen name.entry)) (F.state shelf.old) (F.state shelf.new) result }
+        (command_input_net_reads (argument_name_seen name.entry)) (F.state shelf.old) (F.state shelf.new) result }
     ensures sound { IfOk result IsNet }
-    ensures named { IfOk result (IsCommandNetOf (argument_name_seen name.entry)) }
+    ensures named { IfOk result (IsCommandInputNetOf (argument_name_seen name.entry)) }
 {
     match name {
         Some(name) => {

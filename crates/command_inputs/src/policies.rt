@@ -2,19 +2,19 @@
 ghost use Rattle.std.specs.Prelude.{◌≡◌, ◌≤◌, All, List, IfOk, IfErr, IsOk, IsSome, IsTrue, None, Ok, OnOk, [], ◌∷◌, length, map, true};
 ghost use Rattle.policy_file.specs.Changes.{policy_file_length};
 ghost use Rattle.policy_file.specs.Reading.{policy_file_refusal_code};
-ghost use Rattle.policy_file.specs.Ports.{policy_names_only_ports};
-ghost use Rattle.policy_rules.specs.Exports.{PolicyFileRowsAre, IsPolicy, IsPolicyRulesOrAmendment};
+ghost use Rattle.policy_file.specs.Ports.{action_names_only_ports};
+ghost use Rattle.policy_rules.specs.Exports.{PolicyFileRowsAre, IsPolicy, IsSoundPolicyFile};
 ghost use Rattle.policy_rules.specs.declared.file.PolicyFile.TheVariants.{Whole};
 ghost use Rattle.policy_rules.specs.declared.policy.Row.{Row};
-ghost use Rattle.controller.specs.Leads.{PlanLeadsEveryHeader};
+ghost use Rattle.controller.specs.Leads.{ControllerPlanLeadsEveryHeader};
 ghost use Rattle.controller.specs.Plan.{ControllerRefusesPlan};
-ghost use Rattle.command_inputs.specs.Exports.{NeedsReadFault, CommandInputStopNamesOneOf, CommandInputStopsCheck, CommandInputStopsText, command_status_of, first_plan, input_plan_on, input_policy_stated, input_stated_as};
+ghost use Rattle.command_inputs.specs.Exports.{CommandNeedsReadFault, CommandInputStopNamesOneOf, CommandInputStopsCheck, CommandInputStopsText, command_status_of, input_first_plan, input_plan_on, input_policy_stated, input_stated_as};
 ghost use Rattle.net_file.specs.Exports.{IsNet, port_mask};
 ghost use Rattle.net_file.specs.declared.net.Net.{Net};
 ghost use Rattle.partition.specs.Plan.{IsPartitionPlan, partition_plan_of};
-ghost use Rattle.update_machine.specs.Setting.{setting_of, IsSetting};
+ghost use Rattle.update_machine.specs.Setting.{machine_setting_of, IsMachineSetting};
 ghost use Rattle.command_line.specs.Named.{argument_names_seen};
-ghost use Rattle.world.specs.Files.{first_policy, own_policy};
+ghost use Rattle.world.specs.Files.{world_first_file_policy, world_file_own_policy};
 ghost use Rattle.world.specs.State.{IsWorldBegun, world_setting_at};
 
 use crate::inputs::refused;
@@ -39,9 +39,9 @@ pub const FIRST_CHANGE: u32 = 23;
 pub const NO_SWITCH: u32 = 21;
 
 /// The stop at a file whose text is refused or for which memory runs out.
-fn stop_at_unread_input(alloc: Global, name: &str, error: PolicyError) -> Stop
+fn stop_at_refused_policy(alloc: Global, name: &str, error: PolicyError) -> Stop
     ensures text { CommandInputStopsText policy_file_refusal_code name.now error result }
-    ensures no_fault { ¬ NeedsReadFault None (command_status_of result) }
+    ensures no_fault { ¬ CommandNeedsReadFault None (command_status_of result) }
 {
     match error {
         PolicyError::Refused(why) => refused(alloc, name, why.refusal.code(), why.row),
@@ -58,11 +58,11 @@ pub fn check_input_policy(
 ) -> Result<Policy, Stop>
     ensures value { IfOk result (λ policy. input_policy_stated ports name.now bytes.now ≡ Ok policy) }
     ensures stopped { IfErr result (CommandInputStopsCheck (input_policy_stated ports name.now bytes.now)) }
-    ensures own_ports { IfOk result (All (λ row. IsTrue (policy_names_only_ports ports row.action))) }
+    ensures own_ports { IfOk result (All (λ row. IsTrue (action_names_only_ports ports row.action))) }
     ensures sound { IfOk result IsPolicy }
     ensures few { IfOk result (λ policy. length policy ≤ 2000) }
 {
-    let policy = read_policy(alloc, bytes).map_err(|error| stop_at_unread_input(
+    let policy = read_policy(alloc, bytes).map_err(|error| stop_at_refused_policy(
         alloc, name, error,
     ))?;
     check_ports(&policy, ports).map_err(|lack| refused(alloc, name, NO_PORT, lack.row))?;
@@ -81,15 +81,15 @@ pub fn check_input_policy_file(
     ensures value { IfOk result (λ file.
         input_stated_as is_first ports name.now bytes.now ≡ Ok file) }
     ensures stopped { IfErr result (CommandInputStopsCheck (input_stated_as is_first ports name.now bytes.now)) }
-    ensures own_ports { IfOk result (PolicyFileRowsAre (λ row. IsTrue (policy_names_only_ports ports row.action))) }
-    ensures sound { IfOk result IsPolicyRulesOrAmendment }
+    ensures own_ports { IfOk result (PolicyFileRowsAre (λ row. IsTrue (action_names_only_ports ports row.action))) }
+    ensures sound { IfOk result IsSoundPolicyFile }
     ensures few { IfOk result (λ file. policy_file_length file ≤ 2000) }
-    ensures whole { is_first ≡ true → IfOk result (λ file. IsSome (own_policy file)) }
+    ensures whole { is_first ≡ true → IfOk result (λ file. IsSome (world_file_own_policy file)) }
 {
     if is_first && is_change(alloc, bytes)? {
         return Err(refused(alloc, name, FIRST_CHANGE, 0));
     }
-    let file = read_file(alloc, bytes).map_err(|error| stop_at_unread_input(alloc, name, error))?;
+    let file = read_file(alloc, bytes).map_err(|error| stop_at_refused_policy(alloc, name, error))?;
     check_policy_file_ports(&file, ports).map_err(|lack| refused(alloc, name, NO_PORT, lack.row))?;
     Ok(file)
 }
@@ -132,17 +132,17 @@ pub fn begin_world_of_inputs(
     net: &Net,
 ) -> Result<World, Stop>
     requires net { IsNet net.now }
-    requires first { IsSome (first_policy files.items) }
+    requires first { IsSome (world_first_file_policy files.items) }
     requires named { 1 ≤ length names.now }
-    requires sound { All IsPolicyRulesOrAmendment files.items }
+    requires sound { All IsSoundPolicyFile files.items }
     requires ports { All (PolicyFileRowsAre (λ row.
-        IsTrue (policy_names_only_ports (port_mask net.now.switches) row.action))) files.items }
+        IsTrue (action_names_only_ports (port_mask net.now.switches) row.action))) files.items }
     ensures planned { OnOk result
-        (IsOk (first_plan (argument_names_seen names.now) net.now files.items)) }
-    ensures begun { IfOk result (IsWorldBegun (setting_of net.now files.items)) }
-    ensures sound { IfOk result (λ world. IsSetting (world_setting_at world)) }
+        (IsOk (input_first_plan (argument_names_seen names.now) net.now files.items)) }
+    ensures begun { IfOk result (IsWorldBegun (machine_setting_of net.now files.items)) }
+    ensures sound { IfOk result (λ world. IsMachineSetting (world_setting_at world)) }
     ensures stopped { IfErr result
-        (CommandInputStopsCheck (first_plan (argument_names_seen names.now) net.now files.items)) }
+        (CommandInputStopsCheck (input_first_plan (argument_names_seen names.now) net.now files.items)) }
 {
     net_port_laws();
     let name = names[0];
@@ -164,7 +164,7 @@ pub fn plan_input_policy(
     ensures value { IfOk result (λ plan. input_plan_on name.now net.now policy.now ≡ Ok plan.hosted) }
     ensures planned { IfOk result (λ plan. partition_plan_of policy.now net.now ≡ Ok plan.hosted) }
     ensures parts { IfOk result (λ plan. IsPartitionPlan policy.now net.now plan.hosted) }
-    ensures leads { IfOk result (λ plan. PlanLeadsEveryHeader policy.now plan.hosted) }
+    ensures leads { IfOk result (λ plan. ControllerPlanLeadsEveryHeader policy.now plan.hosted) }
     ensures policy { IfOk result (λ plan. plan.policy ≡ policy.now) }
     ensures stopped { IfErr result (CommandInputStopsCheck (input_plan_on name.now net.now policy.now)) }
     ensures stops { CommandInputStopNamesOneOf (name.now ∷ []) result }

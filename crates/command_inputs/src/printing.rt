@@ -1,7 +1,7 @@
 //! Reads the files of a plan or of a switch's tables.
 ghost use Rattle.std.specs.Prelude.{Ok, Option, IfOk};
 ghost use Rattle.net_file.specs.Net.{IsNet};
-ghost use Rattle.command_inputs.specs.Exports.{CommandInputReadEnds, IsPrintInputOf, Print, CommandReadsFor, command_print_inputs, print_inputs_stated};
+ghost use Rattle.command_inputs.specs.Exports.{CommandInputReadEnds, IsPrintInputOf, Print, CommandInputReadsFor, command_print_inputs, print_inputs_stated};
 ghost use Rattle.command_line.specs.Named.{print_arguments_named};
 ghost use Rattle.command_line.specs.Commands as grammar;
 
@@ -33,7 +33,7 @@ pub fn read_printing_inputs<F: Shelf>(
     ensures read { CommandInputReadEnds (F.state shelf.old).files
         (λ files. command_print_inputs files (print_arguments_named args.now)) print_inputs_stated
         (F.state shelf.old) (F.state shelf.new) result }
-    ensures shelf { CommandReadsFor (grammar.Print (print_arguments_named args.now))
+    ensures shelf { CommandInputReadsFor (grammar.Print (print_arguments_named args.now))
         (F.state shelf.old) (F.state shelf.new) result }
     ensures sound { IfOk result (λ inputs. IsNet inputs.net) }
     ensures planned { IfOk result (λ inputs.

@@ -1,9 +1,9 @@
 //! How a command ended, and the line that says so.
 ghost use Rattle.std.specs.Prelude.{◌≡◌, IfOk};
-ghost use Rattle.shelf.specs.SinkWrites.{IsAfterWrite};
+ghost use Rattle.shelf.specs.SinkWrites.{IsSinkAfterWrite};
 ghost use Rattle.command_inputs.specs.declared.status.Status.TheVariants.{Ok as DoneStatus};
 ghost use Rattle.command_inputs.specs.declared.status.Stop.TheVariants.{NoMemory};
-ghost use Rattle.command_inputs.specs.Exports.{OutputWritesLine, command_input_line, command_numbered_line, command_status_line, command_unwritten_status, command_written_status, status_number, command_status_of};
+ghost use Rattle.command_inputs.specs.Exports.{CommandOutputWritesLine, command_input_line, command_numbered_line, command_status_line, command_unwritten_status, command_written_status, command_status_number, command_status_of};
 
 use itoa::Buffer;
 use shelf::{Sink, SinkError, write_pieces, write_whole};
@@ -133,7 +133,7 @@ impl From<SinkError> for Status {
 impl Status {
     /// The status of a command whose output is written: its play ran to its end, or it stopped
     /// full at this row.
-    pub fn after(full: Option<u32>) -> Status
+    pub fn written(full: Option<u32>) -> Status
         ensures { result ≡ command_written_status full }
     {
         match full {
@@ -144,7 +144,7 @@ impl Status {
 
     /// The exit code of the program.
     pub fn number(&self) -> u8
-        ensures { result ≡ status_number self.now }
+        ensures { result ≡ command_status_number self.now }
     {
         match self {
             Status::Ok => 0,
@@ -164,7 +164,7 @@ impl Status {
 ///
 /// A fault of the sink changes nothing but the sink, which then has a part of the line.
 pub fn write_status<E: Sink>(status: &Status, errs: &mut E)
-    ensures line { OutputWritesLine (command_status_line status.now) E.takes_memory
+    ensures line { CommandOutputWritesLine (command_status_line status.now) E.takes_memory
         (E.state errs.old) (E.state errs.new) }
     ensures silent { status.now ≡ DoneStatus → errs.new ≡ errs.old }
 {
@@ -172,7 +172,7 @@ pub fn write_status<E: Sink>(status: &Status, errs: &mut E)
 }
 
 fn write_command_status_line<E: Sink>(status: &Status, errs: &mut E) -> Result<(), SinkError>
-    ensures after { IsAfterWrite (command_status_line status.now) E.takes_memory
+    ensures after { IsSinkAfterWrite (command_status_line status.now) E.takes_memory
         (E.state errs.old) (E.state errs.new) result }
     ensures silent { status.now ≡ DoneStatus → errs.new ≡ errs.old }
 {
@@ -189,7 +189,7 @@ fn write_command_status_line<E: Sink>(status: &Status, errs: &mut E) -> Result<(
 }
 
 fn write_numbered_status<E: Sink>(text: &[u8], number: u32, errs: &mut E) -> Result<(), SinkError>
-    ensures { IsAfterWrite (command_numbered_line text.now number) E.takes_memory
+    ensures { IsSinkAfterWrite (command_numbered_line text.now number) E.takes_memory
         (E.state errs.old) (E.state errs.new) result }
 {
     let mut digits = Buffer::new();
@@ -204,7 +204,7 @@ fn write_input_line<E: Sink>(
     row: u32,
     errs: &mut E,
 ) -> Result<(), SinkError>
-    ensures { IsAfterWrite (command_input_line file.now code row) E.takes_memory
+    ensures { IsSinkAfterWrite (command_input_line file.now code row) E.takes_memory
         (E.state errs.old) (E.state errs.new) result }
 {
     let mut code_digits = Buffer::new();

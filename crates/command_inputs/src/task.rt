@@ -1,7 +1,7 @@
 //! The task of a command: its files are read and checked, or its load case is made.
 ghost use Rattle.std.specs.Prelude.{◌≡◌, Some, IfOk};
-ghost use Rattle.command_inputs.specs.Exports.{CommandInputReadEnds, CommandReadsFor, CommandReadsNothing, IsTaskInputReady, IsCommandInputTask, known_command_input_task, command_input_task_stated};
-ghost use Rattle.command_line.specs.Named.{ArgumentsNamePolicies, command_named};
+ghost use Rattle.command_inputs.specs.Exports.{CommandInputReadEnds, CommandInputReadsFor, CommandInputReadsNothing, IsTaskInputReady, IsCommandInputTask, known_command_input_task, command_input_task_stated};
+ghost use Rattle.command_line.specs.Named.{ArgumentsNamePolicies, argument_command_seen};
 
 use crate::auditing::{AuditInputs, read_audit_inputs};
 use crate::inputs::{PlayInputs, read_inputs};
@@ -28,15 +28,15 @@ pub fn read_command_task<F: Shelf>(
 ) -> Result<Task, Stop>
     requires { ArgumentsNamePolicies command.now }
     ensures read { CommandInputReadEnds
-        (known_command_input_task (F.state shelf.old).files (Some (command_named command.now))) (λ read. read)
+        (known_command_input_task (F.state shelf.old).files (Some (argument_command_seen command.now))) (λ read. read)
         command_input_task_stated (F.state shelf.old) (F.state shelf.new) result }
-    ensures shelf { CommandReadsFor (command_named command.now)
+    ensures shelf { CommandInputReadsFor (argument_command_seen command.now)
         (F.state shelf.old) (F.state shelf.new) result }
-    ensures unread { CommandReadsNothing (Some (command_named command.now))
+    ensures unread { CommandInputReadsNothing (Some (argument_command_seen command.now))
         → F.state shelf.new ≡ F.state shelf.old }
     ensures ready { IfOk result IsTaskInputReady }
     ensures asked { IfOk result (λ task.
-        IsCommandInputTask (command_named command.now) (command_input_task_stated task)) }
+        IsCommandInputTask (argument_command_seen command.now) (command_input_task_stated task)) }
 {
     match command {
         Command::Replay(args) => {

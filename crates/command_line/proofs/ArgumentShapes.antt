@@ -2,7 +2,7 @@
 use Rattle.std.proofs.Common.{[], ◌&&◌, ◌++◌, ◌+◌, ◌∙◌, ◌∷◌, ◌≡◌, Bool, List, None, Option, Some, ap, append-nil, append_assoc, ap₂, arith, bytes_eq, codes, cond, drop, eqb, eqb-true, false, is_some, length, refl, subst, suc, sym, take, true, true≢false, unwrap_or, ℕ}
 use Rattle.base.proofs.Exports.{bytes_eq-Decides, list_all, option_map_or, pointwise, prefix_len, starts_with}
 use Rattle.clap.proofs.WalkLemmas.{both}
-use Rattle.command_line.specs.Exports.{Cut, cut_net_option_argument, cut_argument_options, cut_option_pair, cut_quiet_argument, is_name_argument, joined_net_argument, net_argument_then_quiet, quiet_argument_then_net}
+use Rattle.command_line.specs.Exports.{ArgumentOptionCut, cut_net_option_argument, cut_argument_options, cut_argument_option_pair, cut_quiet_argument, is_name_argument, joined_net_argument, net_argument_then_quiet, quiet_argument_then_net}
 
 -- an option, as it is written
 pub data Given : Type 0 where
@@ -37,7 +37,7 @@ given_in true form (Some net) true = net_given form net ∷ quiet ∷ []
 given_in false form (Some net) true = quiet ∷ net_given form net ∷ []
 
 -- the arguments that were cut are options, and then the rest
-pub record IsCut (all : List (List ℕ)) (cut : Cut) : Type 0 where
+pub record IsCut (all : List (List ℕ)) (cut : ArgumentOptionCut) : Type 0 where
   pub first : Bool
   pub form : Bool
   pub args : all ≡ spelled (given_in first form cut.net cut.quiet) ++ cut.args
@@ -74,7 +74,7 @@ joined_is arg net e = go (starts_with eqb arg (codes "--net=")) refl e where
         ∙ ap (λ text. codes "--net=" ++ text) (ap (λ o. unwrap_or o []) e)
 
 pair_is : (option : List ℕ) (args : List (List ℕ)) (net : List ℕ) (rest : List (List ℕ))
-    → cut_option_pair option args ≡ Some (net, rest) → IsNetCut (option ∷ args) net rest
+    → cut_argument_option_pair option args ≡ Some (net, rest) → IsNetCut (option ∷ args) net rest
 unfolding cut_or
 pair_is option [] net rest e = absurd (true≢false (ap is_some (sym e)))
 pair_is option (value ∷ args) net rest e = go (bytes_eq option (codes "--net")) refl e where
@@ -101,7 +101,7 @@ unfolding cut_or
 net_cut [] net rest e = absurd (true≢false (ap is_some (sym e)))
 net_cut (option ∷ args) net rest e = go (joined_net_argument option) refl e where
   go : (o : Option (List ℕ)) → joined_net_argument option ≡ o
-      → option_map_or (λ n. Some (n, args)) o (cut_option_pair option args) ≡ Some (net, rest)
+      → option_map_or (λ n. Some (n, args)) o (cut_argument_option_pair option args) ≡ Some (net, rest)
       → IsNetCut (option ∷ args) net rest
   go None s e = pair_is option args net rest e
   go (Some value) s e = record {

@@ -12,7 +12,7 @@ use Rattle.clap.specs.Walk.{Row, Walk, all_of, finished, first_of, nothing_held,
 use Rattle.clap.proofs.OnLiterals.{clap_on_literals}
 use Rattle.clap.proofs.TakesLemmas.{leaf_takes}
 use Rattle.clap.proofs.WalkLemmas.{both, first_value-rows, one_text-rows, raw_values-rows}
-use Rattle.command_line.specs.Exports.{Cut, IsFlagRead, IsNetArgumentRead, CommandLineOptions, StatedArgumentLine, argument_app_with, cut_argument_options, options_end_together, is_name_argument, line_of, net_and, none}
+use Rattle.command_line.specs.Exports.{ArgumentOptionCut, IsArgumentFlagRead, IsNetArgumentRead, CommandLineOptions, StatedArgumentLine, argument_app_with, cut_argument_options, argument_options_end_together, is_name_argument, argument_line_of, net_and, none}
 use Rattle.command_line.proofs.ArgumentShapes.{IsCut, cut_is, given_in, names_good, spelled}
 use Rattle.command_line.proofs.ClapWalks.{At, Goes, IsFew, MayStand, apart, goes_far, may_give, name_first, named, names_rule, names_walk, net_rule, options_walk, quiet_rule, rows_at, rules, settles, shape, shape_is, takes_flag, takes_net, use_all, valued, walk_at}
 
@@ -20,7 +20,7 @@ use Rattle.command_line.proofs.ClapWalks.{At, Goes, IsFew, MayStand, apart, goes
 pub record Found (o : CommandLineOptions) (rows : List Row) (line : StatedArgumentLine) : Type 0 where
   pub names : all_of (codes "names") rows ≡ Some line.names
   pub net : IsNetArgumentRead o (first_of (codes "net") rows) line.net
-  pub quiet : IsFlagRead o (one_of (codes "quiet") rows) line.quiet
+  pub quiet : IsArgumentFlagRead o (one_of (codes "quiet") rows) line.quiet
 
 -- what was given is what the options have
 pub record IsWithin (o : CommandLineOptions) (net : Option (List ℕ)) (quiet : Bool) : Type 0 where
@@ -152,8 +152,8 @@ no_args (x ∷ xs) e = absurd (omega (arith, eqb-true _ _ e))
 
 -- options, names and options, none of them twice
 pub record HasParts (args : List (List ℕ)) (line : StatedArgumentLine) : Type 0 where
-  pub front : Cut
-  pub back : Cut
+  pub front : ArgumentOptionCut
+  pub back : ArgumentOptionCut
   pub front_cut : IsCut args front
   pub back_cut : IsCut (drop (length line.names) front.args) back
   pub names : front.args ≡ line.names ++ drop (length line.names) front.args
@@ -164,22 +164,22 @@ pub record HasParts (args : List (List ℕ)) (line : StatedArgumentLine) : Type 
   pub one_net : (is_some front.net && is_some back.net) ≡ false
   pub one_flag : (front.quiet && back.quiet) ≡ false
 
-parts_of : (args : List (List ℕ)) (line : StatedArgumentLine) → line_of args ≡ Some line
+parts_of : (args : List (List ℕ)) (line : StatedArgumentLine) → argument_line_of args ≡ Some line
     → HasParts args line
-parts_of args line e = go (options_end_together front back) refl e where
-  front : Cut
+parts_of args line e = go (argument_options_end_together front back) refl e where
+  front : ArgumentOptionCut
   front = cut_argument_options args
 
   count : ℕ
   count = prefix_len is_name_argument front.args
 
-  back : Cut
+  back : ArgumentOptionCut
   back = cut_argument_options (drop count front.args)
 
   names : List (List ℕ)
   names = take count front.args
 
-  go : (b : Bool) → options_end_together front back ≡ b → cond b (Some (record {
+  go : (b : Bool) → argument_options_end_together front back ≡ b → cond b (Some (record {
     names = names;
     net = option_or front.net back.net;
     quiet = front.quiet || back.quiet;
@@ -328,7 +328,7 @@ module _ (name : List ℕ) where
         ∙ settled_at o w.at w.left w.stands
 
   -- each line with names is read
-  pub reads : (o : CommandLineOptions) (args : List (List ℕ)) (line : StatedArgumentLine) → line_of args ≡ Some line
+  pub reads : (o : CommandLineOptions) (args : List (List ℕ)) (line : StatedArgumentLine) → argument_line_of args ≡ Some line
       → 0 < length line.names → IsFew line.names → IsWithin o line.net line.quiet
       → WalksTo name o args line
   reads o args line e some few allowed =
@@ -366,8 +366,8 @@ by_text true false e =
 by_text false true e =
     let bad : 102 ≡ 116 = ap (λ text. slice_index text 0) e in absurd (omega (arith, bad))
 
-one_flag : (o : CommandLineOptions) (found : Option (List ℕ)) (quiet again : Bool) → IsFlagRead o found quiet
-    → IsFlagRead o found again → quiet ≡ again
+one_flag : (o : CommandLineOptions) (found : Option (List ℕ)) (quiet again : Bool) → IsArgumentFlagRead o found quiet
+    → IsArgumentFlagRead o found again → quiet ≡ again
 one_flag none there quiet again a b = a ∙ sym b
 one_flag (net_and false) there quiet again a b = a ∙ sym b
 one_flag (net_and true) there quiet again a b =
@@ -385,15 +385,15 @@ module _ (o : CommandLineOptions) (f : matches.Found) (line : StatedArgumentLine
   net_there : IsNetArgumentRead o (first_value f (codes "net")) line.net
   net_there = subst (λ x. IsNetArgumentRead o x line.net) (sym (first_value-rows f (codes "net"))) found.net
 
-  pub flag_there : IsFlagRead o (one_text f (codes "quiet")) line.quiet
+  pub flag_there : IsArgumentFlagRead o (one_text f (codes "quiet")) line.quiet
   flag_there =
-      subst (λ x. IsFlagRead o x line.quiet) (sym (one_text-rows f (codes "quiet"))) found.quiet
+      subst (λ x. IsArgumentFlagRead o x line.quiet) (sym (one_text-rows f (codes "quiet"))) found.quiet
 
   -- a line that holds what was matched is the line
   pub line_is : (names : List (List ℕ)) (net : Option (List ℕ)) (quiet : Bool)
       → option_map raw_values (matched_of f (codes "names")) ≡ Some names
       → IsNetArgumentRead o (first_value f (codes "net")) net
-      → IsFlagRead o (one_text f (codes "quiet")) quiet
+      → IsArgumentFlagRead o (one_text f (codes "quiet")) quiet
       → line ≡ record { names = names; net = net; quiet = quiet }
   line_is names net quiet given_names given_net given_quiet =
       let same_names : line.names ≡ names = ap (λ o. unwrap_or o [])

@@ -8,15 +8,15 @@ use Rattle.clap.specs.Walk.{Row, Rule, Waiting, Walk, has_row, idle, positional,
 use Rattle.clap.specs.Walk as clap
 use Rattle.clap.specs.declared.builder.value_parser.ValueParser.TheVariants as vp
 use Rattle.clap.proofs.WalkLemmas.{both}
-use Rattle.command_line.specs.Exports.{CommandLineOptions, argument_app_with, is_name_argument, names_arg, net_and, net_arg, none, quiet_argument}
+use Rattle.command_line.specs.Exports.{CommandLineOptions, argument_app_with, is_name_argument, argument_names_rule, net_and, argument_net_rule, none, quiet_argument}
 use Rattle.command_line.proofs.ArgumentShapes.{Given, is_good, joined, pair, quiet, spell, spelled}
 
 -- the arguments as they are built
 abbrev pub names_rule : Rule
-names_rule = record names_arg { index = Some 1; parser = Some vp.String }
+names_rule = record argument_names_rule { index = Some 1; parser = Some vp.String }
 
 abbrev pub net_rule : Rule
-net_rule = record net_arg {
+net_rule = record argument_net_rule {
   range = Some (record { start_inclusive = 1; end_inclusive = 1 });
   parser = Some vp.String;
 }

@@ -1,7 +1,7 @@
 -- The grammar of the command line: a command, then options, then names, then options.
 use Rattle.std.specs.Prelude.{[], if◌then◌else◌, ◌&&◌, ◌==◌, ◌||◌, ◌∷◌, Bool, List, None, Option, Some, bytes_eq, codes, drop, eqb, false, is_some, length, nat_le, nat_lt, not, option_and_then, slice_index, take, true, ℕ}
 use Rattle.base.specs.Exports.{option_map_or, option_or, prefix_len, starts_with}
-use Rattle.five_tuple.specs.Exports.{number_up_to}
+use Rattle.five_tuple.specs.Exports.{tuple_number_up_to}
 use Rattle.command_line.specs.Commands.{Command, Replay, Print, Load, Audit}
 use Rattle.command_line.specs.declared.report.Report.{Report}
 use Rattle.command_line.specs.declared.report.Report.TheVariants as report
@@ -20,16 +20,16 @@ joined_net_argument arg =
     else None
 
 -- the network of an option `--net NET` of these arguments, and the arguments after it
-abbrev pub cut_option_pair : List ℕ → List (List ℕ) → Option (List ℕ × List (List ℕ))
-cut_option_pair option [] = None
-cut_option_pair option (net ∷ args) =
+abbrev pub cut_argument_option_pair : List ℕ → List (List ℕ) → Option (List ℕ × List (List ℕ))
+cut_argument_option_pair option [] = None
+cut_argument_option_pair option (net ∷ args) =
     if bytes_eq option (codes "--net") && is_name_argument net then Some (net, args) else None
 
 -- the network of an option, in either form, that begins the arguments, and the arguments after it
 abbrev pub cut_net_option_argument : List (List ℕ) → Option (List ℕ × List (List ℕ))
 cut_net_option_argument [] = None
 cut_net_option_argument (option ∷ args) =
-    option_map_or (λ net. Some (net, args)) (joined_net_argument option) (cut_option_pair option args)
+    option_map_or (λ net. Some (net, args)) (joined_net_argument option) (cut_argument_option_pair option args)
 
 -- the arguments after a flag `--quiet`, if they begin with it
 abbrev pub cut_quiet_argument : List (List ℕ) → Option (List (List ℕ))
@@ -37,26 +37,26 @@ cut_quiet_argument [] = None
 cut_quiet_argument (option ∷ args) = if bytes_eq option (codes "--quiet") then Some args else None
 
 -- the options that begin some arguments, each at most once, and the arguments after them
-pub record Cut : Type 0 where
+pub record ArgumentOptionCut : Type 0 where
   pub net : Option (List ℕ)
   pub quiet : Bool
   pub args : List (List ℕ)
 
 -- a network's option may follow the flag
-abbrev pub quiet_argument_then_net : List (List ℕ) → Cut
+abbrev pub quiet_argument_then_net : List (List ℕ) → ArgumentOptionCut
 quiet_argument_then_net args = elim (cut_net_option_argument args) [
   | None ↦ record { net = None; quiet = true; args = args }
   | Some found ↦ record { net = Some found.0; quiet = true; args = found.1 }
 ]
 
 -- a flag may follow the network's option
-abbrev pub net_argument_then_quiet : List ℕ → List (List ℕ) → Cut
+abbrev pub net_argument_then_quiet : List ℕ → List (List ℕ) → ArgumentOptionCut
 net_argument_then_quiet net args = elim (cut_quiet_argument args) [
   | None ↦ record { net = Some net; quiet = false; args = args }
   | Some rest ↦ record { net = Some net; quiet = true; args = rest }
 ]
 
-abbrev pub cut_argument_options : List (List ℕ) → Cut
+abbrev pub cut_argument_options : List (List ℕ) → ArgumentOptionCut
 cut_argument_options args = elim (cut_quiet_argument args) [
   | Some rest ↦ quiet_argument_then_net rest
   | None ↦ elim (cut_net_option_argument args) [
@@ -74,13 +74,13 @@ pub record StatedArgumentLine : Type 0 where
   pub quiet : Bool
 
 -- no option is given twice, and nothing follows the last ones
-abbrev pub options_end_together : Cut → Cut → Bool
-options_end_together front back =
+abbrev pub argument_options_end_together : ArgumentOptionCut → ArgumentOptionCut → Bool
+argument_options_end_together front back =
     not (is_some front.net && is_some back.net) && not (front.quiet && back.quiet)
     && length back.args == 0
 
-abbrev pub argument_line_from : Cut → List (List ℕ) → Cut → Option StatedArgumentLine
-argument_line_from front names back = if options_end_together front back then Some (record {
+abbrev pub argument_line_from : ArgumentOptionCut → List (List ℕ) → ArgumentOptionCut → Option StatedArgumentLine
+argument_line_from front names back = if argument_options_end_together front back then Some (record {
   names = names;
   net = option_or front.net back.net;
   quiet = front.quiet || back.quiet;
@@ -88,8 +88,8 @@ argument_line_from front names back = if options_end_together front back then So
     else None
 
 -- options, then names up to the next option or the end, then options
-abbrev pub line_of : List (List ℕ) → Option StatedArgumentLine
-line_of args =
+abbrev pub argument_line_of : List (List ℕ) → Option StatedArgumentLine
+argument_line_of args =
     let front = cut_argument_options args in
     let count = prefix_len is_name_argument front.args in
     argument_line_from front (take count front.args) (cut_argument_options (drop count front.args))
@@ -124,8 +124,8 @@ abbrev pub flows_of_arguments : StatedArgumentLine → Option Command
 flows_of_arguments line = if line.quiet then None else play_from_arguments report.Flows line line.names
 
 -- `rebalance` has no flag
-abbrev pub rebalance_by_grammar : StatedArgumentLine → Option Command
-rebalance_by_grammar line = if line.quiet then None else play_from_arguments report.Placement line line.names
+abbrev pub rebalance_by_argument_grammar : StatedArgumentLine → Option Command
+rebalance_by_argument_grammar line = if line.quiet then None else play_from_arguments report.Placement line line.names
 
 abbrev pub print_from_arguments : StatedArgumentLine → List (List ℕ) → Option Command
 print_from_arguments line (policy ∷ []) =
@@ -135,8 +135,8 @@ print_from_arguments line (policy ∷ switch ∷ []) =
 print_from_arguments line _ = None
 
 -- `compile` or `show`, with this many names and no `--quiet`
-abbrev pub grammar_print_of : ℕ → StatedArgumentLine → Option Command
-grammar_print_of count line =
+abbrev pub argument_grammar_print_of : ℕ → StatedArgumentLine → Option Command
+argument_grammar_print_of count line =
     if length line.names == count && not line.quiet then print_from_arguments line line.names else None
 
 -- the greatest number of `load N`, and the number that these names are, if they are one
@@ -144,7 +144,7 @@ abbrev pub greatest_load_argument : ℕ
 greatest_load_argument = 1000
 
 abbrev pub load_number_argument : List (List ℕ) → Option ℕ
-load_number_argument (number ∷ []) = number_up_to greatest_load_argument number
+load_number_argument (number ∷ []) = tuple_number_up_to greatest_load_argument number
 load_number_argument _ = None
 
 abbrev pub load_from_argument : Option ℕ → Option Command
@@ -156,30 +156,30 @@ abbrev pub load_of_arguments : StatedArgumentLine → Option Command
 load_of_arguments line = if is_some line.net || line.quiet then None else load_from_argument (load_number_argument line.names)
 
 -- an audit names as many policies as a replay may
-abbrev pub audit_from : List (List ℕ) → Option Command
-audit_from [] = None
-audit_from (trace ∷ policies) =
+abbrev pub audit_command_from_arguments : List (List ℕ) → Option Command
+audit_command_from_arguments [] = None
+audit_command_from_arguments (trace ∷ policies) =
     if may_be_policy_arguments (length policies)
     then Some (Audit (record { trace = trace; policies = policies }))
     else None
 
 -- `audit` has no option
-abbrev pub audit_by_grammar : StatedArgumentLine → Option Command
-audit_by_grammar line = if is_some line.net || line.quiet then None else audit_from line.names
+abbrev pub audit_by_argument_grammar : StatedArgumentLine → Option Command
+audit_by_argument_grammar line = if is_some line.net || line.quiet then None else audit_command_from_arguments line.names
 
 -- the command of this name, with these arguments after it
-abbrev pub command_by : List ℕ → StatedArgumentLine → Option Command
-command_by name line =
+abbrev pub command_by_arguments : List ℕ → StatedArgumentLine → Option Command
+command_by_arguments name line =
     if bytes_eq name (codes "replay") then replay_of_arguments line
     else if bytes_eq name (codes "flows") then flows_of_arguments line
-    else if bytes_eq name (codes "rebalance") then rebalance_by_grammar line
-    else if bytes_eq name (codes "compile") then grammar_print_of 1 line
-    else if bytes_eq name (codes "show") then grammar_print_of 2 line
+    else if bytes_eq name (codes "rebalance") then rebalance_by_argument_grammar line
+    else if bytes_eq name (codes "compile") then argument_grammar_print_of 1 line
+    else if bytes_eq name (codes "show") then argument_grammar_print_of 2 line
     else if bytes_eq name (codes "load") then load_of_arguments line
-    else if bytes_eq name (codes "audit") then audit_by_grammar line
+    else if bytes_eq name (codes "audit") then audit_by_argument_grammar line
     else None
 
 -- the command of these arguments; none if the grammar doesn't have them
-abbrev pub command_of : List (List ℕ) → Option Command
-command_of [] = None
-command_of (name ∷ args) = option_and_then (command_by name) (line_of args)
+abbrev pub command_of_arguments : List (List ℕ) → Option Command
+command_of_arguments [] = None
+command_of_arguments (name ∷ args) = option_and_then (command_by_arguments name) (argument_line_of args)

@@ -1,9 +1,9 @@
--- What `clap` read, as commands of the grammar.
+-- The arguments that were read, by the grammar's code or by `clap`, as contracts see them.
 use Rattle.std.specs.Prelude.{◌≤◌, List, Option, String, codes, length, map, option_and_then, option_map, string_bytes, ℕ, ⊤}
 use Rattle.base.specs.Exports.{Bor, Global}
 use Rattle.command_line.specs.Grammar as grammar
 use Rattle.command_line.specs.Commands as grammar_commands
-use Rattle.command_line.specs.Grammar.{command_by, line_of, greatest_load_argument, most_policy_arguments}
+use Rattle.command_line.specs.Grammar.{command_by_arguments, argument_line_of, greatest_load_argument, most_policy_arguments}
 use Rattle.command_line.specs.Others.{AuditArguments, PrintArguments}
 use Rattle.command_line.specs.declared.command.AuditArgs.{AuditArgs}
 use Rattle.command_line.specs.declared.command.Command.{Command}
@@ -16,7 +16,7 @@ use Rattle.command_line.specs.declared.grammar.CommandKind.TheVariants as kind
 use Rattle.command_line.specs.declared.grammar.ArgumentParts.{ArgumentParts}
 use Rattle.command_line.specs.declared.read.ArgumentLine.{ArgumentLine}
 
--- a name that an argument may give, as bytes; and several
+-- the bytes of a name, if there is one; and those of each name of a list
 abbrev pub argument_name_seen : Option (Bor (List ℕ)) → Option (List ℕ)
 argument_name_seen name = option_map (λ n. n.now) name
 
@@ -39,11 +39,11 @@ abbrev pub audit_arguments_named : AuditArgs → AuditArguments
 audit_arguments_named args = record { trace = args.trace.now; policies = argument_names_seen args.policies.items }
 
 -- the command that names these files
-abbrev pub command_named : Command → grammar_commands.Command
-command_named (given.Replay args) = grammar_commands.Replay (replay_arguments_named args)
-command_named (given.Print args) = grammar_commands.Print (print_arguments_named args)
-command_named (given.Load n) = grammar_commands.Load n
-command_named (given.Audit args) = grammar_commands.Audit (audit_arguments_named args)
+abbrev pub argument_command_seen : Command → grammar_commands.Command
+argument_command_seen (given.Replay args) = grammar_commands.Replay (replay_arguments_named args)
+argument_command_seen (given.Print args) = grammar_commands.Print (print_arguments_named args)
+argument_command_seen (given.Load n) = grammar_commands.Load n
+argument_command_seen (given.Audit args) = grammar_commands.Audit (audit_arguments_named args)
 
 -- the arguments name a right number of policies, from 1 to 64, or of a load case, from 1 to 1,000
 abbrev pub MayBePolicyArguments : ℕ → Type 0
@@ -69,8 +69,8 @@ argument_line_seen line = record {
 -- ---- the test of the grammar
 
 -- the options and arguments that were cut, and the parts of a line
-abbrev pub option_cut_seen : Cut → grammar.Cut
-option_cut_seen cut = record {
+abbrev pub argument_option_cut_seen : Cut → grammar.ArgumentOptionCut
+argument_option_cut_seen cut = record {
   net = argument_name_seen cut.net;
   quiet = cut.quiet;
   args = map string_bytes cut.args.now;
@@ -84,18 +84,18 @@ argument_parts_seen parts = record {
 }
 
 -- the name of this kind of command
-abbrev pub command_kind_name : CommandKind → List ℕ
-command_kind_name kind.Replay = codes "replay"
-command_kind_name kind.Flows = codes "flows"
-command_kind_name kind.Rebalance = codes "rebalance"
-command_kind_name kind.Compile = codes "compile"
-command_kind_name kind.Show = codes "show"
-command_kind_name kind.Load = codes "load"
-command_kind_name kind.Audit = codes "audit"
+abbrev pub argument_command_kind_name : CommandKind → List ℕ
+argument_command_kind_name kind.Replay = codes "replay"
+argument_command_kind_name kind.Flows = codes "flows"
+argument_command_kind_name kind.Rebalance = codes "rebalance"
+argument_command_kind_name kind.Compile = codes "compile"
+argument_command_kind_name kind.Show = codes "show"
+argument_command_kind_name kind.Load = codes "load"
+argument_command_kind_name kind.Audit = codes "audit"
 
 -- the command of this kind with these arguments after its name
-abbrev pub command_of_kind : CommandKind → List (List ℕ) → Option grammar_commands.Command
-command_of_kind kind args = option_and_then (command_by (command_kind_name kind)) (line_of args)
+abbrev pub argument_command_of_kind : CommandKind → List (List ℕ) → Option grammar_commands.Command
+argument_command_of_kind kind args = option_and_then (command_by_arguments (argument_command_kind_name kind)) (argument_line_of args)
 
 -- the network of an option, and the arguments after it
 abbrev pub argument_option_pair_seen : Bor (List ℕ) × Bor (List (String Global)) → List ℕ × List (List ℕ)

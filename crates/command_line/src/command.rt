@@ -1,8 +1,8 @@
 ghost use Rattle.std.specs.Prelude.{◌≡◌, ◌≤◌, true, IfOk, IfErr, IfSome, Some, is_some, length, map, string_bytes, option_map};
-ghost use Rattle.command_line.specs.Named.{HasPolicyArguments, MayBePolicyArguments, ArgumentsNamePolicies, audit_arguments_named, command_named, command_kind_name, argument_line_seen, argument_names_seen, replay_arguments_named};
+ghost use Rattle.command_line.specs.Named.{HasPolicyArguments, MayBePolicyArguments, ArgumentsNamePolicies, audit_arguments_named, argument_command_seen, argument_command_kind_name, argument_line_seen, argument_names_seen, replay_arguments_named};
 ghost use Rattle.command_line.specs.Commands as grammar;
-ghost use Rattle.command_line.specs.Grammar.{audit_from, command_by, command_of, load_from_argument, play_from_arguments};
-ghost use Rattle.five_tuple.specs.Texts.{number_up_to};
+ghost use Rattle.command_line.specs.Grammar.{audit_command_from_arguments, command_by_arguments, command_of_arguments, load_from_argument, play_from_arguments};
+ghost use Rattle.five_tuple.specs.Texts.{tuple_number_up_to};
 
 use crate::grammar::{CommandKind, grammar_command_kind};
 use crate::read::{ArgumentLine, read_argument_line};
@@ -65,10 +65,10 @@ pub enum Command<'a> {
 /// Only out of memory, and only for arguments of the grammar.
 pub fn read_command(alloc: Global, args: &[String]) -> Result<Option<Command<'_>>, AllocError>
     ensures value { IfOk result (λ found.
-        option_map command_named found ≡ command_of (map string_bytes args.now)) }
+        option_map argument_command_seen found ≡ command_of_arguments (map string_bytes args.now)) }
     ensures named { IfOk result (λ found. IfSome found ArgumentsNamePolicies) }
     ensures needless { IfErr result (λ _.
-        is_some (command_of (map string_bytes args.now)) ≡ true) }
+        is_some (command_of_arguments (map string_bytes args.now)) ≡ true) }
 {
     let Some(kind) = grammar_command_kind(args) else {
         return Ok(None);
@@ -79,9 +79,9 @@ pub fn read_command(alloc: Global, args: &[String]) -> Result<Option<Command<'_>
 
 // The command of this kind with this line of arguments.
 fn command_from<'a>(kind: CommandKind, line: ArgumentLine<'a>) -> Command<'a>
-    requires { is_some (command_by (command_kind_name kind) (argument_line_seen line)) ≡ true }
-    ensures command { Some (command_named result)
-        ≡ command_by (command_kind_name kind) (argument_line_seen line.entry) }
+    requires { is_some (command_by_arguments (argument_command_kind_name kind) (argument_line_seen line)) ≡ true }
+    ensures command { Some (argument_command_seen result)
+        ≡ command_by_arguments (argument_command_kind_name kind) (argument_line_seen line.entry) }
     ensures named { ArgumentsNamePolicies result }
 {
     match kind {
@@ -119,9 +119,9 @@ fn replay_command_from<'a>(report: Report, line: ArgumentLine<'a>) -> ReplayArgs
 }
 
 fn audit_from_arguments<'a>(names: Vec<&'a str>) -> AuditArgs<'a>
-    requires { is_some (audit_from (argument_names_seen names.items)) ≡ true }
+    requires { is_some (audit_command_from_arguments (argument_names_seen names.items)) ≡ true }
     ensures args { Some (grammar.Audit (audit_arguments_named result))
-        ≡ audit_from (argument_names_seen names.entry.items) }
+        ≡ audit_command_from_arguments (argument_names_seen names.entry.items) }
     ensures few { MayBePolicyArguments (length result.policies.items) }
 {
     let mut names = names;
@@ -134,8 +134,8 @@ fn audit_from_arguments<'a>(names: Vec<&'a str>) -> AuditArgs<'a>
 
 // The number of a load case.
 fn load_from_argument(number: &str) -> u32
-    requires { is_some (load_from_argument (number_up_to 1000 number.now)) ≡ true }
-    ensures number { Some (grammar.Load result) ≡ load_from_argument (number_up_to 1000 number.now) }
+    requires { is_some (load_from_argument (tuple_number_up_to 1000 number.now)) ≡ true }
+    ensures number { Some (grammar.Load result) ≡ load_from_argument (tuple_number_up_to 1000 number.now) }
     ensures some { 1 ≤ result }
     ensures few { result ≤ 1000 }
 {

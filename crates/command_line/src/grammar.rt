@@ -1,8 +1,8 @@
 //! The test of the grammar, which allocates nothing.
 ghost use Rattle.std.specs.Prelude.{◌≡◌, ◌≤◌, ◌⊎◌, true, IfSome, IfNone, None, drop, is_some, length, map, option_map, string_bytes};
 ghost use Rattle.std.specs.List.{prefix_len};
-ghost use Rattle.command_line.specs.Named.{command_of_kind, option_cut_seen, command_kind_name, argument_name_seen, argument_option_pair_seen, argument_parts_seen};
-ghost use Rattle.command_line.specs.Grammar.{StatedArgumentLine as Stated, audit_by_grammar, command_by, command_of, cut_net_option_argument, cut_argument_options, cut_option_pair, cut_quiet_argument, options_end_together, is_name_argument, joined_net_argument, argument_line_from, line_of, load_of_arguments, net_argument_then_quiet, grammar_print_of, play_from_arguments, quiet_argument_then_net};
+ghost use Rattle.command_line.specs.Named.{argument_command_of_kind, argument_option_cut_seen, argument_command_kind_name, argument_name_seen, argument_option_pair_seen, argument_parts_seen};
+ghost use Rattle.command_line.specs.Grammar.{StatedArgumentLine as Stated, audit_by_argument_grammar, command_by_arguments, command_of_arguments, cut_net_option_argument, cut_argument_options, cut_argument_option_pair, cut_quiet_argument, argument_options_end_together, is_name_argument, joined_net_argument, argument_line_from, argument_line_of, load_of_arguments, net_argument_then_quiet, argument_grammar_print_of, play_from_arguments, quiet_argument_then_net};
 ghost use Rattle.command_line.specs.declared.report.Report.{Report};
 
 use crate::command::{MAX_LOAD, MAX_POLICIES};
@@ -39,10 +39,10 @@ struct ArgumentParts<'a> {
 /// The kind of the command of the arguments; `None` exactly if the grammar doesn't have them.
 pub(crate) fn grammar_command_kind(args: &[String]) -> Option<CommandKind>
     ensures some { IfSome result (λ kind.
-        (command_of_kind kind (drop 1 (map string_bytes args.now))
-        ≡ command_of (map string_bytes args.now))
-        × (is_some (command_of (map string_bytes args.now)) ≡ true)) }
-    ensures none { IfNone result (command_of (map string_bytes args.now) ≡ None) }
+        (argument_command_of_kind kind (drop 1 (map string_bytes args.now))
+        ≡ command_of_arguments (map string_bytes args.now))
+        × (is_some (command_of_arguments (map string_bytes args.now)) ≡ true)) }
+    ensures none { IfNone result (command_of_arguments (map string_bytes args.now) ≡ None) }
 {
     let [name, rest @ ..] = args else {
         return None;
@@ -55,8 +55,8 @@ pub(crate) fn grammar_command_kind(args: &[String]) -> Option<CommandKind>
 impl CommandKind {
     // The command that the argument names.
     fn named(arg: &str) -> Option<CommandKind>
-        ensures some { IfSome result (λ kind. arg.now ≡ command_kind_name kind) }
-        ensures none { IfNone result ((line : Stated) → command_by arg.now line ≡ None) }
+        ensures some { IfSome result (λ kind. arg.now ≡ argument_command_kind_name kind) }
+        ensures none { IfNone result ((line : Stated) → command_by_arguments arg.now line ≡ None) }
     {
         match arg {
             "replay" => Some(CommandKind::Replay),
@@ -72,7 +72,7 @@ impl CommandKind {
 
     // Whether these arguments may follow this command.
     fn takes(self, parts: &ArgumentParts<'_>) -> bool
-        ensures { result ≡ is_some (command_by (command_kind_name self) (argument_parts_seen parts.now)) }
+        ensures { result ≡ is_some (command_by_arguments (argument_command_kind_name self) (argument_parts_seen parts.now)) }
     {
         match self {
             CommandKind::Replay => takes_replay(parts),
@@ -97,7 +97,7 @@ fn takes_replay(parts: &ArgumentParts<'_>) -> bool
 }
 
 fn takes_audit_arguments(parts: &ArgumentParts<'_>) -> bool
-    ensures { result ≡ is_some (audit_by_grammar (argument_parts_seen parts.now)) }
+    ensures { result ≡ is_some (audit_by_argument_grammar (argument_parts_seen parts.now)) }
 {
     if parts.net.is_some() || parts.quiet {
         return false;
@@ -110,7 +110,7 @@ fn takes_audit_arguments(parts: &ArgumentParts<'_>) -> bool
 
 fn takes_print(count: usize, parts: &ArgumentParts<'_>) -> bool
     requires { (count ≡ 1) ⊎ (count ≡ 2) }
-    ensures { result ≡ is_some (grammar_print_of count (argument_parts_seen parts.now)) }
+    ensures { result ≡ is_some (argument_grammar_print_of count (argument_parts_seen parts.now)) }
 {
     parts.names.len() == count && !parts.quiet
 }
@@ -132,7 +132,7 @@ fn arguments_take_load(parts: &ArgumentParts<'_>) -> bool
 
 // The names and the options of the arguments after a command.
 fn argument_parts_of(args: &[String]) -> Option<ArgumentParts<'_>>
-    ensures { option_map argument_parts_seen result ≡ line_of (map string_bytes args.now) }
+    ensures { option_map argument_parts_seen result ≡ argument_line_of (map string_bytes args.now) }
 {
     let front = cut_argument_options(args);
     let (names, rest) = front.args.split_at(argument_name_count(front.args));
@@ -146,7 +146,7 @@ fn joined_argument_parts<'a>(
     back: Cut<'a>,
 ) -> Option<ArgumentParts<'a>>
     ensures { option_map argument_parts_seen result ≡ argument_line_from
-        (option_cut_seen front.entry) (map string_bytes names.entry.now) (option_cut_seen back.entry) }
+        (argument_option_cut_seen front.entry) (map string_bytes names.entry.now) (argument_option_cut_seen back.entry) }
 {
     if !options_end_together(&front, &back) {
         return None;
@@ -160,7 +160,7 @@ fn joined_argument_parts<'a>(
 
 // Whether no option is given twice, and nothing follows the last ones.
 fn options_end_together(front: &Cut<'_>, back: &Cut<'_>) -> bool
-    ensures { result ≡ options_end_together (option_cut_seen front.now) (option_cut_seen back.now) }
+    ensures { result ≡ argument_options_end_together (argument_option_cut_seen front.now) (argument_option_cut_seen back.now) }
 {
     !(front.net.is_some() && back.net.is_some())
         && !(front.quiet && back.quiet)
@@ -179,7 +179,7 @@ fn argument_name_count(args: &[String]) -> usize
 
 // The options that begin the arguments, and the arguments after them.
 fn cut_argument_options(args: &[String]) -> Cut<'_>
-    ensures { option_cut_seen result ≡ cut_argument_options (map string_bytes args.now) }
+    ensures { argument_option_cut_seen result ≡ cut_argument_options (map string_bytes args.now) }
 {
     if let Some(rest) = cut_quiet_argument(args) {
         return quiet_argument_then_net(rest);
@@ -196,7 +196,7 @@ fn cut_argument_options(args: &[String]) -> Cut<'_>
 
 // A network's option may follow the flag.
 fn quiet_argument_then_net(args: &[String]) -> Cut<'_>
-    ensures { option_cut_seen result ≡ quiet_argument_then_net (map string_bytes args.now) }
+    ensures { argument_option_cut_seen result ≡ quiet_argument_then_net (map string_bytes args.now) }
 {
     match cut_net_option_argument(args) {
         None => Cut {
@@ -214,7 +214,7 @@ fn quiet_argument_then_net(args: &[String]) -> Cut<'_>
 
 // A flag may follow the network's option.
 fn net_argument_then_quiet<'a>(net: &'a str, args: &'a [String]) -> Cut<'a>
-    ensures { option_cut_seen result ≡ net_argument_then_quiet net.entry.now (map string_bytes args.now) }
+    ensures { argument_option_cut_seen result ≡ net_argument_then_quiet net.entry.now (map string_bytes args.now) }
 {
     match cut_quiet_argument(args) {
         None => Cut {
@@ -260,7 +260,7 @@ fn cut_net_option_argument(args: &[String]) -> Option<(&str, &[String])>
 
 // If this is `--net` and a name follows: that name, and the arguments after it.
 fn cut_option_pair<'a>(option: &str, args: &'a [String]) -> Option<(&'a str, &'a [String])>
-    ensures { option_map argument_option_pair_seen result ≡ cut_option_pair option.now (map string_bytes args.entry.now) }
+    ensures { option_map argument_option_pair_seen result ≡ cut_argument_option_pair option.now (map string_bytes args.entry.now) }
 {
     let [net, rest @ ..] = args else {
         return None;

@@ -1,9 +1,9 @@
 //! Reads arguments of the grammar with the crate `clap`.
 ghost use Rattle.std.specs.Prelude.{◌≡◌, Bool, true, false, IfOk, Some, codes, drop, is_some, map, option_map, string_bytes};
 ghost use Rattle.clap.specs.Words.{app_of, first_value, found_of, matched_of, one_text, raw_values, rule_of};
-ghost use Rattle.command_line.specs.Line.{IsFlagRead, IsNetArgumentRead, argument_app_with, argument_app_of_command, names_arg, net_and, net_arg, none, command_options_of, quiet_argument};
-ghost use Rattle.command_line.specs.Named.{command_of_kind, argument_line_seen, argument_names_seen, argument_name_seen};
-ghost use Rattle.command_line.specs.Grammar.{line_of};
+ghost use Rattle.command_line.specs.Line.{IsArgumentFlagRead, IsNetArgumentRead, argument_app_with, argument_app_of_command, argument_names_rule, net_and, argument_net_rule, none, argument_options_of_kind, quiet_argument};
+ghost use Rattle.command_line.specs.Named.{argument_command_of_kind, argument_line_seen, argument_names_seen, argument_name_seen};
+ghost use Rattle.command_line.specs.Grammar.{argument_line_of};
 
 use crate::grammar::CommandKind;
 use clap::error::ErrorKind;
@@ -27,9 +27,9 @@ pub(crate) fn read_argument_line<'a>(
     kind: CommandKind,
     args: &'a [String],
 ) -> Result<ArgumentLine<'a>, AllocError>
-    requires { is_some (command_of_kind kind (drop 1 (map string_bytes args.now))) ≡ true }
+    requires { is_some (argument_command_of_kind kind (drop 1 (map string_bytes args.now))) ≡ true }
     ensures { IfOk result (λ line.
-        line_of (drop 1 (map string_bytes args.now)) ≡ Some (argument_line_seen line)) }
+        argument_line_of (drop 1 (map string_bytes args.now)) ≡ Some (argument_line_seen line)) }
 {
     let command = line_command(alloc, kind)?;
     match command.try_get_matches_from(args) {
@@ -87,7 +87,7 @@ fn bare_command<'a>(alloc: Global, name: &'a str) -> Result<Command<'a>, AllocEr
 }
 
 fn names_arg<'a>(alloc: Global) -> Arg<'a>
-    ensures rule { rule_of result ≡ names_arg }
+    ensures rule { rule_of result ≡ argument_names_rule }
     ensures here { result.global ≡ false }
 {
     Arg::new(alloc, "names")
@@ -96,7 +96,7 @@ fn names_arg<'a>(alloc: Global) -> Arg<'a>
 }
 
 fn net_arg<'a>(alloc: Global) -> Arg<'a>
-    ensures rule { rule_of result ≡ net_arg }
+    ensures rule { rule_of result ≡ argument_net_rule }
     ensures here { result.global ≡ false }
 {
     Arg::new(alloc, "net").long("net").action(ArgAction::Set)
@@ -119,13 +119,13 @@ fn clap_line_in<'a>(
 ) -> Result<ArgumentLine<'a>, AllocError>
     requires names { is_some (matched_of (found_of matches.now) (codes "names")) ≡ true }
     requires quiet { (quiet : Bool) ×
-        IsFlagRead (command_options_of kind) (one_text (found_of matches.now) (codes "quiet")) quiet }
+        IsArgumentFlagRead (argument_options_of_kind kind) (one_text (found_of matches.now) (codes "quiet")) quiet }
     ensures names { IfOk result (λ line.
         option_map raw_values (matched_of (found_of matches.now) (codes "names"))
         ≡ Some (argument_names_seen line.names.items)) }
-    ensures net { IfOk result (λ line. IsNetArgumentRead (command_options_of kind)
+    ensures net { IfOk result (λ line. IsNetArgumentRead (argument_options_of_kind kind)
         (first_value (found_of matches.now) (codes "net")) (argument_name_seen line.net)) }
-    ensures quiet { IfOk result (λ line. IsFlagRead (command_options_of kind)
+    ensures quiet { IfOk result (λ line. IsArgumentFlagRead (argument_options_of_kind kind)
         (one_text (found_of matches.now) (codes "quiet")) line.quiet) }
 {
     let names = match matches.get_strs("names") {
@@ -141,7 +141,7 @@ fn clap_line_in<'a>(
 
 // The network, if the command takes one.
 fn clap_net_in<'a>(kind: CommandKind, matches: &ArgMatches<'a>) -> Option<&'a str>
-    ensures { IsNetArgumentRead (command_options_of kind)
+    ensures { IsNetArgumentRead (argument_options_of_kind kind)
         (first_value (found_of matches.now) (codes "net")) (argument_name_seen result) }
 {
     match kind {
@@ -157,8 +157,8 @@ fn clap_net_in<'a>(kind: CommandKind, matches: &ArgMatches<'a>) -> Option<&'a st
 // Whether the flag is given, if the command takes it.
 fn clap_flag_in(kind: CommandKind, matches: &ArgMatches<'_>) -> bool
     requires { (quiet : Bool) ×
-        IsFlagRead (command_options_of kind) (one_text (found_of matches.now) (codes "quiet")) quiet }
-    ensures { IsFlagRead (command_options_of kind) (one_text (found_of matches.now) (codes "quiet")) result }
+        IsArgumentFlagRead (argument_options_of_kind kind) (one_text (found_of matches.now) (codes "quiet")) quiet }
+    ensures { IsArgumentFlagRead (argument_options_of_kind kind) (one_text (found_of matches.now) (codes "quiet")) result }
 {
     match kind {
         CommandKind::Replay => matches.get_flag("quiet"),

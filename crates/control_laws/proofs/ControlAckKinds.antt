@@ -2,10 +2,10 @@
 -- while the switch is up in it.
 use Rattle.std.proofs.Common.{[], ◌++◌, ◌<◌, ◌==◌, ◌∷◌, ◌≡◌, ◌≤◌, Bool, IfSome, IsFalse, IsTrue, List, None, Option, Some, ap, arith, false, inl, inr, max, option_and_then, option_to_list, refl, subst, sym, true, ℕ, rules}
 use Rattle.base.proofs.Exports.{AllByRecursion, cases_lt, each_append, each_option, list_any, list_any-append, nat_tests}
-use Rattle.update_machine.specs.Exports.{AreMachineMarksSettled, Body, Hello, Installed, Item, Setting, Stamped, acked_stamp, journal_body_to_controller, journal_boot_of, journal_controller_heard, journal_current_mark, has_acked, heard, machine_installed_version, installs_version, is_member, is_over, is_up, journal_known_boot, journal_message_of, journal_next_retired, journal_opened_at, journal_retired_mark, machine_speaking_in_body, journal_stamp_of, machine_stamped_version_in}
-use Rattle.control_laws.specs.Exports.{BootsAreKnown, HasControlItemCause, IsControlSenderPresent, IsRightControlMessageFrom}
+use Rattle.update_machine.specs.Exports.{AreMachineMarksSettled, Body, Hello, Installed, Item, Setting, Stamped, acked_stamp, journal_body_to_controller, journal_boot_of, journal_controller_heard, journal_current_mark, has_acked, heard, machine_installed_version, machine_body_installs_version, is_member, is_over, is_up, journal_known_boot, journal_message_of, journal_next_retired, journal_opened_at, journal_retired_mark, machine_speaking_in_body, journal_stamp_of, machine_stamped_version_in}
+use Rattle.control_laws.specs.Exports.{ControlBootsArePast, HasControlItemCause, IsControlSenderPresent, IsRightControlMessageFrom}
 use Rattle.control_laws.proofs.ControlFactsGrown.{boot_more, boot_rises, by_number, heard_more, raised_up, stamp_told, up_more}
-use Rattle.ctrl_msg.specs.Exports.{to_controller}
+use Rattle.ctrl_msg.specs.Exports.{message_to_controller}
 use Rattle.update_machine.proofs.Exports.{open_net, start_laws}
 use Rattle.control_laws.proofs.ControlSaidToController.{each_weaker, tells, told_by, told_by_more, told_sent}
 
@@ -73,27 +73,27 @@ pub record AckKind : Type 1 where
 -- what was sent or told of the boot that lasts is so; nothing was told of a boot to come
 pub record AreTrue (kind : AckKind) (journal : List Item) : Type 0 where
   pub sent : (s boot version n : ℕ)
-      → journal_message_of journal n ≡ Some (to_controller (kind.writes s boot version))
+      → journal_message_of journal n ≡ Some (message_to_controller (kind.writes s boot version))
       → IsTrue (is_up journal s) → boot ≡ journal_boot_of journal s → kind.Holds journal s version
   pub told : (s : ℕ) → IsTrue (is_up journal s)
       → AllByRecursion (kind.Holds journal s) (told_by (kind.reads s (journal_boot_of journal s)) journal)
   pub past : (s boot : ℕ) → journal_boot_of journal s < boot → told_by (kind.reads s boot) journal ≡ []
 
 -- no acknowledgement is of a boot to come
-past_sent : (kind : AckKind) (before : List Item) (s boot version n : ℕ) → BootsAreKnown before
-    → journal_message_of before n ≡ Some (to_controller (kind.writes s boot version))
+past_sent : (kind : AckKind) (before : List Item) (s boot version n : ℕ) → ControlBootsArePast before
+    → journal_message_of before n ≡ Some (message_to_controller (kind.writes s boot version))
     → boot ≤ journal_boot_of before s
 past_sent kind before s boot version n boots sent = rw (kind.speaks s boot version) at
-    (boots.sent n (to_controller (kind.writes s boot version)) sent)
+    (boots.sent n (message_to_controller (kind.writes s boot version)) sent)
 
 sent_on : (kind : AckKind) (setting : Setting) (before : List Item) (next : Item)
-    (s boot version n : ℕ) → HasControlItemCause setting before next → BootsAreKnown before
+    (s boot version n : ℕ) → HasControlItemCause setting before next → ControlBootsArePast before
     → AreTrue kind before
-    → journal_message_of (before ++ next ∷ []) n ≡ Some (to_controller (kind.writes s boot version))
+    → journal_message_of (before ++ next ∷ []) n ≡ Some (message_to_controller (kind.writes s boot version))
     → IsTrue (is_up (before ++ next ∷ []) s) → boot ≡ journal_boot_of (before ++ next ∷ []) s
     → kind.Holds (before ++ next ∷ []) s version
 sent_on kind setting before next s boot version n cause boots fact is up own =
-    elim (by_number before next n (to_controller (kind.writes s boot version)) is) [
+    elim (by_number before next n (message_to_controller (kind.writes s boot version)) is) [
       | inl new ↦ kind.kept before next s version (ap (turns s) new)
           (kind.right before s boot version (subst (HasControlItemCause setting before) new cause)).1
       | inr old ↦ let on = goes_on _ _ _ s _ cause (past_sent kind _ s boot _ n boots old) up own in
@@ -103,7 +103,7 @@ sent_on kind setting before next s boot version n cause boots fact is up own =
 -- a told acknowledgement was sent
 ack_sent : (kind : AckKind) (before : List Item) (s boot number version : ℕ)
     → option_and_then (kind.reads s boot) (journal_body_to_controller before number) ≡ Some version
-    → journal_message_of before number ≡ Some (to_controller (kind.writes s boot version))
+    → journal_message_of before number ≡ Some (message_to_controller (kind.writes s boot version))
 ack_sent kind before s boot number version told = search (rules, told_sent)
 
 -- what an item says about the boot that lasts is true
@@ -114,7 +114,7 @@ tells_true kind before next s boot fact up own = search (rules, each_option, ack
 
 -- and of a boot to come it tells nothing
 tells_past : (kind : AckKind) (before : List Item) (next : Item) (s boot : ℕ)
-    → BootsAreKnown before → journal_boot_of before s < boot → tells (kind.reads s boot) before next ≡ []
+    → ControlBootsArePast before → journal_boot_of before s < boot → tells (kind.reads s boot) before next ≡ []
 tells_past kind before (Item.Delivered number) s boot boots past = by_told _ refl where
   by_told : (o : Option ℕ) → option_and_then (kind.reads s boot) (journal_body_to_controller before number)
       ≡ o → option_to_list o ≡ []
@@ -125,14 +125,14 @@ tells_past kind before (Item.Delivered number) s boot boots past = by_told _ ref
 tells_past kind before _ s boot boots past = refl
 
 past_on : (kind : AckKind) (setting : Setting) (before : List Item) (next : Item) (s boot : ℕ)
-    → HasControlItemCause setting before next → BootsAreKnown before → AreTrue kind before
+    → HasControlItemCause setting before next → ControlBootsArePast before → AreTrue kind before
     → journal_boot_of (before ++ next ∷ []) s < boot
     → told_by (kind.reads s boot) (before ++ next ∷ []) ≡ []
 past_on kind setting before next s boot cause boots fact past =
     search (rules, boot_rises, told_by_more, tells_past)
 
 told_on : (kind : AckKind) (setting : Setting) (before : List Item) (next : Item) (s : ℕ)
-    → HasControlItemCause setting before next → BootsAreKnown before → AreTrue kind before
+    → HasControlItemCause setting before next → ControlBootsArePast before → AreTrue kind before
     → IsTrue (is_up (before ++ next ∷ []) s) → AllByRecursion (kind.Holds (before ++ next ∷ []) s)
     (told_by (kind.reads s (journal_boot_of (before ++ next ∷ []) s)) (before ++ next ∷ []))
 told_on kind setting before next s cause boots fact up =
@@ -157,7 +157,7 @@ told_on kind setting before next s cause boots fact up =
     ]
 
 pub true_on : (kind : AckKind) (setting : Setting) (before : List Item) (next : Item)
-    → HasControlItemCause setting before next → BootsAreKnown before → AreTrue kind before
+    → HasControlItemCause setting before next → ControlBootsArePast before → AreTrue kind before
     → AreTrue kind (before ++ next ∷ [])
 true_on kind setting before next cause boots fact = record {
   sent = λ s boot version n is up own. sent_on kind _ _ next s boot _ n cause boots fact is up own;
@@ -185,11 +185,11 @@ abbrev pub of_tables : AckKind
 of_tables = record {
   writes = Installed;
   reads = machine_installed_version;
-  Holds = λ journal s version. IsTrue (list_any (installs_version version) (heard journal s));
+  Holds = λ journal s version. IsTrue (list_any (machine_body_installs_version version) (heard journal s));
   is = installed_is;
   speaks = λ s boot version. refl;
   right = λ before s boot version right. (right.present, right.heard);
-  kept = λ before next s version same here. heard_kept (installs_version version) before next s same
+  kept = λ before next s version same here. heard_kept (machine_body_installs_version version) before next s same
       here;
 }
 
@@ -209,8 +209,8 @@ of_stamps = record {
 
 -- in its second boot switch 0 acknowledged the current version, and isn't opened
 abbrev joining : List Item
-joining = Item.Down 0 ∷ Item.Booted 0 2 ∷ Item.Sent 1 (to_controller (Hello 0 2)) ∷ Item.Delivered 1
-    ∷ Item.Sent 2 (to_controller (Installed 0 2 1)) ∷ Item.Delivered 2 ∷ []
+joining = Item.Down 0 ∷ Item.Booted 0 2 ∷ Item.Sent 1 (message_to_controller (Hello 0 2)) ∷ Item.Delivered 1
+    ∷ Item.Sent 2 (message_to_controller (Installed 0 2 1)) ∷ Item.Delivered 2 ∷ []
 
 not_unopened : AreMachineMarksSettled open_net joining → ⊥
 unfolding journal_controller_heard journal_current_mark has_acked is_member is_over journal_known_boot journal_message_of journal_opened_at
@@ -218,10 +218,10 @@ not_unopened settled = let no : true ≡ false = settled.joining 0 0 (omega arit
 
 -- both switches stamp with version 2, and version 1 isn't retired
 abbrev stamped : List Item
-stamped = Item.Submitted 2 2 ∷ Item.Sent 1 (to_controller (Installed 0 1 2))
-    ∷ Item.Sent 2 (to_controller (Installed 1 1 2)) ∷ Item.Delivered 1 ∷ Item.Delivered 2
-    ∷ Item.Current 2 ∷ Item.Sent 3 (to_controller (Stamped 0 1 2))
-    ∷ Item.Sent 4 (to_controller (Stamped 1 1 2)) ∷ Item.Delivered 3 ∷ Item.Delivered 4 ∷ []
+stamped = Item.Submitted 2 2 ∷ Item.Sent 1 (message_to_controller (Installed 0 1 2))
+    ∷ Item.Sent 2 (message_to_controller (Installed 1 1 2)) ∷ Item.Delivered 1 ∷ Item.Delivered 2
+    ∷ Item.Current 2 ∷ Item.Sent 3 (message_to_controller (Stamped 0 1 2))
+    ∷ Item.Sent 4 (message_to_controller (Stamped 1 1 2)) ∷ Item.Delivered 3 ∷ Item.Delivered 4 ∷ []
 
 not_unretired : AreMachineMarksSettled open_net stamped → ⊥
 unfolding journal_controller_heard journal_current_mark is_member is_over journal_known_boot journal_message_of journal_opened_at acked_stamp

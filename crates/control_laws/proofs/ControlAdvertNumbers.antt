@@ -1,7 +1,7 @@
 -- How far boots and the numbers of own adverts rise with the messages that are sent.
 use Rattle.std.proofs.Common.{[], if◌then◌else◌, ◌&&◌, ◌*◌, ◌++◌, ◌+◌, ◌<◌, ◌==◌, ◌^◌, ◌∙◌, ◌∷◌, ◌≡◌, ◌≤◌, All, Bool, List, None, Some, ap, append_assoc, arith, cond, count_by, eqb-true, false, filter, inl, inr, length, map, ne_eqb, not, refl, subst, suc, sum_by, sym, true, unwrap_or, zero, ℕ}
 use Rattle.base.proofs.Exports.{All-cons, All-head, All-nil, All-tail, All-weaker, get_or-le-sum_by, get_or-range_with_len, given_some, has_least, length-flat_map, length-map, length-range_with_len, mask_of_lt, range_with_len, sum_by-cons, sum_filter}
-use Rattle.update_machine.specs.Exports.{JournalItemsHaveCauses, Item, MachineLinksKeep, Message, NoneConcern, Setting, StepItems, StepOfRow, machine_advert_to, journal_adverts_known, journal_after_steps, journal_boot_of, item_changes_steps, concerns_links, journal_step_changes_links, journal_usable_links_changed, journal_held_adverts, is_sending, is_up, journal_link_changes, machine_messages_of, machine_messages_over_link, near, own_advert, journal_own_seq, piece, journal_steps_in, setting_switches_of, usable_links, machine_steps_with_item}
+use Rattle.update_machine.specs.Exports.{JournalItemsHaveCauses, Item, MachineLinksKeep, Message, NoMachineItemConcerns, Setting, MachineStepItems, MachineStepOfRow, machine_advert_to, journal_adverts_known, journal_after_steps, journal_boot_of, machine_item_changes_steps, machine_item_concerns_links, journal_step_changes_links, journal_usable_links_changed, journal_held_adverts, is_machine_sending_item, is_up, journal_link_changes, machine_messages_of, machine_messages_over_link, near, own_advert, journal_own_seq, piece, journal_steps_in, machine_switches_of, machine_usable_links, machine_steps_with_item}
 use Rattle.failover.specs.Exports.{held_advert}
 use Rattle.base.specs.Exports.{has, least_in_number_set, switches}
 use Rattle.net_file.specs.Exports.{IsNet, are_linked_in_net}
@@ -22,59 +22,59 @@ use Rattle.control_laws.proofs.ControlPieceKinds.{IsBootPiece, IsQuietPiece, Pie
 
 -- ---- steps began in past boots
 
-abbrev pub Began : ℕ → ℕ → List StepItems → Type 0
-Began s boot steps = All (λ (step : StepItems). journal_boot_of step.before s ≤ boot) steps
+abbrev pub Began : ℕ → ℕ → List MachineStepItems → Type 0
+Began s boot steps = All (λ (step : MachineStepItems). journal_boot_of step.before s ≤ boot) steps
 
 -- no step began in a boot of the switch that is to come
 pub record StepsArePast (journal : List Item) : Type 0 where
   pub past : (s : ℕ) → Began s (journal_boot_of journal s) (journal_steps_in journal)
 
-began_with : (s boot : ℕ) (steps : List StepItems) (next : Item) → Began s boot steps
+began_with : (s boot : ℕ) (steps : List MachineStepItems) (next : Item) → Began s boot steps
     → Began s boot (machine_steps_with_item steps next)
 began_with s boot [] next began = began
 began_with s boot (newest ∷ steps) next began =
-    All-cons (λ (step : StepItems). journal_boot_of step.before s ≤ boot)
+    All-cons (λ (step : MachineStepItems). journal_boot_of step.before s ≤ boot)
     (record newest { items = newest.items ++ next ∷ [] }) steps
-    (All-head (λ (step : StepItems). journal_boot_of step.before s ≤ boot) newest steps began)
-    (All-tail (λ (step : StepItems). journal_boot_of step.before s ≤ boot) newest steps began)
+    (All-head (λ (step : MachineStepItems). journal_boot_of step.before s ≤ boot) newest steps began)
+    (All-tail (λ (step : MachineStepItems). journal_boot_of step.before s ≤ boot) newest steps began)
 
-began_more : (s boot : ℕ) (before : List Item) (steps : List StepItems) (next : Item)
-    → journal_boot_of before s ≤ boot → Began s boot steps → Began s boot (item_changes_steps before steps next)
+began_more : (s boot : ℕ) (before : List Item) (steps : List MachineStepItems) (next : Item)
+    → journal_boot_of before s ≤ boot → Began s boot steps → Began s boot (machine_item_changes_steps before steps next)
 began_more s boot before steps (Item.Row row step) now began =
-    All-cons (λ (one : StepItems). journal_boot_of one.before s ≤ boot)
+    All-cons (λ (one : MachineStepItems). journal_boot_of one.before s ≤ boot)
     (record { before = before; items = Item.Row row step ∷ [] }) steps now began
 began_more s boot before steps next now began = began_with s boot steps next began
 
 pub began_on : (s boot : ℕ) (before : List Item) (next : Item) → journal_boot_of before s ≤ boot
     → Began s boot (journal_steps_in before) → Began s boot (journal_steps_in (before ++ next ∷ []))
 unfolding journal_steps_in
-began_on s boot before next now began = rw (folded_append item_changes_steps [] before (next ∷ []))
+began_on s boot before next now began = rw (folded_append machine_item_changes_steps [] before (next ∷ []))
     (began_more s boot before (journal_steps_in before) next now began)
 
 past_on : (setting : Setting) → AreKept (HasControlItemCause setting) StepsArePast
 past_on setting before next cause was = record {
   past = λ s. let rises = boot_rises setting before next s cause in
       began_on s (journal_boot_of (before ++ next ∷ []) s) before next rises
-      (All-weaker (λ (step : StepItems). journal_boot_of step.before s ≤ journal_boot_of before s)
-      (λ (step : StepItems). journal_boot_of step.before s ≤ journal_boot_of (before ++ next ∷ []) s)
+      (All-weaker (λ (step : MachineStepItems). journal_boot_of step.before s ≤ journal_boot_of before s)
+      (λ (step : MachineStepItems). journal_boot_of step.before s ≤ journal_boot_of (before ++ next ∷ []) s)
       (λ step below. omega (arith, below, rises)) (journal_steps_in before) (was.past s));
 }
 
 past_at_first : StepsArePast []
 unfolding journal_steps_in
 past_at_first = record {
-  past = λ s. All-nil (λ (step : StepItems). journal_boot_of step.before s ≤ journal_boot_of [] s);
+  past = λ s. All-nil (λ (step : MachineStepItems). journal_boot_of step.before s ≤ journal_boot_of [] s);
 }
 
 pub steps_past : FromCauses (λ setting. StepsArePast)
 steps_past = from_causes (λ setting. StepsArePast) past_on (λ setting. past_at_first)
 
 -- so none of them counts in a new boot
-pub none_counted : (setting : Setting) (s old boot : ℕ) (steps : List StepItems) → old < boot
+pub none_counted : (setting : Setting) (s old boot : ℕ) (steps : List MachineStepItems) → old < boot
     → Began s old steps → count_by (journal_step_changes_links setting s boot) steps ≡ 0
 none_counted setting s old boot [] below began = refl
 none_counted setting s old boot (step ∷ steps) below began =
-    let first = All-head (λ (one : StepItems). journal_boot_of one.before s ≤ old) step steps began in
+    let first = All-head (λ (one : MachineStepItems). journal_boot_of one.before s ≤ old) step steps began in
     let here : journal_step_changes_links setting s boot step ≡ false =
     ap (λ b. b && not (near setting step.before s == near setting (step.before ++ step.items) s))
     (ne_eqb (journal_boot_of step.before s) boot (λ same. absurd (omega (arith, same, first, below)))) in
@@ -83,7 +83,7 @@ none_counted setting s old boot (step ∷ steps) below began =
     ∙ omega (
       arith,
       none_counted setting s old boot steps below
-          (All-tail (λ (one : StepItems). journal_boot_of one.before s ≤ old) step steps began),
+          (All-tail (λ (one : MachineStepItems). journal_boot_of one.before s ≤ old) step steps began),
     )
 
 -- ---- what is kept, step by step
@@ -96,7 +96,7 @@ pub record FewNumbers (setting : Setting) (journal : List Item) : Type 0 where
       → journal_own_seq setting journal s ≤ 2 * sent journal + 1 + once (near setting journal s == 0)
 
 pub sent_both : (before items : List Item) → sent (before ++ items) ≡ sent before + sent items
-sent_both before items = count_of_append is_sending before items
+sent_both before items = count_of_append is_machine_sending_item before items
 
 pub at_most_one : (b : Bool) → once b ≤ 1
 at_most_one true = omega arith
@@ -159,7 +159,7 @@ over_some setting before now s k holds = by_link (has (near setting before s) k)
 
 near_small : (setting : Setting) (journal : List Item) (s : ℕ) → near setting journal s < 2 ^ 64
 unfolding near
-near_small setting journal s = mask_of_lt (are_linked_in_net (usable_links setting journal) s)
+near_small setting journal s = mask_of_lt (are_linked_in_net (machine_usable_links setting journal) s)
 
 -- a mask that isn't 0 has a switch of the network
 has_neighbour : (setting : Setting) (now : List Item) (s : ℕ) → IsNet setting.net
@@ -188,12 +188,12 @@ tells_some setting before now s net there up changed told some =
     omega (
       arith,
       length-flat_map (machine_messages_of setting before now)
-          (filter (journal_usable_links_changed setting before now) (setting_switches_of setting)),
+          (filter (journal_usable_links_changed setting before now) (machine_switches_of setting)),
       at_least (λ x. length (machine_messages_of setting before now x)) (journal_usable_links_changed setting before now)
           count s there
           (ap (λ b. b && not (near setting before s == near setting now s)) up ∙ ap not changed),
       length-flat_map (machine_messages_over_link setting before now s)
-          (filter (has (near setting now s)) (setting_switches_of setting)),
+          (filter (has (near setting now s)) (machine_switches_of setting)),
       at_least (λ x. length (machine_messages_over_link setting before now s x)) (has (near setting now s))
           count k neighbour.1 neighbour.2,
       over_some setting before now s k (holds_own setting now s small told),
@@ -240,7 +240,7 @@ changed_few setting before now s told net there after few = by_up (is_up now s) 
   by_up false e = omega (arith, down_none setting now s e)
 
 changes_silent : (setting : Setting) (before now : List Item)
-    → NoneConcern concerns_links now (journal_link_changes setting before now)
+    → NoMachineItemConcerns machine_item_concerns_links now (journal_link_changes setting before now)
 unfolding journal_link_changes
 changes_silent setting before now = sends_silent now _
 
@@ -415,7 +415,7 @@ numbers_at_first setting = record {
 }
 
 pub numbers_behind : (setting : Setting) → IsNet setting.net → (before : List Item)
-    (steps : List StepOfRow) → JournalItemsHaveCauses (HasControlItemCause setting) [] before
+    (steps : List MachineStepOfRow) → JournalItemsHaveCauses (HasControlItemCause setting) [] before
     → FewNumbers setting before → FewNumbers setting (journal_after_steps setting before steps)
 numbers_behind setting net before [] have few = few
 numbers_behind setting net before (next ∷ steps) have few =

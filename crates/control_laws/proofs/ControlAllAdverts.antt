@@ -1,7 +1,7 @@
 -- What each own advert that is told has, and each first one, and items keep, all adverts have.
 use Rattle.std.proofs.Common.{[], ◌&&◌, ◌++◌, ◌<◌, ◌==◌, ◌∙◌, ◌∷◌, ◌≡◌, ◌≢◌, All, Bool, IsFalse, IsTrue, List, None, Option, Some, ap, append_assoc, arith, false, filter_map, if◌then◌else◌, inl, inr, length, map, nat_lt, not, option_to_list, refl, slice_index, subst, sym, true, ℕ}
 use Rattle.base.proofs.Exports.{⊤, All-append, All-cons, All-nil, All-same, All-weaker, AllByRecursion, cases_eq, each_append, filter_map-append, get_or-map-range_with_len, get_or-replicate, nat_tests, option_map_or, recursion_from_All}
-use Rattle.update_machine.specs.Exports.{Advert, Advertise, Body, Confirm, Crash, Deliver, JournalItemsHaveCauses, Item, LinkDown, LinkUp, Message, Packet, Resend, Restart, Setting, Step, Update, journal_advert_known, machine_advert_to, journal_adverts_begun, journal_adverts_heard, journal_body_to_switch, item_changes_steps, concerns_links, journal_crash_items, deliver_items, heard, is_advert, is_first_boot_in_journal, journal_items_then, journal_link_changes, machine_link_items, journal_message_of, near, journal_next_packet, machine_advert_of_other, own_advert, journal_own_advert_sent, piece, restart_items, machine_sent_items_from, journal_stamp_of, machine_step_items, journal_steps_in, journal_switch_items, setting_switches_of, machine_message_to_switch}
+use Rattle.update_machine.specs.Exports.{Advert, Advertise, Body, Confirm, Crash, Deliver, JournalItemsHaveCauses, Item, LinkDown, LinkUp, Message, Packet, Resend, Restart, Setting, Step, Update, journal_advert_known, machine_advert_to, journal_adverts_begun, journal_adverts_heard, journal_body_to_switch, machine_item_changes_steps, machine_item_concerns_links, journal_crash_items, machine_deliver_items, heard, is_machine_advert_body, is_first_boot_in_journal, journal_items_then, journal_link_changes, machine_link_items, journal_message_of, near, journal_next_packet, machine_advert_of_other, own_advert, journal_own_advert_sent, piece, machine_restart_items, machine_sent_items_from, journal_stamp_of, machine_step_items, journal_steps_in, journal_switch_items, machine_switches_of, machine_message_to_switch}
 use Rattle.update_machine.proofs.Exports.{PiecesHave, folded_append, have_append, have_first, have_put, known_link_laws, start_laws}
 use Rattle.control_laws.proofs.ControlCommands.{changes_controller_heard, confirm_control, controller_control, last_heard, passed_told, resend_caused, sends_told, update_has}
 use Rattle.control_laws.proofs.ControlStampingSwitches.{ArePlain, IsPlain, behind_items, control_is_plain, control_plain, losts_have, packet_plain, step_plain}
@@ -13,13 +13,13 @@ use Rattle.failover.specs.Exports.{IsNewestAdvert, first_advert, first_adverts, 
 use Rattle.base.specs.Exports.{has}
 use Rattle.failover.proofs.FailoverHeldAdverts.{held-first}
 use Rattle.net_file.specs.Exports.{links_of}
-use Rattle.steps.specs.Exports.{HasSwitch}
+use Rattle.steps.specs.Exports.{StepSwitchExists}
 
 -- ---- each piece has its causes: of each advert that is sent, and of each change of links
 
 -- ---- plain items have their causes
 
-plain_body : (setting : Setting) (before : List Item) (body : Body) → IsFalse (is_advert body)
+plain_body : (setting : Setting) (before : List Item) (body : Body) → IsFalse (is_machine_advert_body body)
     → IsToldIn setting before body
 plain_body setting before (Advertise advert) plain = absurd cc
 plain_body setting before _ plain = tt
@@ -47,7 +47,7 @@ unfolding journal_steps_in
 row_first before row step = record {
   newest = record { before = before; items = Item.Row row step ∷ [] };
   earlier = journal_steps_in before;
-  steps = folded_append item_changes_steps [] before (Item.Row row step ∷ []);
+  steps = folded_append machine_item_changes_steps [] before (Item.Row row step ∷ []);
   ends = refl;
   none = (refl, tt);
 }
@@ -58,9 +58,9 @@ unfolding journal_steps_in
 delivered_first before number is = let next : List Item = Item.Delivered number ∷ [] in record {
   newest = record { before = is.newest.before; items = is.newest.items ++ next };
   earlier = is.earlier;
-  steps = cc (folded_append item_changes_steps [] before next, is.steps);
+  steps = cc (folded_append machine_item_changes_steps [] before next, is.steps);
   ends = cc (append_assoc is.newest.before is.newest.items next, is.ends);
-  none = have_append (λ journal other. IsFalse (concerns_links journal other))
+  none = have_append (λ journal other. IsFalse (machine_item_concerns_links journal other))
       is.newest.before is.newest.items next is.none (refl, tt);
 }
 
@@ -97,7 +97,7 @@ switch_caused setting before now s bodies body first heard =
 
 deliver_caused : (setting : Setting) (before : List Item) (row number : ℕ) (step : Step)
     → let here = before ++ Item.Row row step ∷ [] in
-    HaveLinkCauses setting here (deliver_items setting before number here)
+    HaveLinkCauses setting here (machine_deliver_items setting before number here)
 deliver_caused setting before row number step = deliver_has (HasLinkCause setting) setting before
     number _ tt tt (λ body sent. are_caused setting _ _
     (control_plain _ _ (controller_control setting before body _))) (λ s body said. switch_caused
@@ -128,8 +128,8 @@ unfolding journal_crash_items
 crash_caused setting before s journal first = grind (arith, down_caused)
 
 restart_caused : (setting : Setting) (s : ℕ) (journal : List Item) → ChangedNoLinks journal
-    → HaveLinkCauses setting journal (restart_items s journal)
-unfolding restart_items machine_sent_items_from
+    → HaveLinkCauses setting journal (machine_restart_items s journal)
+unfolding machine_restart_items machine_sent_items_from
 restart_caused setting s journal first = grind arith
 
 -- ---- all steps
@@ -190,7 +190,7 @@ pub record IsAdvertFact (setting : Setting) (P : List Item → Advert → Type 0
       (advert : Advert) → P before advert → P (before ++ next ∷ []) advert
   pub own : (journal : List Item) (s neighbour : ℕ) →
       IsTrue (has (near setting journal s) neighbour) → P journal (own_advert setting journal s)
-  pub first : (origin : ℕ) → HasSwitch setting.net origin → P [] (begun_with setting origin)
+  pub first : (origin : ℕ) → StepSwitchExists setting.net origin → P [] (begun_with setting origin)
 
 abbrev pub IfAdvert : (Advert → Type 0) → Body → Type 0
 IfAdvert P (Advertise advert) = P advert
@@ -202,7 +202,7 @@ pub record AreSuch (setting : Setting) (P : List Item → Advert → Type 0) (jo
   pub sent : (n : ℕ) (message : Message) → journal_message_of journal n ≡ Some message →
       IfAdvert (P journal) message.body
   pub heard : (s : ℕ) → All (P journal) (journal_adverts_heard journal s)
-  pub first : (origin : ℕ) → HasSwitch setting.net origin → P journal (begun_with setting origin)
+  pub first : (origin : ℕ) → StepSwitchExists setting.net origin → P journal (begun_with setting origin)
 
 -- ---- adverts that a switch knows
 
@@ -212,15 +212,15 @@ middle P [] advert later all = all.0
 middle P (x ∷ earlier) advert later all = middle P earlier advert later all.1
 
 first_such : (setting : Setting) (P : Advert → Type 0)
-    → ((origin : ℕ) → HasSwitch setting.net origin → P (begun_with setting origin))
+    → ((origin : ℕ) → StepSwitchExists setting.net origin → P (begun_with setting origin))
     → (origin : ℕ) → origin < 64 → AllByRecursion P (option_to_list (held_advert (first_adverts
-    (map (links_of setting.net.links) (setting_switches_of setting)) (length setting.net.switches)) origin))
+    (map (links_of setting.net.links) (machine_switches_of setting)) (length setting.net.switches)) origin))
 first_such setting P such origin small =
     rw (held-first near (length setting.net.switches) origin small)
     (by_test (nat_lt origin (length setting.net.switches)) refl)
   where
     near : List ℕ
-    near = map (links_of setting.net.links) (setting_switches_of setting)
+    near = map (links_of setting.net.links) (machine_switches_of setting)
 
     by_test : (b : Bool) → nat_lt origin (length setting.net.switches) ≡ b → AllByRecursion P
         (option_to_list (if b then Some (first_advert origin (slice_index near origin)) else None))
@@ -235,12 +235,12 @@ pub none_held : (origin : ℕ) → origin < 64 → held_advert no_adverts origin
 none_held origin small = get_or-replicate 64 origin None None small
 
 begun_such : (setting : Setting) (P : Advert → Type 0) (journal : List Item) (s origin : ℕ)
-    → ((from : ℕ) → HasSwitch setting.net from → P (begun_with setting from)) → origin < 64
+    → ((from : ℕ) → StepSwitchExists setting.net from → P (begun_with setting from)) → origin < 64
     → AllByRecursion P (option_to_list (held_advert (journal_adverts_begun setting journal s) origin))
 begun_such setting P journal s origin such small = by_test (is_first_boot_in_journal journal s) where
   by_test : (b : Bool) → AllByRecursion P
       (option_to_list (held_advert (if b then first_adverts (map (links_of setting.net.links)
-      (setting_switches_of setting)) (length setting.net.switches) else no_adverts) origin))
+      (machine_switches_of setting)) (length setting.net.switches) else no_adverts) origin))
   by_test true = first_such setting P such origin small
   by_test false = rw (none_held origin small) tt
 

@@ -1,7 +1,7 @@
 -- What the controller writes: versions, marks, and commands to switches.
 use Rattle.std.proofs.Common.{[], ◌++◌, ◌+◌, ◌==◌, ◌∙◌, ◌∷◌, ◌≡◌, Bool, IsTrue, List, None, Option, Some, ap, arith, false, filter, filter_map, flat_map, inl, inr, is_some, map, not, refl, sym, true, ℕ}
 use Rattle.base.proofs.Exports.{⊤, AllByRecursion, each_always, each_filter, each_flat_map, each_flat_map_in, each_given, each_map, filter_map-append}
-use Rattle.update_machine.specs.Exports.{Advert, Advertise, Body, Collect, JournalItemsHaveCauses, Hello, Install, Item, JournalKnownKeeps, MachineLinksKeep, Message, OpenAt, Setting, Stamp, JournalSwitchKeeps, machine_advert_to, journal_adverts_known, machine_after_hello, confirm_items, journal_controller_heard, controller_items, has_acked, journal_usable_links_changed, heard, journal_held_adverts, machine_hello_of, journal_install_for, machine_installs_to, machine_installs_to_all, is_member, is_over, is_up, journal_items_then, journal_known_boot, journal_link_changes, machine_messages_of, machine_messages_over_link, near, journal_opened_at, machine_advert_of_other, own_advert, machine_advert_passed_on, machine_resend_items, journal_resent_by_switch, send_items, machine_sends_or_nothing, settling, submitted_items, setting_switches_in, setting_switches_of, journal_unacked_installs, machine_update_code, machine_update_items, journal_version_count, journal_versions_from_current}
+use Rattle.update_machine.specs.Exports.{Advert, Advertise, Body, Collect, JournalItemsHaveCauses, Hello, Install, Item, JournalKnownKeeps, MachineLinksKeep, Message, OpenAt, Setting, Stamp, JournalSwitchKeeps, machine_advert_to, journal_adverts_known, machine_after_hello, machine_confirm_items, journal_controller_heard, machine_controller_items, has_acked, journal_usable_links_changed, heard, journal_held_adverts, machine_hello_of, journal_install_for, machine_installs_to, machine_installs_to_all, is_member, is_over, is_up, journal_items_then, journal_known_boot, journal_link_changes, machine_messages_of, machine_messages_over_link, near, journal_opened_at, machine_advert_of_other, own_advert, machine_advert_passed_on, machine_resend_items, journal_resent_by_switch, machine_send_items, machine_sends_or_nothing, machine_settling, machine_submitted_items, machine_switches_in, machine_switches_of, journal_unacked_installs, machine_update_code, machine_update_items, journal_version_count, journal_versions_from_current}
 use Rattle.control_laws.proofs.ControlMessageSends.{PartsHave, acked_same, parts_have, sends_kept, settling_has}
 use Rattle.update_machine.proofs.Exports.{have_first, have_in_turn, known_keeps, links_keep, switch_keeps}
 use Rattle.control_laws.proofs.ControlFactsGrown.{count_more, fact_on, have_weaker, known_more, over_more, told_more}
@@ -16,14 +16,14 @@ use Rattle.control_laws.proofs.ControlSaidToController.{HasLinkCause, HaveLinkCa
 pub sends_each : (cause : List Item → Item → Type 0) (P : Message → Type 0)
     → ((before : List Item) (n : ℕ) (message : Message) → P message
     → cause before (Item.Sent n message)) → (journal : List Item) (messages : List Message)
-    → AllByRecursion P messages → JournalItemsHaveCauses cause journal (send_items journal messages)
+    → AllByRecursion P messages → JournalItemsHaveCauses cause journal (machine_send_items journal messages)
 sends_each cause P has = sends_kept cause (λ before. P) has (λ before n message other new is. is)
 
 -- where any message has it
 pub sends_any : (cause : List Item → Item → Type 0) →
     ((before : List Item) (n : ℕ) (message : Message) → cause before (Item.Sent n message)) →
     (journal : List Item) (messages : List Message)
-    → JournalItemsHaveCauses cause journal (send_items journal messages)
+    → JournalItemsHaveCauses cause journal (machine_send_items journal messages)
 sends_any cause has journal messages =
     sends_each cause (λ message. ⊤) (λ before n message any. has before n message) journal messages
     (each_always (λ message. ⊤) (λ message. tt) messages)
@@ -45,14 +45,14 @@ resends_any cause has setting s journal none = by_messages _ where
 pub each_by_switch : (P : Message → Type 0) (setting : Setting) (journal : List Item) (s : ℕ)
     → (is_up journal s ≡ true → P (machine_hello_of journal s)) → AllByRecursion P
     (flat_map (λ neighbour. map (machine_advert_to neighbour) (journal_held_adverts setting journal s))
-    (setting_switches_in setting (near setting journal s)))
+    (machine_switches_in setting (near setting journal s)))
     → AllByRecursion P (journal_resent_by_switch setting journal s)
 each_by_switch P setting journal s hello adverts = by_up (is_up journal s) refl where
   by_up : (up : Bool) → is_up journal s ≡ up → AllByRecursion P (elim up [
     | false ↦ []
     | true ↦ machine_hello_of journal s
         ∷ flat_map (λ neighbour. map (machine_advert_to neighbour) (journal_held_adverts setting journal s))
-        (setting_switches_in setting (near setting journal s))
+        (machine_switches_in setting (near setting journal s))
   ])
   by_up false e = tt
   by_up true e = (hello e, adverts)
@@ -96,7 +96,7 @@ parts_settle setting =
     })
 
 pub settling_settles : (setting : Setting) (journal : List Item)
-    → JournalItemsHaveCauses IsOfSettling journal (settling setting journal)
+    → JournalItemsHaveCauses IsOfSettling journal (machine_settling setting journal)
 settling_settles setting = settling_has IsOfSettling setting (parts_settle setting)
 
 -- ---- what settling leaves, and what grows
@@ -182,12 +182,12 @@ settling_is before (Item.Sent number message) of = of
 settling_is before _ of = absurd of
 
 pub settling_control : (setting : Setting) (journal : List Item)
-    → Control journal (settling setting journal)
+    → Control journal (machine_settling setting journal)
 settling_control setting journal =
     have_weaker IsOfSettling IsControl settling_is journal _ (settling_settles setting journal)
 
 commands_control : (journal : List Item) (messages : List Message) → AreCommands messages
-    → Control journal (send_items journal messages)
+    → Control journal (machine_send_items journal messages)
 commands_control =
     sends_each IsControl (λ message. IsCommand message.body) (λ before n message is. is)
 
@@ -203,9 +203,9 @@ unfolding machine_installs_to_all
 all_installs_control setting journal = commands_control journal _ (each_command _ (λ s. tt) _)
 
 submitted_control : (setting : Setting) (journal : List Item)
-    → Control journal (submitted_items setting journal)
+    → Control journal (machine_submitted_items setting journal)
 submitted_control setting journal = have_in_turn IsControl (machine_installs_to_all setting
-    ∷ settling setting ∷ []) (all_installs_control setting, (settling_control setting, tt)) journal
+    ∷ machine_settling setting ∷ []) (all_installs_control setting, (settling_control setting, tt)) journal
 
 -- an update has causes that what the controller writes has, and the version that is submitted
 pub update_has : (cause : List Item → Item → Type 0)
@@ -219,17 +219,17 @@ update_has cause weaker setting file journal submits = by_code (machine_update_c
     by_code : (o : Option ℕ) → JournalItemsHaveCauses cause journal (elim o [
       | Some code ↦ Item.Refused file code ∷ []
       | None ↦ journal_items_then
-          (Item.Submitted file (journal_version_count journal + 1) ∷ []) (submitted_items setting) journal
+          (Item.Submitted file (journal_version_count journal + 1) ∷ []) (machine_submitted_items setting) journal
     ])
     by_code (Some code) = (weaker journal (Item.Refused file code) tt, tt)
     by_code None =
-        have_first cause (Item.Submitted file (journal_version_count journal + 1)) (submitted_items setting)
+        have_first cause (Item.Submitted file (journal_version_count journal + 1)) (machine_submitted_items setting)
         journal (submits (journal_version_count journal + 1))
         (have_weaker IsControl cause weaker _ _ (submitted_control setting _))
 
 pub confirm_control : (setting : Setting) (s : ℕ) (journal : List Item)
-    → Control journal (confirm_items setting s journal)
-unfolding confirm_items
+    → Control journal (machine_confirm_items setting s journal)
+unfolding machine_confirm_items
 confirm_control setting s journal = grind (arith, have_first, settling_control)
 
 hello_control : (setting : Setting) (before : List Item) (body : Body) (journal : List Item)
@@ -238,10 +238,10 @@ hello_control setting before (Hello s boot) journal = grind (arith, installs_con
 hello_control setting before _ journal = tt
 
 pub controller_control : (setting : Setting) (before : List Item) (body : Body)
-    (journal : List Item) → Control journal (controller_items setting before body journal)
-unfolding controller_items
+    (journal : List Item) → Control journal (machine_controller_items setting before body journal)
+unfolding machine_controller_items
 controller_control setting before body journal =
-    have_in_turn IsControl (settling setting ∷ machine_after_hello setting before body ∷ [])
+    have_in_turn IsControl (machine_settling setting ∷ machine_after_hello setting before body ∷ [])
     (settling_control setting, (hello_control setting before body, tt)) journal
 
 -- ---- the blocks of a piece in which adverts are sent have their causes
@@ -294,7 +294,7 @@ Tells setting before message = IsToldIn setting before message.body
 
 pub sends_told : (setting : Setting) (journal : List Item) (messages : List Message)
     → AllByRecursion (Tells setting journal) messages
-    → HaveLinkCauses setting journal (send_items journal messages)
+    → HaveLinkCauses setting journal (machine_send_items journal messages)
 sends_told setting =
     sends_kept (HasLinkCause setting) (Tells setting) (λ before n message told. told)
     (λ before n message other new told. told_in_sent setting before n message other.body told)
@@ -327,11 +327,11 @@ pub each_neighbour : (setting : Setting) (journal : List Item) (s : ℕ) (told :
     → ((neighbour : ℕ) → IsTrue (has (near setting journal s) neighbour)
     → AllByRecursion (Tells setting journal) (told neighbour))
     → AllByRecursion (Tells setting journal)
-    (flat_map told (setting_switches_in setting (near setting journal s)))
+    (flat_map told (machine_switches_in setting (near setting journal s)))
 each_neighbour setting journal s told all =
-    each_flat_map_in (Tells setting journal) told (setting_switches_in setting (near setting journal s))
+    each_flat_map_in (Tells setting journal) told (machine_switches_in setting (near setting journal s))
     (each_filter (λ neighbour. AllByRecursion (Tells setting journal) (told neighbour))
-    (has (near setting journal s)) all (setting_switches_of setting))
+    (has (near setting journal s)) all (machine_switches_of setting))
 
 -- ---- changed links
 
@@ -360,20 +360,20 @@ unfolding journal_link_changes
 changes_controller_heard setting before journal = sends_told setting journal _
     (each_flat_map (Tells setting journal) (machine_messages_of setting before journal) (λ s. each_neighbour
     setting journal s (machine_messages_over_link setting before journal s) (over_told setting before journal s))
-    (filter (journal_usable_links_changed setting before journal) (setting_switches_of setting)))
+    (filter (journal_usable_links_changed setting before journal) (machine_switches_of setting)))
 
 -- ---- adverts that are passed on
 
 pub passed_told : (setting : Setting) (journal : List Item) (s : ℕ) (advert : Advert)
     → IsHeard journal s advert
-    → HaveLinkCauses setting journal (send_items journal (machine_advert_passed_on setting journal s advert))
+    → HaveLinkCauses setting journal (machine_send_items journal (machine_advert_passed_on setting journal s advert))
 passed_told setting journal s advert last = sends_told setting journal
     (machine_advert_passed_on setting journal s advert) (each_map (Tells setting journal)
-    (λ neighbour. machine_advert_to neighbour advert) (setting_switches_in setting (near setting journal s))
+    (λ neighbour. machine_advert_to neighbour advert) (machine_switches_in setting (near setting journal s))
     (each_filter (λ neighbour. Tells setting journal (machine_advert_to neighbour advert))
     (has (near setting journal s)) (λ neighbour linked. record
     { switch = s; neighbour = neighbour; near = linked; which = inr (inr last) })
-    (setting_switches_of setting)))
+    (machine_switches_of setting)))
 
 -- an advert of another switch is the last that is heard once it is delivered
 pub last_heard : (before now : List Item) (s : ℕ) (bodies : List Body) (advert : Advert)

@@ -1,11 +1,11 @@
 -- Nobody stamps with a version that isn't current yet, or is told or said to.
 use Rattle.std.proofs.Common.{[], ◌++◌, ◌<◌, ◌==◌, ◌∙◌, ◌∷◌, ◌≡◌, ◌≤◌, Bool, IfSome, List, None, Option, Some, arith, false, if◌then◌else◌, inl, inr, map, option_and_then, refl, subst, sym, true, ℕ}
-use Rattle.update_machine.specs.Exports.{Body, Install, Item, Message, OpenAt, Place, Setting, Stamp, Stamped, Tables, JournalVersionsAreNumbered, acked_stamp, journal_body_to_controller, journal_body_to_switch, journal_controller_heard, journal_current_mark, machine_first_open, heard, journal_known_boot, members, journal_message_of, journal_next_retired, machine_open_sent, journal_retired_mark, machine_stamp_message_version, journal_stamp_of, machine_stamped_version_in, machine_message_to_switch, journal_version_count}
+use Rattle.update_machine.specs.Exports.{Body, Install, Item, Message, OpenAt, Place, Setting, Stamp, Stamped, Tables, JournalVersionsAreNumbered, acked_stamp, journal_body_to_controller, journal_body_to_switch, journal_controller_heard, journal_current_mark, machine_first_open, heard, journal_known_boot, members, journal_message_of, journal_next_retired, machine_open_sent, journal_retired_mark, machine_version_to_stamp_with, journal_stamp_of, machine_stamped_version_in, machine_message_to_switch, journal_version_count}
 use Rattle.update_machine.proofs.Exports.{numbered_at_first, other_more, plan_stays, start_laws, submitted_more, touched_stays}
-use Rattle.control_laws.specs.Exports.{AreControlInstallTablesPlanned, HasControlItemCause, InstallsArePlanned, IsRightInstallMessage, IsRightControlMessage, IsRightControlOpening, IsRightStamp, IsStampMessageTouched, StampsSayTouched, control_stamp_message_to}
+use Rattle.control_laws.specs.Exports.{AreControlInstallTablesPlanned, HasControlItemCause, ControlInstallsArePlanned, IsRightControlInstall, IsRightControlMessage, IsRightControlOpening, IsRightControlStamp, AreControlTouchedWords, ControlStampsSayTouched, control_stamp_message_to}
 use Rattle.control_laws.proofs.ControlFactsGrown.{AreKept, FromCauses, NeverFalls, by_number, count_more, current_more, from_causes, heard_more, known_rises, new_or_old, opened_in, opened_is, opened_more, opens_by, raised, retired_more, stamp_told}
 use Rattle.base.proofs.Exports.{⊤, AllByRecursion, IfSome_then, each_always, each_append, each_map, each_option, nat_tests, option_map_or, option_or}
-use Rattle.ctrl_msg.specs.Exports.{to_controller}
+use Rattle.ctrl_msg.specs.Exports.{message_to_controller}
 use Rattle.control_laws.proofs.ControlPieceCauses.{said_parts}
 use Rattle.control_laws.proofs.ControlAckKinds.{stamp_less, stamped_is}
 use Rattle.control_laws.proofs.ControlSaidToController.{acked_stamp_within, each_weaker, least_within, open_within, tells, told_by, told_by_more, told_sent}
@@ -75,7 +75,7 @@ planned_on setting before next s installed numbered are = record {
 }
 
 pub right_planned : (setting : Setting) (before : List Item) (s boot : ℕ) (installed : Tables)
-    → IsThere before → IsRightInstallMessage setting before s boot installed
+    → IsThere before → IsRightControlInstall setting before s boot installed
     → AreControlInstallTablesPlanned setting before s installed
 right_planned setting before s boot installed is right = record {
   version = right.version;
@@ -91,7 +91,7 @@ right_planned setting before s boot installed is right = record {
 pub record IsPlannedSoFar (setting : Setting) (journal : List Item) : Type 0 where
   pub marks : IsThere journal
   pub versions : JournalVersionsAreNumbered journal
-  pub installs : InstallsArePlanned setting journal
+  pub installs : ControlInstallsArePlanned setting journal
 
 pub planned_kept : (setting : Setting) → AreKept (HasControlItemCause setting) (IsPlannedSoFar setting)
 planned_kept setting before next cause are = record {
@@ -118,7 +118,7 @@ planned_at_first setting = record {
 pub caused_planned : FromCauses IsPlannedSoFar
 caused_planned = from_causes IsPlannedSoFar planned_kept planned_at_first
 
-pub installs_planned : FromCauses InstallsArePlanned
+pub installs_planned : FromCauses ControlInstallsArePlanned
 installs_planned setting journal have = (caused_planned setting journal have).installs
 
 -- ---- current versions
@@ -126,7 +126,7 @@ installs_planned setting journal have = (caused_planned setting journal have).in
 -- a message that lets a switch stamp, or says that it does, is of a version that is current or was
 abbrev pub IsOfCurrent : List Item → Place → Body → Type 0
 IsOfCurrent journal (Place.Switch s) body =
-    IfSome (machine_stamp_message_version body) (λ version. version ≤ journal_current_mark journal)
+    IfSome (machine_version_to_stamp_with body) (λ version. version ≤ journal_current_mark journal)
 IsOfCurrent journal Place.Controller (Stamped s boot version) = version ≤ journal_current_mark journal
 IsOfCurrent journal to body = ⊤
 
@@ -192,7 +192,7 @@ sent_current setting before Place.Controller _ are right = tt
 current_on : (setting : Setting) (before : List Item) (next : Item) (to : Place) (body : Body)
     → HasControlItemCause setting before next → IsOfCurrent before to body
     → IsOfCurrent (before ++ next ∷ []) to body
-current_on setting before next (Place.Switch s) body cause is = IfSome_then (machine_stamp_message_version body) is
+current_on setting before next (Place.Switch s) body cause is = IfSome_then (machine_version_to_stamp_with body) is
     (λ version below. omega (arith, below, current_rises setting before next cause))
 current_on setting before next Place.Controller (Stamped s boot version) cause is =
     omega (arith, is, current_rises setting before next cause)
@@ -201,7 +201,7 @@ current_on setting before next Place.Controller _ cause is = tt
 -- ---- stamps
 
 delivered_current : (before : List Item) (s number : ℕ) → StampsAreCurrent before
-    → raised (journal_stamp_of before s) (option_and_then machine_stamp_message_version (journal_body_to_switch before s number))
+    → raised (journal_stamp_of before s) (option_and_then machine_version_to_stamp_with (journal_body_to_switch before s number))
     ≤ journal_current_mark before
 delivered_current before s number are = by_said (journal_body_to_switch before s number) refl where
   by_stamp : (stamp : Option ℕ) → IfSome stamp (λ version. version ≤ journal_current_mark before)
@@ -210,9 +210,9 @@ delivered_current before s number are = by_said (journal_body_to_switch before s
   by_stamp (Some version) current = omega (arith, are.stamps s, current)
 
   by_said : (said : Option Body) → journal_body_to_switch before s number ≡ said
-      → raised (journal_stamp_of before s) (option_and_then machine_stamp_message_version said) ≤ journal_current_mark before
+      → raised (journal_stamp_of before s) (option_and_then machine_version_to_stamp_with said) ≤ journal_current_mark before
   by_said None e = are.stamps s
-  by_said (Some body) e = by_stamp (machine_stamp_message_version body)
+  by_said (Some body) e = by_stamp (machine_version_to_stamp_with body)
       (are.sent number (machine_message_to_switch s body) (said_parts before s number body e).sent)
 
 stamps_on : (setting : Setting) (before : List Item) (next : Item) (s : ℕ)
@@ -231,7 +231,7 @@ gives_current : (before : List Item) (next : Item) (s boot : ℕ) → StampsAreC
 gives_current before (Item.Delivered number) s boot are =
     each_option (λ version. version ≤ journal_current_mark before)
     (option_and_then (machine_stamped_version_in s boot) (journal_body_to_controller before number))
-    (λ version told. are.sent number (to_controller (Stamped s boot version))
+    (λ version told. are.sent number (message_to_controller (Stamped s boot version))
     (told_sent (machine_stamped_version_in s boot) (Stamped s boot) (stamped_is s boot) before number version told))
 gives_current before _ s boot are = tt
 
@@ -349,12 +349,12 @@ heard_on P Q before next s on sent all = subst (AllByRecursion Q) (sym (heard_mo
 record AreTouched (setting : Setting) (journal : List Item) : Type 0 where
   marks : IsThere journal
   versions : JournalVersionsAreNumbered journal
-  stamps : StampsSayTouched setting journal
+  stamps : ControlStampsSayTouched setting journal
 
 touched_on : (setting : Setting) (before : List Item) (next : Item) (version : ℕ)
     (touched : List WordValue) → JournalVersionsAreNumbered before
-    → IsStampMessageTouched setting before version touched
-    → IsStampMessageTouched setting (before ++ next ∷ []) version touched
+    → AreControlTouchedWords setting before version touched
+    → AreControlTouchedWords setting (before ++ next ∷ []) version touched
 touched_on setting before next version touched are is = record {
   first = is.first;
   last = omega (arith, is.last, count_rises before next);
@@ -389,6 +389,6 @@ touched_at_first setting = record {
   };
 }
 
-pub stamps_touched : FromCauses StampsSayTouched
+pub stamps_touched : FromCauses ControlStampsSayTouched
 stamps_touched setting journal have =
     (from_causes AreTouched touched_kept touched_at_first setting journal have).stamps

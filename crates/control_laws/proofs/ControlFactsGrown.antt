@@ -1,11 +1,11 @@
 -- What one more item makes of each fact of switches, messages and the controller.
 use Rattle.std.proofs.Common.{[], ◌++◌, ◌+◌, ◌<◌, ◌==◌, ◌||◌, ◌∙◌, ◌∷◌, ◌≡◌, ◌≤◌, ◌⊎◌, Bool, IsTrue, List, None, Option, Some, ap, append-nil, append_assoc, arith, eq-eqb, eqb-true, false, filter_map, fold, if◌then◌else◌, inl, inr, max, nat_lt, option_and_then, option_to_list, refl, subst, sym, true, unwrap_or, zero-add, ℕ}
 use Rattle.base.proofs.Exports.{IfSome_then, filter_map-append, fold-append, nat_tests, option_map_or, option_or}
-use Rattle.update_machine.specs.Exports.{Advertise, Body, CacheRule, JournalItemsHaveCauses, Hello, Installed, Item, Message, OpenAt, Place, Setting, Stamped, Step, journal_all_given, journal_body_to_controller, journal_body_to_switch, journal_boot_of, changes_controller_heard, changes_journal_heard, item_changes_over, journal_controller_heard, count_of, journal_current_mark, machine_first_open, journal_first_stamp, machine_item_gives_boot, gives_current, machine_item_gives_message, machine_item_gives_retired, machine_item_gives_serving, machine_item_gives_switch_up, machine_greatest_stamp_number, heard, machine_hello_boot, is_over, is_journal_submission, is_up, journal_known_boot, journal_last_given, journal_message_of, machine_open_sent, journal_opened_at, piece, journal_raises_known_boot, journal_retired_mark, serves, machine_speaking_in_body, machine_stamp_message_version, journal_stamp_of, machine_step_items, machine_message_to_switch, journal_version_count}
+use Rattle.update_machine.specs.Exports.{Advertise, Body, CacheRule, JournalItemsHaveCauses, Hello, Installed, Item, Message, OpenAt, Place, Setting, Stamped, Step, journal_all_given, journal_body_to_controller, journal_body_to_switch, journal_boot_of, machine_changes_controller_heard, changes_journal_heard, machine_item_changes_over, journal_controller_heard, machine_count_of, journal_current_mark, machine_first_open, journal_first_stamp, machine_item_gives_boot, machine_item_gives_current, machine_item_gives_message, machine_item_gives_retired, machine_item_gives_serving, machine_item_gives_switch_up, machine_greatest_stamp_number, heard, machine_hello_boot, is_over, is_journal_submission, is_up, journal_known_boot, journal_last_given, journal_message_of, machine_open_sent, journal_opened_at, piece, journal_raises_known_boot, journal_retired_mark, serves, machine_speaking_in_body, machine_version_to_stamp_with, journal_stamp_of, machine_step_items, machine_message_to_switch, journal_version_count}
 use Rattle.update_machine.proofs.Exports.{all_given_append, count_of_append, folded_append, have_first, last_given_append, start_laws}
 pub use Rattle.update_machine.proofs.UpdateMachineCallerLemmas.{steps_have}
-use Rattle.control_laws.specs.Exports.{BootsAreKnown, HasControlItemCause, HasPastBoot, IsRightControlMessage}
-use Rattle.ctrl_msg.specs.Exports.{body_boot, to_controller}
+use Rattle.control_laws.specs.Exports.{ControlBootsArePast, HasControlItemCause, ControlHasPastBoot, IsRightControlMessage}
+use Rattle.ctrl_msg.specs.Exports.{body_boot, message_to_controller}
 
 -- the last item tells, or else those before it
 pub last_more : {X : Type 0} (tells : Item → Option X) (before : List Item) (item : Item)
@@ -35,9 +35,9 @@ unfolding serves
 serving_more before item s = last_more (machine_item_gives_serving s) before item true
 
 pub current_more : (before : List Item) (item : Item)
-    → journal_current_mark (before ++ item ∷ []) ≡ unwrap_or (gives_current item) (journal_current_mark before)
+    → journal_current_mark (before ++ item ∷ []) ≡ unwrap_or (machine_item_gives_current item) (journal_current_mark before)
 unfolding journal_current_mark
-current_more before item = last_more gives_current before item 1
+current_more before item = last_more machine_item_gives_current before item 1
 
 pub retired_more : (before : List Item) (item : Item)
     → journal_retired_mark (before ++ item ∷ []) ≡ unwrap_or (machine_item_gives_retired item) (journal_retired_mark before)
@@ -46,22 +46,22 @@ retired_more before item = last_more machine_item_gives_retired before item 0
 
 -- a count from one, with one more item
 pub counted_more : (test : Item → Bool) (before : List Item) (item : Item)
-    → count_of test (before ++ item ∷ []) + 1
-    ≡ (if test item then count_of test before + 1 + 1 else count_of test before + 1)
+    → machine_count_of test (before ++ item ∷ []) + 1
+    ≡ (if test item then machine_count_of test before + 1 + 1 else machine_count_of test before + 1)
 counted_more test before item = by_test (test item) refl where
-  by_test : (b : Bool) → test item ≡ b → count_of test (before ++ item ∷ []) + 1
-      ≡ (if b then count_of test before + 1 + 1 else count_of test before + 1)
-  by_test true e = let one : count_of test (item ∷ []) ≡ 1 = rw e refl in
+  by_test : (b : Bool) → test item ≡ b → machine_count_of test (before ++ item ∷ []) + 1
+      ≡ (if b then machine_count_of test before + 1 + 1 else machine_count_of test before + 1)
+  by_test true e = let one : machine_count_of test (item ∷ []) ≡ 1 = rw e refl in
       omega (arith, one, count_of_append test before (item ∷ []))
-  by_test false e = let none : count_of test (item ∷ []) ≡ 0 = rw e refl in
+  by_test false e = let none : machine_count_of test (item ∷ []) ≡ 0 = rw e refl in
       omega (arith, none, count_of_append test before (item ∷ []))
 
 -- whether some item passes a test, with one more item
 pub some_more : (test : Item → Bool) (before : List Item) (item : Item) → nat_lt 0
-    (count_of test (before ++ item ∷ [])) ≡ (test item || nat_lt 0 (count_of test before))
+    (machine_count_of test (before ++ item ∷ [])) ≡ (test item || nat_lt 0 (machine_count_of test before))
 some_more test before item = by_test (test item) refl where
-  by_test : (b : Bool) → test item ≡ b → nat_lt 0 (count_of test (before ++ item ∷ []))
-      ≡ (b || nat_lt 0 (count_of test before))
+  by_test : (b : Bool) → test item ≡ b → nat_lt 0 (machine_count_of test (before ++ item ∷ []))
+      ≡ (b || nat_lt 0 (machine_count_of test before))
   by_test b is = grind (arith, nat_tests, count_of_append test before (item ∷ []))
 
 pub count_more : (before : List Item) (item : Item) → journal_version_count (before ++ item ∷ [])
@@ -80,14 +80,14 @@ unfolding heard
 heard_more before item s = folded_append (changes_journal_heard s) [] before (item ∷ [])
 
 pub told_more : (before : List Item) (item : Item) → journal_controller_heard (before ++ item ∷ [])
-    ≡ changes_controller_heard before (journal_controller_heard before) item
+    ≡ machine_changes_controller_heard before (journal_controller_heard before) item
 unfolding journal_controller_heard
-told_more before item = folded_append changes_controller_heard [] before (item ∷ [])
+told_more before item = folded_append machine_changes_controller_heard [] before (item ∷ [])
 
 pub over_more : (before : List Item) (item : Item) (s : ℕ)
-    → is_over (before ++ item ∷ []) s ≡ item_changes_over s before (is_over before s) item
+    → is_over (before ++ item ∷ []) s ≡ machine_item_changes_over s before (is_over before s) item
 unfolding is_over
-over_more before item s = folded_append (item_changes_over s) false before (item ∷ [])
+over_more before item s = folded_append (machine_item_changes_over s) false before (item ∷ [])
 
 pub sent_more : (before : List Item) (item : Item) (s boot : ℕ) → journal_all_given (machine_open_sent s boot)
     (before ++ item ∷ []) ≡ journal_all_given (machine_open_sent s boot) before ++ machine_open_sent s boot item
@@ -134,7 +134,7 @@ known_more before item s = cc (told_more before item)
 
 -- a body that is heard raises the stamp to its version, if it has one
 pub stamp_told : (before : List Item) (n s : ℕ) → journal_stamp_of (before ++ Item.Delivered n ∷ []) s
-    ≡ raised (journal_stamp_of before s) (option_and_then machine_stamp_message_version (journal_body_to_switch before s n))
+    ≡ raised (journal_stamp_of before s) (option_and_then machine_version_to_stamp_with (journal_body_to_switch before s n))
 unfolding journal_stamp_of
 stamp_told before n s =
     let bodies : heard (before ++ Item.Delivered n ∷ []) s
@@ -143,22 +143,22 @@ stamp_told before n s =
     rw ((boot_more before (Item.Delivered n) s), up_more before (Item.Delivered n) s, bodies)
     (by_said (journal_body_to_switch before s n))
   where
-    by_said : (said : Option Body) → machine_greatest_stamp_number (journal_first_stamp before s ++ filter_map machine_stamp_message_version
+    by_said : (said : Option Body) → machine_greatest_stamp_number (journal_first_stamp before s ++ filter_map machine_version_to_stamp_with
         (option_map_or (λ body. heard before s ++ body ∷ []) said (heard before s)))
-        ≡ raised (machine_greatest_stamp_number (journal_first_stamp before s ++ filter_map machine_stamp_message_version (heard before s)))
-        (option_and_then machine_stamp_message_version said)
+        ≡ raised (machine_greatest_stamp_number (journal_first_stamp before s ++ filter_map machine_version_to_stamp_with (heard before s)))
+        (option_and_then machine_version_to_stamp_with said)
     by_said None = refl
     by_said (Some body) =
-        ap (λ xs. machine_greatest_stamp_number (journal_first_stamp before s ++ xs)) (filter_map-append machine_stamp_message_version
+        ap (λ xs. machine_greatest_stamp_number (journal_first_stamp before s ++ xs)) (filter_map-append machine_version_to_stamp_with
         (heard before s) (body ∷ [])) ∙ ap machine_greatest_stamp_number (sym (append_assoc (journal_first_stamp before s)
-        (filter_map machine_stamp_message_version (heard before s)) (filter_map machine_stamp_message_version (body ∷ [])))) ∙ fold-append max
-        0 (journal_first_stamp before s ++ filter_map machine_stamp_message_version (heard before s))
-        (filter_map machine_stamp_message_version (body ∷ [])) ∙ by_stamp (machine_stamp_message_version body) refl
+        (filter_map machine_version_to_stamp_with (heard before s)) (filter_map machine_version_to_stamp_with (body ∷ [])))) ∙ fold-append max
+        0 (journal_first_stamp before s ++ filter_map machine_version_to_stamp_with (heard before s))
+        (filter_map machine_version_to_stamp_with (body ∷ [])) ∙ by_stamp (machine_version_to_stamp_with body) refl
       where
-        by_stamp : (stamp : Option ℕ) → machine_stamp_message_version body ≡ stamp → fold max
-            (machine_greatest_stamp_number (journal_first_stamp before s ++ filter_map machine_stamp_message_version (heard before s)))
-            (filter_map machine_stamp_message_version (body ∷ [])) ≡ raised
-            (machine_greatest_stamp_number (journal_first_stamp before s ++ filter_map machine_stamp_message_version (heard before s))) stamp
+        by_stamp : (stamp : Option ℕ) → machine_version_to_stamp_with body ≡ stamp → fold max
+            (machine_greatest_stamp_number (journal_first_stamp before s ++ filter_map machine_version_to_stamp_with (heard before s)))
+            (filter_map machine_version_to_stamp_with (body ∷ [])) ≡ raised
+            (machine_greatest_stamp_number (journal_first_stamp before s ++ filter_map machine_version_to_stamp_with (heard before s))) stamp
         by_stamp None e = rw e refl
         by_stamp (Some version) e = rw e refl
 
@@ -314,13 +314,13 @@ with_fact cause fact kept before (item ∷ items) have known = (
 
 -- what is said to the controller was sent to it
 pub said_sent : (before : List Item) (number : ℕ) (body : Body) → journal_body_to_controller before number
-    ≡ Some body → journal_message_of before number ≡ Some (to_controller body)
+    ≡ Some body → journal_message_of before number ≡ Some (message_to_controller body)
 said_sent before number body said = grind arith
 
 -- a hello that was told was sent
 pub hello_sent : (before : List Item) (s number boot : ℕ)
     → option_and_then (machine_hello_boot s) (journal_body_to_controller before number) ≡ Some boot
-    → journal_message_of before number ≡ Some (to_controller (Hello s boot))
+    → journal_message_of before number ≡ Some (message_to_controller (Hello s boot))
 hello_sent before s number boot told = grind (arith, nat_tests)
 
 -- ---- boots rise
@@ -354,15 +354,15 @@ boot_rises setting before item s cause = rw (boot_more before item s) (omega ari
 -- ---- what items keep
 
 past_on : (setting : Setting) (before : List Item) (item : Item) (to : Place) (body : Body)
-    → HasControlItemCause setting before item → HasPastBoot before to body
-    → HasPastBoot (before ++ item ∷ []) to body
+    → HasControlItemCause setting before item → ControlHasPastBoot before to body
+    → ControlHasPastBoot (before ++ item ∷ []) to body
 past_on setting before item (Place.Switch s) body cause past = IfSome_then (body_boot body) past
     (λ boot below. omega (arith, below, known_rises before item s))
 past_on setting before item Place.Controller body cause past = IfSome_then (machine_speaking_in_body body) past
     (λ of below. omega (arith, below, boot_rises setting before item of.0 cause))
 
 sent_past : (setting : Setting) (before : List Item) (to : Place) (body : Body)
-    → IsRightControlMessage setting before to body → HasPastBoot before to body
+    → IsRightControlMessage setting before to body → ControlHasPastBoot before to body
 sent_past setting before (Place.Switch s) (CacheRule version word rule action) right = tt
 sent_past setting before (Place.Switch s) (Advertise advert) right = tt
 sent_past setting before (Place.Switch s) (Hello t boot) right = absurd right
@@ -404,14 +404,14 @@ new_or_old cause Says before next has new old n message is =
     ]
 
 -- a hello that is told is of a past boot
-pub told_past : (before : List Item) (s number boot : ℕ) → BootsAreKnown before
+pub told_past : (before : List Item) (s number boot : ℕ) → ControlBootsArePast before
     → option_and_then (machine_hello_boot s) (journal_body_to_controller before number) ≡ Some boot
     → boot ≤ journal_boot_of before s
-told_past before s number boot boots told = boots.sent number (to_controller (Hello s boot))
+told_past before s number boot boots told = boots.sent number (message_to_controller (Hello s boot))
     (hello_sent before s number boot told)
 
 known_on : (setting : Setting) (before : List Item) (item : Item) (s : ℕ)
-    → HasControlItemCause setting before item → BootsAreKnown before
+    → HasControlItemCause setting before item → ControlBootsArePast before
     → journal_known_boot (before ++ item ∷ []) s ≤ journal_boot_of (before ++ item ∷ []) s
 known_on setting before (Item.Delivered number) s cause boots =
     rw (known_more before (Item.Delivered number) s, boot_more before (Item.Delivered number) s)
@@ -425,15 +425,15 @@ known_on setting before item s cause boots =
     omega (arith, known_more before item s, boots.known s, boot_rises setting before item s cause)
 
 pub boots_on : (setting : Setting) (before : List Item) (item : Item) → HasControlItemCause setting before
-    item → BootsAreKnown before → BootsAreKnown (before ++ item ∷ [])
+    item → ControlBootsArePast before → ControlBootsArePast (before ++ item ∷ [])
 boots_on setting before item cause boots = record {
   known = λ s. known_on setting before item s cause boots;
   sent = λ n message is. past_on setting before item message.to message.body cause
-      (new_or_old (HasControlItemCause setting) (HasPastBoot before) before item cause
+      (new_or_old (HasControlItemCause setting) (ControlHasPastBoot before) before item cause
       (λ k sent. sent_past setting before sent.to sent.body) boots.sent n message is);
 }
 
-pub boots_at_first : BootsAreKnown []
+pub boots_at_first : ControlBootsArePast []
 boots_at_first = record {
   known = λ s. omega (arith, start_laws.known s, start_laws.boot s);
   sent = λ n message is.

@@ -1,7 +1,7 @@
 -- The steps that leave all that the controller knows as it was.
 use Rattle.std.proofs.Common.{[], ◌++◌, ◌+◌, ◌==◌, ◌∙◌, ◌∷◌, ◌≡◌, Bool, IsFalse, IsTrue, List, None, Option, Some, ap, arith, eqb-true, false, filter, if◌then◌else◌, is_some, map, not, refl, sym, true, ℕ}
 use Rattle.base.proofs.Exports.{⊤, AllByRecursion, each_always, each_flat_map, each_map, option_or}
-use Rattle.update_machine.specs.Exports.{Advert, Body, Confirm, JournalControllerKeeps, Crash, Deliver, JournalItemsHaveCauses, Item, Message, OpenAt, Packet, Place, Resend, Restart, Setting, Step, Update, acked_stamp, machine_advert_to, journal_controller_heard, deliver_items, machine_first_open, has_acked, journal_held_adverts, journal_install_for, is_member, is_journal_controller_message, is_over, journal_known_boot, journal_link_changes, near, journal_next_message, journal_next_packet, machine_open_sent, journal_opened_at, machine_advert_passed_on, piece, machine_resend_items, restart_items, send_items, machine_sent_items_from, machine_step_items, journal_switch_items, setting_switches_in, machine_message_to_switch, journal_unacked_installs, journal_versions_from_current}
+use Rattle.update_machine.specs.Exports.{Advert, Body, Confirm, JournalControllerKeeps, Crash, Deliver, JournalItemsHaveCauses, Item, Message, OpenAt, Packet, Place, Resend, Restart, Setting, Step, Update, acked_stamp, machine_advert_to, journal_controller_heard, machine_deliver_items, machine_first_open, has_acked, journal_held_adverts, journal_install_for, is_member, is_journal_controller_message, is_over, journal_known_boot, journal_link_changes, near, journal_next_message, journal_next_packet, machine_open_sent, journal_opened_at, machine_advert_passed_on, piece, machine_resend_items, machine_restart_items, machine_send_items, machine_sent_items_from, machine_step_items, journal_switch_items, machine_switches_in, machine_message_to_switch, journal_unacked_installs, journal_versions_from_current}
 use Rattle.update_machine.proofs.Exports.{controller_keeps}
 use Rattle.control_laws.proofs.ControlFactsGrown.{count_more, current_more, fact_on, have_weaker, known_more, message_more, opened_at_more, over_more, piece_has, retired_more, told_more}
 use Rattle.control_laws.proofs.ControlMessageSends.{acked_same}
@@ -171,7 +171,7 @@ links_leave setting before journal =
     traffic_leave setting journal _ (links_traffic setting before journal)
 
 passed_leave : (setting : Setting) (journal : List Item) (s : ℕ) (advert : Advert)
-    → Leave journal (send_items journal (machine_advert_passed_on setting journal s advert))
+    → Leave journal (machine_send_items journal (machine_advert_passed_on setting journal s advert))
 passed_leave setting journal s advert =
     traffic_leave setting journal _ (passed_traffic setting journal s advert)
 
@@ -207,7 +207,7 @@ sent_leave (message ∷ messages) journal n all = (
 )
 
 pub sends_leave : (journal : List Item) (messages : List Message)
-    → AllByRecursion (ReopensAlone journal) messages → Leave journal (send_items journal messages)
+    → AllByRecursion (ReopensAlone journal) messages → Leave journal (machine_send_items journal messages)
 sends_leave journal messages all = sent_leave messages journal (journal_next_message journal) all
 
 -- ---- at a switch
@@ -222,7 +222,7 @@ switch_leaves setting before s body now = switch_cases (Leave now) setting befor
 deliver_leaves : (setting : Setting) (before : List Item) (row number : ℕ) (step : Step)
     → IsFalse (is_journal_controller_message before number)
     → let here = before ++ Item.Row row step ∷ [] in
-    Leave here (deliver_items setting before number here)
+    Leave here (machine_deliver_items setting before number here)
 deliver_leaves setting before row number step none = deliver_has LeavesController setting before
     number _ tt (rw (message_more before (Item.Row row step) number) none)
     (λ body sent. let clash : true ≡ false = rw sent at none in absurd cc)
@@ -230,8 +230,8 @@ deliver_leaves setting before row number step none = deliver_has LeavesControlle
 
 -- ---- a switch that begins a boot
 
-restart_leaves : (s : ℕ) (journal : List Item) → Leave journal (restart_items s journal)
-unfolding restart_items machine_sent_items_from
+restart_leaves : (s : ℕ) (journal : List Item) → Leave journal (machine_restart_items s journal)
+unfolding machine_restart_items machine_sent_items_from
 restart_leaves s journal = grind arith
 
 -- ---- what is sent again
@@ -257,7 +257,7 @@ resend_leaves setting s journal = resent_has LeavesController (ReopensAlone jour
     (λ neighbour. map (machine_advert_to neighbour) (journal_held_adverts setting journal s)) (λ neighbour. each_map
     (ReopensAlone journal) (machine_advert_to neighbour) (journal_held_adverts setting journal s)
     (each_always (λ advert. ReopensAlone journal (machine_advert_to neighbour advert)) (λ advert. tt)
-    (journal_held_adverts setting journal s))) (setting_switches_in setting (near setting journal s))))
+    (journal_held_adverts setting journal s))) (machine_switches_in setting (near setting journal s))))
     (each_by_controller (ReopensAlone journal) setting journal s (λ none member. each_to_member
     (ReopensAlone journal) setting journal s (member_parts journal s member).1
     (unacked_reopen setting journal s (later_versions journal)) tt (λ some. tt))

@@ -2,13 +2,13 @@
 -- one, and its newest claim, change together item by item.
 use Rattle.std.proofs.Common.{[], if◌then◌else◌, ◌&&◌, ◌++◌, ◌<◌, ◌==◌, ◌||◌, ◌∙◌, ◌∷◌, ◌≡◌, ◌≢◌, ◌≤◌, Bool, IsTrue, List, None, Option, Some, ap, arith, eq-eqb, false, filter_map, length, lt-ltb, map, nat_lt, ne_eqb, option_and_then, refl, subst, sym, true, ℕ, rules}
 use Rattle.base.proofs.Exports.{and_right, bit_at, cases_eq, filter_map-append, fold-append, get_or-map-range_with_len, has_mask, nat_tests, option_map_or, ⊤}
-use Rattle.update_machine.specs.Exports.{Advert, Advertise, Body, JournalClaim, JournalItemsHaveCauses, Item, Message, Net, Place, Setting, journal_adverts_begun, journal_adverts_of_others, journal_boot_of, changes_journal_claim, changes_journal_heard, journal_claim_by, journal_claim_in_message, journal_claim_of, heard, is_end, is_journal_body_for_boot, is_first_boot_in_journal, is_journal_receiver_switch, is_up, journal_message_of, near, newer_journal_claim_of, machine_advert_of_other, serves, setting_switches_of}
-use Rattle.failover.specs.Exports.{AreAdvertsByOrigin, adverts_after_hearing, after_hearing_all, first_adverts, held_advert, is_newer, is_news, names_neighbour, neighbours_named_by_advert, no_adverts}
+use Rattle.update_machine.specs.Exports.{Advert, Advertise, Body, JournalClaim, JournalItemsHaveCauses, Item, Message, Net, Place, Setting, journal_adverts_begun, journal_adverts_of_others, journal_boot_of, changes_journal_claim, changes_journal_heard, journal_claim_by, journal_claim_in_message, journal_claim_of, heard, is_journal_link_end, is_journal_body_for_boot, is_first_boot_in_journal, is_journal_receiver_switch, is_up, journal_message_of, near, newer_journal_claim_of, machine_advert_of_other, serves, machine_switches_of}
+use Rattle.failover.specs.Exports.{AreAdvertsByOrigin, adverts_after_hearing, adverts_after_hearing_all, first_adverts, held_advert, is_newer_advert, is_advert_news, advert_names_neighbour, neighbours_named_by_advert, no_adverts}
 use Rattle.failover.proofs.FailoverHeldAdverts.{after_no_news, held-first, held_heard, held_others}
 use Rattle.base.specs.Exports.{has}
 use Rattle.net_file.specs.Exports.{IsNet, links_of}
 use Rattle.net_file.proofs.NetFileRowPlaces.{links}
-use Rattle.steps.specs.Exports.{HasLink, HasSwitch}
+use Rattle.steps.specs.Exports.{StepLinkExists, StepSwitchExists}
 use Rattle.update_machine.proofs.Exports.{folded_append, heard_by_origin, near_usable, start_laws, usable_linked}
 use Rattle.control_laws.specs.Exports.{HasControlItemCause, ControlAdvertNamesLinks}
 use Rattle.control_laws.proofs.ControlFactsGrown.{AreKept, boot_more, boot_rises, fact_on, have_weaker, heard_more, up_more}
@@ -52,14 +52,14 @@ newer_none : (claim : Option JournalClaim) → newer_journal_claim_of claim None
 newer_none claim = search rules
 
 -- the advert is news where it is the newer claim
-newer_same : (advert old : Advert) (claim : JournalClaim) → IsClaimOf old claim → is_newer advert old
+newer_same : (advert old : Advert) (claim : JournalClaim) → IsClaimOf old claim → is_newer_advert advert old
     ≡ (nat_lt claim.boot advert.boot || (claim.boot == advert.boot && nat_lt claim.seq advert.seq))
 newer_same advert old claim same = search (rules, nat_tests)
 
 news_if : (adverts : List (Option Advert)) (advert : Advert) (found : Option Advert) (b : Bool)
     → advert.origin < 64 → held_advert adverts advert.origin ≡ found
-    → option_map_or (is_newer advert) found true ≡ b → is_news adverts advert ≡ b
-unfolding is_news
+    → option_map_or (is_newer_advert advert) found true ≡ b → is_advert_news adverts advert ≡ b
+unfolding is_advert_news
 news_if adverts advert found b small e f = cc (e, f, lt-ltb advert.origin 64 small)
 
 own_heard : (adverts : List (Option Advert)) (advert : Advert) (claim : Option JournalClaim)
@@ -69,7 +69,7 @@ own_heard : (adverts : List (Option Advert)) (advert : Advert) (claim : Option J
 own_heard adverts advert claim by small same =
     by_held (held_advert adverts advert.origin) claim refl same
   where
-    is_heard : is_news adverts advert ≡ true → AreSame (held_advert (adverts_after_hearing adverts advert)
+    is_heard : is_advert_news adverts advert ≡ true → AreSame (held_advert (adverts_after_hearing adverts advert)
         advert.origin) (Some (claim_from advert))
     is_heard news = rw (held_heard adverts advert by news) (from_advert advert)
 
@@ -80,11 +80,11 @@ own_heard adverts advert claim by small same =
     by_held None None e so = is_heard (news_if adverts advert None true small e refl)
     by_held None (Some old) e so = absurd so
     by_held (Some found) None e so = absurd so
-    by_held (Some found) (Some old) e so = by_test (is_newer advert found) refl where
+    by_held (Some found) (Some old) e so = by_test (is_newer_advert advert found) refl where
       test : Bool
       test = nat_lt old.boot advert.boot || (old.boot == advert.boot && nat_lt old.seq advert.seq)
 
-      by_test : (b : Bool) → is_newer advert found ≡ b
+      by_test : (b : Bool) → is_newer_advert advert found ≡ b
           → AreSame (held_advert (adverts_after_hearing adverts advert) advert.origin)
           (if test then Some (claim_from advert) else Some old)
       by_test true f = let newer : test ≡ true = sym (newer_same advert found old so) ∙ f in
@@ -103,26 +103,26 @@ advert_heard adverts advert one claim by small same =
 -- ---- one item
 
 others_more : (adverts : List (Option Advert)) (s : ℕ) (bodies : List Body) (body : Body)
-    → after_hearing_all adverts (filter_map (machine_advert_of_other s) (bodies ++ body ∷ []))
-    ≡ after_hearing_all (after_hearing_all adverts (filter_map (machine_advert_of_other s) bodies))
+    → adverts_after_hearing_all adverts (filter_map (machine_advert_of_other s) (bodies ++ body ∷ []))
+    ≡ adverts_after_hearing_all (adverts_after_hearing_all adverts (filter_map (machine_advert_of_other s) bodies))
     (filter_map (machine_advert_of_other s) (body ∷ []))
 others_more adverts s bodies body = search (rules, filter_map-append, fold-append)
 
 -- a body that a switch heard, or that wasn't for it
 body_heard : (adverts : List (Option Advert)) (bodies : List Body)
     (s one t boot : ℕ) (up : Bool) (body : Body) (claim : Option JournalClaim) → IsTrue up
-    → AreAdvertsByOrigin (after_hearing_all adverts (filter_map (machine_advert_of_other s) bodies))
+    → AreAdvertsByOrigin (adverts_after_hearing_all adverts (filter_map (machine_advert_of_other s) bodies))
     → one ≢ s → one < 64 → AreSame
-    (held_advert (after_hearing_all adverts (filter_map (machine_advert_of_other s) bodies)) one) claim
+    (held_advert (adverts_after_hearing_all adverts (filter_map (machine_advert_of_other s) bodies)) one) claim
     → AreSame
-    (held_advert (after_hearing_all adverts (filter_map (machine_advert_of_other s) (option_map_or (λ b. bodies
+    (held_advert (adverts_after_hearing_all adverts (filter_map (machine_advert_of_other s) (option_map_or (λ b. bodies
     ++ b ∷ []) (if (t == s) && up && is_journal_body_for_boot boot body then Some body else None) bodies))) one)
     (newer_journal_claim_of claim (journal_claim_by s one (Place.Switch t) body))
 body_heard adverts bodies s one t boot up (Advertise advert) claim is by apart small same =
     by_tests (t == s) (advert.origin == s) refl refl
   where
     by_tests : (b c : Bool) → (t == s) ≡ b → (advert.origin == s) ≡ c → AreSame (held_advert
-        (after_hearing_all adverts (filter_map (machine_advert_of_other s) (option_map_or (λ b. bodies
+        (adverts_after_hearing_all adverts (filter_map (machine_advert_of_other s) (option_map_or (λ b. bodies
         ++ b ∷ []) (if (t == s) && up && true then Some (Advertise advert) else None) bodies))) one)
         (newer_journal_claim_of claim (journal_claim_by s one (Place.Switch t) (Advertise advert)))
     by_tests false c e f = rw (e, newer_none claim) same
@@ -135,7 +135,7 @@ body_heard adverts bodies s one t boot up body claim is by apart small same =
     rw (newer_none claim) (by_test ((t == s) && up && is_journal_body_for_boot boot body))
   where
     by_test : (b : Bool)
-        → AreSame (held_advert (after_hearing_all adverts (filter_map (machine_advert_of_other s)
+        → AreSame (held_advert (adverts_after_hearing_all adverts (filter_map (machine_advert_of_other s)
         (option_map_or (λ b. bodies ++ b ∷ []) (if b then Some body else None) bodies))) one) claim
     by_test true = rw (others_more adverts s bodies body) same
     by_test false = same
@@ -149,8 +149,8 @@ pub record AreHeld (setting : Setting) (one : ℕ) (journal : List Item) : Type 
 
 -- what is held, by the boot and the bodies
 abbrev held_by : Setting → ℕ → ℕ → Bool → List Body → Option Advert
-held_by setting s one first bodies = held_advert (after_hearing_all (if first
-    then first_adverts (map (links_of setting.net.links) (setting_switches_of setting))
+held_by setting s one first bodies = held_advert (adverts_after_hearing_all (if first
+    then first_adverts (map (links_of setting.net.links) (machine_switches_of setting))
     (length setting.net.switches) else no_adverts) (filter_map (machine_advert_of_other s) bodies)) one
 
 -- what a message says to a switch, if it is for it
@@ -246,7 +246,7 @@ held_kept setting one small before next cause kept = record {
 
 -- ---- at first
 
-held_at_first : (setting : Setting) (one : ℕ) → one < 64 → HasSwitch setting.net one
+held_at_first : (setting : Setting) (one : ℕ) → one < 64 → StepSwitchExists setting.net one
     → AreHeld setting one []
 unfolding journal_claim_of
 held_at_first setting one small there =
@@ -255,7 +255,7 @@ held_at_first setting one small there =
 -- of another switch of the network, what a switch that is up holds is what it heard claimed
 pub claims_held : (setting : Setting) (journal : List Item)
     → JournalItemsHaveCauses (HasControlItemCause setting) [] journal → (s one : ℕ) → one ≢ s → one < 64
-    → HasSwitch setting.net one → IsTrue (is_up journal s)
+    → StepSwitchExists setting.net one → IsTrue (is_up journal s)
     → AreSame (held_advert (journal_adverts_of_others setting journal s) one)
     (journal_claim_of setting journal s one)
 claims_held setting journal have s one apart small there up = (fact_on _ (AreHeld setting one)
@@ -266,7 +266,7 @@ claims_held setting journal have s one apart small there up = (fact_on _ (AreHel
 -- the claim of this switch names only switches to which the network has a link of it
 abbrev pub ClaimsLinks : Net → ℕ → Option JournalClaim → Type 0
 ClaimsLinks net one None = ⊤
-ClaimsLinks net one (Some claim) = (k : ℕ) → IsTrue (claim.links k) → HasLink net one k
+ClaimsLinks net one (Some claim) = (k : ℕ) → IsTrue (claim.links k) → StepLinkExists net one k
 
 newer_links : (net : Net) (one : ℕ) (old new : Option JournalClaim) → ClaimsLinks net one old
     → ClaimsLinks net one new → ClaimsLinks net one (newer_journal_claim_of old new)
@@ -323,8 +323,8 @@ pub record IsNamed (one two : ℕ) (P : Type 0) : Type 0 where
   pub two_small : two < 64
   pub named : P
 
-linked_small : (net : Net) (one two : ℕ) → IsNet net → HasLink net one two
-    → HasSwitch net one × HasSwitch net two
+linked_small : (net : Net) (one two : ℕ) → IsNet net → StepLinkExists net one two
+    → StepSwitchExists net one × StepSwitchExists net two
 linked_small net one two sound linked = (
   links.below net two one sound (links.both_ways net.links two one ∙ linked),
   links.below net one two sound linked,
@@ -334,9 +334,9 @@ linked_small net one two sound linked = (
 pub names_end : (setting : Setting) (journal : List Item)
     → JournalItemsHaveCauses (HasBothCauses setting) [] journal → IsNet setting.net
     → (s one two : ℕ) → one ≢ s → IsTrue (serves journal s)
-    → IsTrue (is_end setting journal s one two)
-    → IsNamed one two (IsTrue (names_neighbour (journal_adverts_of_others setting journal s) one two))
-unfolding names_neighbour
+    → IsTrue (is_journal_link_end setting journal s one two)
+    → IsNamed one two (IsTrue (advert_names_neighbour (journal_adverts_of_others setting journal s) one two))
+unfolding advert_names_neighbour
 names_end setting journal have net s one two apart serving is =
     by_claim (journal_claim_of setting journal s one) refl (rw (ne_eqb one s apart) at is)
   where
@@ -349,13 +349,13 @@ names_end setting journal have net s one two apart serving is =
     by_held : (claim : JournalClaim) (found : Option Advert)
         → held_advert (journal_adverts_of_others setting journal s) one ≡ found
         → two < 64 → IsTrue (claim.links two) → AreSame found (Some claim)
-        → IsTrue (names_neighbour (journal_adverts_of_others setting journal s) one two)
+        → IsTrue (advert_names_neighbour (journal_adverts_of_others setting journal s) one two)
     by_held claim None e small linked same = absurd same
     by_held claim (Some advert) e small linked same = cc (e, same.links two small, linked)
 
     by_claim : (claim : Option JournalClaim) → journal_claim_of setting journal s one ≡ claim
         → IsTrue (option_map_or (λ c. c.links two) claim false)
-        → IsNamed one two (IsTrue (names_neighbour (journal_adverts_of_others setting journal s) one two))
+        → IsNamed one two (IsTrue (advert_names_neighbour (journal_adverts_of_others setting journal s) one two))
     by_claim None e linked = absurd cc
     by_claim (Some claim) e linked =
         let there = linked_small setting.net one two net (subst (ClaimsLinks setting.net one) e
@@ -371,7 +371,7 @@ names_end setting journal have net s one two apart serving is =
 
 -- a switch's own ends are those of the links that it can use
 pub own_end : (setting : Setting) (journal : List Item) → IsNet setting.net → (s two : ℕ)
-    → IsTrue (is_end setting journal s s two)
+    → IsTrue (is_journal_link_end setting journal s s two)
     → IsNamed s two (IsTrue (has (near setting journal s) two))
 own_end setting journal net s two is =
     search (rules, eq-eqb, linked_small, usable_linked, near_usable)

@@ -1,7 +1,7 @@
 -- What items do to links, and pieces in which links of one switch change.
 use Rattle.std.proofs.Common.{[], if◌then◌else◌, ◌&&◌, ◌++◌, ◌+◌, ◌==◌, ◌∙◌, ◌∷◌, ◌≡◌, ◌≢◌, Bool, IsFalse, List, None, Some, ap, append_assoc, inl, inr, max, min, ne_eqb, sym, true, ℕ, rules}
 use Rattle.base.proofs.Exports.{nat_tests, none_where_other}
-use Rattle.update_machine.specs.Exports.{Item, LinkRow, MachineLinksKeep, NoneConcern, Setting, journal_boot_of, concerns_links, gives_journal_link, machine_item_gives_serving, is_link_up_in_journal, is_up, is_usable_in_journal, journal_link_changes, near, own_advert, serves}
+use Rattle.update_machine.specs.Exports.{Item, LinkRow, MachineLinksKeep, NoMachineItemConcerns, Setting, journal_boot_of, machine_item_concerns_links, gives_journal_link, machine_item_gives_serving, is_link_up_in_journal, is_up, is_usable_in_journal, journal_link_changes, near, own_advert, serves}
 use Rattle.update_machine.proofs.Exports.{last_given_append, links_keep, stays}
 use Rattle.control_laws.proofs.ControlFactsGrown.{boot_more, serving_more, up_more}
 use Rattle.control_laws.proofs.ControlSaidToController.{ChangedNoLinks, HasLinkCause}
@@ -26,17 +26,17 @@ usable_same : (before : List Item) (next : Item) (link : LinkRow)
     → is_usable_in_journal (before ++ next ∷ []) link ≡ is_usable_in_journal before link
 usable_same before next link up one two = search (rules, link_same, serving_same)
 
-silent_link : (next : Item) (a b : ℕ) (before : List Item) → IsFalse (concerns_links before next)
+silent_link : (next : Item) (a b : ℕ) (before : List Item) → IsFalse (machine_item_concerns_links before next)
     → gives_journal_link a b next ≡ None
 silent_link next a b before apart = search rules
 
 silent_serving : (next : Item) (s : ℕ) (before : List Item)
-    → IsFalse (concerns_links before next) → machine_item_gives_serving s next ≡ None
+    → IsFalse (machine_item_concerns_links before next) → machine_item_gives_serving s next ≡ None
 silent_serving next s before apart = search rules
 
-usable_stays : (before items : List Item) (link : LinkRow) → NoneConcern concerns_links before items
+usable_stays : (before items : List Item) (link : LinkRow) → NoMachineItemConcerns machine_item_concerns_links before items
     → is_usable_in_journal (before ++ items) link ≡ is_usable_in_journal before link
-usable_stays before items link none = stays _ concerns_links (λ journal next apart. usable_same
+usable_stays before items link none = stays _ machine_item_concerns_links (λ journal next apart. usable_same
     journal next link (silent_link next _ (max link.one link.two) journal apart)
     (silent_serving next link.one journal apart) (silent_serving next link.two journal apart))
     before items none
@@ -92,7 +92,7 @@ pub record IsLinkPiece (setting : Setting) (before items : List Item) : Type 0 w
   pub own : (s : ℕ) → OwnAfter setting before now s
   pub written : items ≡ changes ++ journal_link_changes setting before now
 
-up_silent : (before : List Item) (next : Item) (s : ℕ) → IsFalse (concerns_links before next)
+up_silent : (before : List Item) (next : Item) (s : ℕ) → IsFalse (machine_item_concerns_links before next)
     → is_up (before ++ next ∷ []) s ≡ is_up before s
 up_silent before next s apart = search (rules, up_more)
 
@@ -111,8 +111,8 @@ goes_on_between setting before here there now s first last (inr next) =
 
 pub link_piece : (setting : Setting) (before quiet : List Item) (next : Item) (rest : List Item)
     (t : ℕ) → ChangesLinksOf t next
-    → ChangedNoLinks (before ++ quiet) → NoneConcern concerns_links before quiet
-    → NoneConcern concerns_links ((before ++ quiet) ++ next ∷ []) rest
+    → ChangedNoLinks (before ++ quiet) → NoMachineItemConcerns machine_item_concerns_links before quiet
+    → NoMachineItemConcerns machine_item_concerns_links ((before ++ quiet) ++ next ∷ []) rest
     → sent (quiet ++ next ∷ rest) ≡ 0 → (items : List Item)
     → items ≡ (quiet ++ next ∷ rest) ++ journal_link_changes setting before
     (((before ++ quiet) ++ next ∷ []) ++ rest) → IsLinkPiece setting before items

@@ -1,8 +1,8 @@
 -- How many adverts are sent where the links of one switch change.
 use Rattle.std.proofs.Common.{[], ◌&&◌, ◌*◌, ◌+◌, ◌<◌, ◌==◌, ◌||◌, ◌∙◌, ◌∷◌, ◌≡◌, ◌≢◌, ◌≤◌, ◌⊎◌, Bool, IsTrue, List, ap, arith, cond, eq-eqb, eqb-true, false, filter, flat_map, inl, inr, length, map, mul-add, mul-le-mul_right, ne_eqb, not, refl, suc, sum_by, sym, true, zero, ℕ, rules}
 use Rattle.base.proofs.Exports.{cases_eq, length-filter_map, length-flat_map, length-map, length-range_with_len, length_filter_less, list_any, mask_of_lt, range_with_len, sum_by-cons, sum_by-le-sum_by, sum_each, sum_filter, sum_some}
-use Rattle.net_file.specs.Exports.{IsNet, are_linked_in_net, joins, links_of}
-use Rattle.update_machine.specs.Exports.{Item, LinkRow, Message, Setting, machine_advert_to, journal_usable_links_changed, journal_held_adverts, is_usable_in_journal, machine_messages_of, machine_messages_over_link, near, own_advert, setting_switches_of, usable_links}
+use Rattle.net_file.specs.Exports.{IsNet, are_linked_in_net, net_link_joins, links_of}
+use Rattle.update_machine.specs.Exports.{Item, LinkRow, Message, Setting, machine_advert_to, journal_usable_links_changed, journal_held_adverts, is_usable_in_journal, machine_messages_of, machine_messages_over_link, near, own_advert, machine_switches_of, machine_usable_links}
 use Rattle.base.specs.Exports.{has, switches}
 use Rattle.net_file.proofs.NetFilePortMasks.{in_mask_of, in_mask_past}
 use Rattle.control_laws.proofs.ControlNetLinks.{linked_by_mask}
@@ -85,9 +85,9 @@ sum_more : (link : LinkRow) (links : List LinkRow) (s m : ℕ)
 sum_more link links s m = omega (
   arith,
   sum_by-le-sum_by (λ x. once (are_linked_in_net (link ∷ links) s x))
-      (λ x. once (joins s x link) + once (are_linked_in_net links s x)) (range_with_len 0 m)
-      (λ x. either (joins s x link) (are_linked_in_net links s x)),
-  sum_plus (λ x. once (joins s x link)) (λ x. once (are_linked_in_net links s x)) (range_with_len 0 m),
+      (λ x. once (net_link_joins s x link) + once (are_linked_in_net links s x)) (range_with_len 0 m)
+      (λ x. either (net_link_joins s x link) (are_linked_in_net links s x)),
+  sum_plus (λ x. once (net_link_joins s x link)) (λ x. once (are_linked_in_net links s x)) (range_with_len 0 m),
   ends_few (link.one == s) (link.two == s) link.one link.two 0 m,
 )
 
@@ -122,7 +122,7 @@ pub record ChangesAt (before now : List Item) (t : ℕ) : Type 0 where
       is_usable_in_journal now link ≡ is_usable_in_journal before link
 
 -- each end of a link that joins two switches is one of them
-joined_ends : (x y : ℕ) (link : LinkRow) → joins x y link ≡ true
+joined_ends : (x y : ℕ) (link : LinkRow) → net_link_joins x y link ≡ true
     → ((link.one ≡ x) ⊎ (link.one ≡ y)) × ((link.two ≡ x) ⊎ (link.two ≡ y))
 joined_ends x y link joined = search (rules, eqb-true)
 
@@ -135,27 +135,27 @@ linked_same : (before now : List Item) (t s k : ℕ) → ChangesAt before now t
     ≡ are_linked_in_net (filter (is_usable_in_journal before) links) s k
 linked_same before now t s k changes other far [] = refl
 linked_same before now t s k changes other far (link ∷ links) =
-    by_joins (joins s k link) refl (linked_same before now t s k changes other far links)
+    by_joins (net_link_joins s k link) refl (linked_same before now t s k changes other far links)
   where
-    skipped : (b : Bool) (rest : List LinkRow) → joins s k link ≡ false
-        → list_any (joins s k) (cond b (link ∷ rest) rest) ≡ list_any (joins s k) rest
+    skipped : (b : Bool) (rest : List LinkRow) → net_link_joins s k link ≡ false
+        → list_any (net_link_joins s k) (cond b (link ∷ rest) rest) ≡ list_any (net_link_joins s k) rest
     skipped true rest e = rw e refl
     skipped false rest e = refl
 
-    by_joins : (joined : Bool) → joins s k link ≡ joined → list_any (joins s k)
-        (filter (is_usable_in_journal now) links) ≡ list_any (joins s k) (filter (is_usable_in_journal before) links)
-        → list_any (joins s k) (cond (is_usable_in_journal now link) (link ∷ filter (is_usable_in_journal now) links)
-        (filter (is_usable_in_journal now) links)) ≡ list_any (joins s k) (cond (is_usable_in_journal before link)
+    by_joins : (joined : Bool) → net_link_joins s k link ≡ joined → list_any (net_link_joins s k)
+        (filter (is_usable_in_journal now) links) ≡ list_any (net_link_joins s k) (filter (is_usable_in_journal before) links)
+        → list_any (net_link_joins s k) (cond (is_usable_in_journal now link) (link ∷ filter (is_usable_in_journal now) links)
+        (filter (is_usable_in_journal now) links)) ≡ list_any (net_link_joins s k) (cond (is_usable_in_journal before link)
         (link ∷ filter (is_usable_in_journal before) links) (filter (is_usable_in_journal before) links))
     by_joins false e rest = skipped (is_usable_in_journal now link) _ e ∙ rest ∙ sym (skipped _ _ e)
     by_joins true e rest = let ends = joined_ends s k link e in
         rw (changes.others link (away s k t link.one other far ends.0)
         (away s k t link.two other far ends.1)) (by_usable (is_usable_in_journal before link))
       where
-        by_usable : (b : Bool) → list_any (joins s k) (cond b (link ∷ filter (is_usable_in_journal now) links)
-            (filter (is_usable_in_journal now) links)) ≡ list_any (joins s k)
+        by_usable : (b : Bool) → list_any (net_link_joins s k) (cond b (link ∷ filter (is_usable_in_journal now) links)
+            (filter (is_usable_in_journal now) links)) ≡ list_any (net_link_joins s k)
             (cond b (link ∷ filter (is_usable_in_journal before) links) (filter (is_usable_in_journal before) links))
-        by_usable true = ap (λ c. joins s k link || c) rest
+        by_usable true = ap (λ c. net_link_joins s k link || c) rest
         by_usable false = rest
 
 -- a mask of neighbours, bit by bit
@@ -167,7 +167,7 @@ same_bits one other s k same = search (rules, in_mask_of, in_mask_past, mask_of_
 same_neighbour : (setting : Setting) (before now : List Item) (t s k : ℕ) → ChangesAt before now t
     → s ≢ t → k ≢ t → has (near setting now s) k ≡ has (near setting before s) k
 unfolding near
-same_neighbour setting before now t s k changes other far = same_bits (usable_links setting now) _ s
+same_neighbour setting before now t s k changes other far = same_bits (machine_usable_links setting now) _ s
     k (linked_same before now t s k changes other far setting.net.links)
 
 -- a link became usable
@@ -202,23 +202,23 @@ over_few setting before now s k = by_links (has (near setting now s) k) _ where
   by_links false c = omega arith
 
 constant_few : (setting : Setting) → IsNet setting.net → (b : ℕ)
-    → sum_by (λ k. b) (setting_switches_of setting) ≤ 64 * b
+    → sum_by (λ k. b) (machine_switches_of setting) ≤ 64 * b
 constant_few setting net b =
-    let few : length (setting_switches_of setting) ≤ 64 =
+    let few : length (machine_switches_of setting) ≤ 64 =
     omega (arith, length-range_with_len 0 (length setting.net.switches), net.few_switches) in
     omega (
       arith,
-      sum_each (λ k. b) b (setting_switches_of setting) (λ k. omega arith),
+      sum_each (λ k. b) b (machine_switches_of setting) (λ k. omega arith),
       mul-le-mul_right b few,
     )
 
 -- what a switch sends: one advert over each usable link, and 63 more over each new one
 by_few : (setting : Setting) (before now : List Item) (t s : ℕ) → IsNet setting.net
     → ChangesAt before now t → length (machine_messages_of setting before now s)
-    ≤ sum_by (λ k. once (has (near setting now s) k)) (setting_switches_of setting)
+    ≤ sum_by (λ k. once (has (near setting now s) k)) (machine_switches_of setting)
     + 63 * (64 * once (t == s) + 1)
 by_few setting before now t s net changes =
-    let all : List ℕ = setting_switches_of setting in
+    let all : List ℕ = machine_switches_of setting in
     let fresh : ℕ → ℕ = λ k. once (is_new setting before now s k) in
     omega (
       arith,
@@ -241,15 +241,15 @@ by_few setting before now t s net changes =
 -- what the switches tell whose links changed
 abbrev pub all_adverts_sent : Setting → List Item → List Item → List Message
 all_adverts_sent setting before now = flat_map (machine_messages_of setting before now)
-    (filter (journal_usable_links_changed setting before now) (setting_switches_of setting))
+    (filter (journal_usable_links_changed setting before now) (machine_switches_of setting))
 
 pairs_near : (setting : Setting) (now : List Item) → IsNet setting.net
-    → sum_by (λ s. sum_by (λ k. once (has (near setting now s) k)) (setting_switches_of setting))
-    (setting_switches_of setting) ≤ 512
+    → sum_by (λ s. sum_by (λ k. once (has (near setting now s) k)) (machine_switches_of setting))
+    (machine_switches_of setting) ≤ 512
 unfolding near
 pairs_near setting now net =
-    let links : List LinkRow = usable_links setting now in
-    let all : List ℕ = setting_switches_of setting in
+    let links : List LinkRow = machine_usable_links setting now in
+    let all : List ℕ = machine_switches_of setting in
     omega (
       arith,
       sum_by-le-sum_by (λ s. sum_by (λ k. once (has (links_of links s) k)) all)
@@ -268,7 +268,7 @@ pairs_near setting now net =
 pub changes_few : (setting : Setting) (before now : List Item) (t : ℕ) → IsNet setting.net
     → ChangesAt before now t → length (all_adverts_sent setting before now) ≤ 8576
 changes_few setting before now t net changes =
-    let all : List ℕ = setting_switches_of setting in
+    let all : List ℕ = machine_switches_of setting in
     let row : ℕ → ℕ = λ s. sum_by (λ k. once (has (near setting now s) k)) all in
     let more : ℕ → ℕ = λ s. 64 * once (t == s) + 1 in
     omega (

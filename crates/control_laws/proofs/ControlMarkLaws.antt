@@ -1,9 +1,9 @@
 -- All that items with their causes keep of versions and marks, together.
 use Rattle.std.proofs.Common.{[], ◌++◌, ◌-◌, ◌<◌, ◌∷◌, ◌≡◌, ◌≤◌, IsFalse, IsTrue, List, None, Some, ap, arith, eq-eqb, inl, inr, is_some, length, map, refl, subst, unwrap_or, ℕ, rules}
 use Rattle.base.proofs.Exports.{⊤, AllByRecursion, cases_lt, each_unmap, list_any, nat_tests}
-use Rattle.update_machine.specs.Exports.{Body, Collect, JournalItemsHaveCauses, Item, Message, OpenAt, Place, Setting, Stamp, acked_stamp, is_collect_message_of_version, journal_current_mark, heard, holds_version, is_member, is_up, machine_least_number, members, journal_message_of, journal_next_retired, open_version, journal_opened_at, journal_retired_mark, journal_stamp_of, machine_message_to_switch}
+use Rattle.update_machine.specs.Exports.{Body, Collect, JournalItemsHaveCauses, Item, Message, OpenAt, Place, Setting, Stamp, acked_stamp, message_collects_version, journal_current_mark, heard, holds_version, is_member, is_up, machine_least_number, members, journal_message_of, journal_next_retired, open_version, journal_opened_at, journal_retired_mark, journal_stamp_of, machine_message_to_switch}
 use Rattle.update_machine.proofs.Exports.{start_laws}
-use Rattle.control_laws.specs.Exports.{HasControlItemCause, HasHeardTables, IsAckedFirst, IsFirstOpeningMessage, IsControlStampAfterAck, IsRightControlMessage, IsRightControlOpening, IsRightStamp, ControlLetsStampAfterAck, ControlMarksAreBounded, ControlMembersAcknowledged, ControlRetirementHasCause, ServingHoldVersions, ServingIsKnown}
+use Rattle.control_laws.specs.Exports.{HasControlItemCause, ControlSwitchHeardTables, IsControlAckedFirst, IsFirstControlOpening, IsControlStampAfterAck, IsRightControlMessage, IsRightControlOpening, IsRightControlStamp, ControlLetsStampAfterAck, ControlMarksAreBounded, ControlMembersAcknowledged, ControlRetirementHasCause, ControlServingHoldVersions, ControlServingIsKnown}
 use Rattle.control_laws.proofs.ControlFactsGrown.{AreKept, Behind, FromCauses, NeverFalls, by_number, fact_on, from_causes, retired_more, with_fact}
 use Rattle.control_laws.proofs.ControlCurrentVersions.{StampsAreCurrent, acked_current, current_at_first, current_kept, heard_on, right_current}
 use Rattle.control_laws.proofs.ControlSaidToController.{acked_stamp_opened, acked_stamp_rises, each_in_range, least_below}
@@ -28,7 +28,7 @@ same_above setting before next s leaves retired is =
     search (rules, member_was, acked_stamp_rises, open_was)
 
 new_above : (setting : Setting) (before : List Item) (n s version : ℕ) (message : Message)
-    → StampsAreCurrent before → IsFirstOpeningMessage before s version
+    → StampsAreCurrent before → IsFirstControlOpening before s version
     → journal_opened_at (before ++ Item.Sent n message ∷ []) s ≡ Some version
     → IsAbove setting (before ++ Item.Sent n message ∷ []) s
 unfolding is_member journal_retired_mark acked_stamp
@@ -163,7 +163,7 @@ opening_let setting before s boot version are right = record {
 }
 
 stamp_let : (setting : Setting) (before : List Item) (s boot version : ℕ) (touched : List WordValue)
-    → AreMarked setting before → IsRightStamp setting before s boot version touched
+    → AreMarked setting before → IsRightControlStamp setting before s boot version touched
     → IsControlStampAfterAck setting before s boot version
 stamp_let setting before s boot version touched are right = record {
   known = right.to.known;
@@ -182,19 +182,19 @@ message_let setting before (Place.Switch s) (Stamp boot version touched) are rig
 message_let setting before to body are right = tt
 
 item_let : (setting : Setting) (before : List Item) (next : Item) → Behind (HasControlItemCause setting)
-    (AreMarked setting) before next → IsAckedFirst setting before next
+    (AreMarked setting) before next → IsControlAckedFirst setting before next
 item_let setting before (Item.Sent n message) behind =
     message_let setting before message.to message.body behind.known behind.caused
 item_let setting before _ behind = tt
 
 items_let : (setting : Setting) (before items : List Item)
     → JournalItemsHaveCauses (Behind (HasControlItemCause setting) (AreMarked setting)) before items
-    → JournalItemsHaveCauses (IsAckedFirst setting) before items
+    → JournalItemsHaveCauses (IsControlAckedFirst setting) before items
 items_let setting before [] have = tt
 items_let setting before (next ∷ items) have =
     (item_let setting before next have.0, items_let setting (before ++ next ∷ []) items have.1)
 
-pub acked_first : FromCauses (λ setting. JournalItemsHaveCauses (IsAckedFirst setting) [])
+pub acked_first : FromCauses (λ setting. JournalItemsHaveCauses (IsControlAckedFirst setting) [])
 acked_first setting journal have = items_let setting [] journal (with_fact (HasControlItemCause setting)
     (AreMarked setting) (marked_kept setting) [] journal have (marked_at_first setting))
 
@@ -238,21 +238,21 @@ caused_drops setting journal have = fact_on _ DropsRetired (drops_kept setting) 
 -- ---- what is held
 
 none_dropped : (mark version : ℕ) → mark < version → (bodies : List Body)
-    → AllByRecursion (DropsUpTo mark) bodies → IsFalse (list_any (is_collect_message_of_version version) bodies)
+    → AllByRecursion (DropsUpTo mark) bodies → IsFalse (list_any (message_collects_version version) bodies)
 none_dropped mark version above [] all = refl
 none_dropped mark version above (body ∷ bodies) all =
     search (rules, nat_tests, none_dropped mark version above bodies all.1)
 
 -- tables that it has and didn't drop
 tables_held : (journal : List Item) (s version : ℕ) → IsTrue (is_up journal s)
-    → HasHeardTables journal s version → IsFalse (list_any (is_collect_message_of_version version) (heard journal s))
+    → ControlSwitchHeardTables journal s version → IsFalse (list_any (message_collects_version version) (heard journal s))
     → IsTrue (holds_version journal s version)
 unfolding holds_version
 tables_held journal s version up has kept = search (rules, eq-eqb)
 
 -- ---- switches that serve
 
-pub serving_hold : FromCauses ServingHoldVersions
+pub serving_hold : FromCauses ControlServingHoldVersions
 serving_hold setting journal have s there serving = record {
   stamp = holds (journal_stamp_of journal s) (omega arith) current;
   held = λ version below. elim (cases_lt version (journal_stamp_of journal s)) [
@@ -262,7 +262,7 @@ serving_hold setting journal have s there serving = record {
   retired = retired;
   current = current;
 } where
-  known : ServingIsKnown journal
+  known : ControlServingIsKnown journal
   known = serving_known journal (caused_known setting journal have)
 
   members : ControlMembersAcknowledged setting journal
@@ -281,7 +281,7 @@ serving_hold setting journal have s there serving = record {
   retired = omega (arith, stamps, marks.stamped s there (known.member s serving))
 
   tables : (version : ℕ) → journal_stamp_of journal s ≤ version → version ≤ journal_current_mark journal
-      → HasHeardTables journal s version
+      → ControlSwitchHeardTables journal s version
   tables version above below = (acks_held setting journal have s).acked version
       (known.up s serving) (known.known s serving) (members.acked s version there
       (known.member s serving) (omega (arith, acked_stamp_opened journal s, stamps, above)) below)

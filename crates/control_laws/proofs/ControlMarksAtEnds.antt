@@ -1,12 +1,12 @@
 -- At the end of each step the marks are settled.
 use Rattle.std.proofs.Common.{[], ◌++◌, ◌+◌, ◌<◌, ◌∙◌, ◌∷◌, ◌≡◌, ◌≤◌, All, Bool, IsTrue, List, None, Option, Some, append-nil, append_assoc, arith, drop, false, fold, get_or, inl, length, min, refl, subst, suc, sym, take, take-append-drop, true, unwrap_or, ℕ, rules}
-use Rattle.update_machine.specs.Exports.{JournalAnswersSoFar, AreMachineMarksSettled, JournalBeginsAnswer, Body, Deliver, Event, Forget, JournalItemsHaveCauses, Hello, Hop, Install, Installed, IsJournalReached, IsSetting, Item, Lose, Message, Place, Setting, Step, StepOfRow, Update, acked_stamp, machine_after_hello, journal_after_steps, all_acked, confirm_items, journal_controller_heard, controller_items, journal_current_mark, deliver_items, machine_delivery_items, has_acked, machine_installs_to, machine_installs_to_all, is_member, is_journal_controller_message, is_over, journal_known_boot, machine_least_number, members, journal_message_of, journal_next_retired, nothing, journal_opened_at, piece, journal_retired_mark, settling, machine_step_items, setting_switches_of, machine_message_to_switch, machine_update_items, journal_version_count}
-use Rattle.ctrl_msg.specs.Exports.{to_controller}
+use Rattle.update_machine.specs.Exports.{JournalAnswersSoFar, AreMachineMarksSettled, JournalBeginsAnswer, Body, Deliver, Event, Forget, JournalItemsHaveCauses, Hello, Hop, Install, Installed, IsJournalReached, IsMachineSetting, Item, Lose, Message, Place, Setting, Step, MachineStepOfRow, Update, acked_stamp, machine_after_hello, journal_after_steps, machine_all_acked, machine_confirm_items, journal_controller_heard, machine_controller_items, journal_current_mark, machine_deliver_items, machine_delivery_items, has_acked, machine_installs_to, machine_installs_to_all, is_member, is_journal_controller_message, is_over, journal_known_boot, machine_least_number, members, journal_message_of, journal_next_retired, nothing, journal_opened_at, piece, journal_retired_mark, machine_settling, machine_step_items, machine_switches_of, machine_message_to_switch, machine_update_items, journal_version_count}
+use Rattle.ctrl_msg.specs.Exports.{message_to_controller}
 use Rattle.update_machine.proofs.Exports.{AreOf, HasNexts, IsEventOf, answers_so_far, begins_itself, first_steps_are, have_append, have_take, open_net, start_laws}
-use Rattle.control_laws.specs.Exports.{HasControlItemCause, ControlLawHoldsAtEnds, ControlLawHoldsReached, CurrentMarkRiseHasCause, control_asks_controller}
+use Rattle.control_laws.specs.Exports.{HasControlItemCause, ControlLawHoldsAtEnds, ControlLawHoldsReached, ControlMarkRiseHasCause, control_asks_controller}
 use Rattle.control_laws.proofs.ControlVersionTrials.{second}
 use Rattle.base.proofs.Exports.{⊤, All-from_recursion, AllByRecursion, each_always, each_map, take-append_seam}
-use Rattle.steps.specs.Exports.{IsEvent, IsStep}
+use Rattle.steps.specs.Exports.{IsEventOfSteps, IsStep}
 use Rattle.control_laws.proofs.ControlFactsGrown.{FromCauses, have_front, have_weaker}
 use Rattle.control_laws.proofs.ControlMessageSends.{each_of_network}
 use Rattle.control_laws.proofs.ControlMarkLaws.{bounded}
@@ -21,7 +21,7 @@ use Rattle.control_laws.proofs.ControlMarksSettle.{NoneJoins, in_two, settled_on
 
 abbrev answered : List Item
 answered = Item.Submitted 2 2 ∷ Item.Sent 1 (machine_message_to_switch 0 (Install 1 second)) ∷ Item.Delivered 1
-    ∷ Item.Sent 2 (to_controller (Installed 0 1 2)) ∷ []
+    ∷ Item.Sent 2 (message_to_controller (Installed 0 1 2)) ∷ []
 
 -- the acknowledgement is for the controller, the tables are not, nor is a message that wasn't sent
 its_answer : control_asks_controller answered (Step.Deliver 2) ≡ true
@@ -48,28 +48,28 @@ only_two : (v : ℕ) → 1 < v → v ≤ 2 → 2 ≡ v
 only_two v above below = omega (arith, above, below)
 
 abbrev both_answered : List Item
-both_answered = answered ++ Item.Sent 3 (to_controller (Installed 1 1 2)) ∷ Item.Delivered 2
+both_answered = answered ++ Item.Sent 3 (message_to_controller (Installed 1 1 2)) ∷ Item.Delivered 2
     ∷ Item.Delivered 3 ∷ []
 
-rises : CurrentMarkRiseHasCause open_net both_answered (Item.Current 2)
+rises : ControlMarkRiseHasCause open_net both_answered (Item.Current 2)
 unfolding journal_controller_heard journal_current_mark has_acked is_member is_over journal_known_boot journal_message_of journal_opened_at
     journal_version_count
 rises = record {
   rises = omega arith;
   there = omega arith;
   acknowledged = λ v above below.
-      subst (λ n. IsTrue (all_acked open_net both_answered n)) (only_two v above below) refl;
+      subst (λ n. IsTrue (machine_all_acked open_net both_answered n)) (only_two v above below) refl;
 }
 
 -- not before both switches are heard
-not_before : CurrentMarkRiseHasCause open_net answered (Item.Current 2) → ⊥
+not_before : ControlMarkRiseHasCause open_net answered (Item.Current 2) → ⊥
 unfolding journal_controller_heard journal_current_mark has_acked is_member is_over journal_known_boot journal_message_of journal_opened_at
     journal_version_count
 not_before rises =
     let no : false ≡ true = rises.acknowledged 2 (omega arith) (omega arith) in absurd cc
 
 -- nor to a version that isn't there
-not_to_third : CurrentMarkRiseHasCause open_net both_answered (Item.Current 3) → ⊥
+not_to_third : ControlMarkRiseHasCause open_net both_answered (Item.Current 3) → ⊥
 unfolding journal_version_count
 not_to_third rises = absurd (omega (arith, rises.there))
 
@@ -101,8 +101,8 @@ abbrev pub OwnPiecesHave : (List Item → Item → Type 0) → Setting → Type 
 OwnPiecesHave cause setting = (journal : List Item) (row : ℕ) (step : Step)
     → NamesOwn setting step → JournalItemsHaveCauses cause journal (piece setting journal row step)
 
-pub own_steps : (setting : Setting) (steps : List StepOfRow)
-    → All (λ (next : StepOfRow). IsStep setting.net (length setting.files) next.step) steps
+pub own_steps : (setting : Setting) (steps : List MachineStepOfRow)
+    → All (λ (next : MachineStepOfRow). IsStep setting.net (length setting.files) next.step) steps
     → AreOf (NamesOwn setting) steps
 own_steps setting [] own = tt
 own_steps setting (next ∷ steps) own = (
@@ -111,7 +111,7 @@ own_steps setting (next ∷ steps) own = (
 )
 
 pub own_event : (setting : Setting) (event : Event)
-    → IsEvent setting.net (length setting.files) event → IsEventOf (NamesOwn setting) event
+    → IsEventOfSteps setting.net (length setting.files) event → IsEventOf (NamesOwn setting) event
 own_event setting event is = search rules
 
 -- what is true after the row and then its items is true after the piece
@@ -131,7 +131,7 @@ pub record IsCarried (setting : Setting) (Fact : List Item → Type 0) : Type 0 
       → Fact journal → Fact (journal ++ piece setting journal row step)
 
 pub carried_on : (setting : Setting) (Fact : List Item → Type 0) → IsCarried setting Fact
-    → (before : List Item) (steps : List StepOfRow) → AreOf (NamesOwn setting) steps → Fact before
+    → (before : List Item) (steps : List MachineStepOfRow) → AreOf (NamesOwn setting) steps → Fact before
     → Fact (journal_after_steps setting before steps)
 carried_on setting Fact carried before [] own is = is
 carried_on setting Fact carried before (next ∷ steps) own is =
@@ -145,7 +145,7 @@ reached_carries setting Fact carried journal reached = rw reached.written (carri
 
 pub so_far_carries : (setting : Setting) (Fact : List Item → Type 0) → IsCarried setting Fact
     → (events : List Event) (journal : List Item)
-    → All (IsEvent setting.net (length setting.files)) events
+    → All (IsEventOfSteps setting.net (length setting.files)) events
     → JournalAnswersSoFar setting events journal → Fact journal
 so_far_carries setting Fact carried events journal own answers = subst Fact (sym answers.written)
     (carried_on setting Fact carried [] answers.steps
@@ -167,7 +167,7 @@ carried_reached Fact Holds carried firsts = record {
   begun = begun;
 } where
   begun : (setting : Setting) (events : List Event) (journal : List Item)
-      → All (IsEvent setting.net (length setting.files)) events
+      → All (IsEventOfSteps setting.net (length setting.files)) events
       → JournalBeginsAnswer setting events journal → Holds setting journal
   begun setting events journal own begins = subst (Holds setting) (sym begins.written)
       (firsts setting (take begins.length begins.whole) (drop begins.length begins.whole)
@@ -195,11 +195,11 @@ reached Holds cause caused pieces = carried_reached _ Holds (λ setting. record 
 -- ---- facts of networks that are as settings should be
 
 abbrev pub OfSettings : (Setting → List Item → Type 0) → Setting → List Item → Type 0
-OfSettings Fact setting journal = IsSetting setting → Fact setting journal
+OfSettings Fact setting journal = IsMachineSetting setting → Fact setting journal
 
 pub setting_carries : (Fact : Setting → List Item → Type 0)
     → ((setting : Setting) → Fact setting [])
-    → ((setting : Setting) (journal : List Item) (row : ℕ) (step : Step) → IsSetting setting
+    → ((setting : Setting) (journal : List Item) (row : ℕ) (step : Step) → IsMachineSetting setting
     → NamesOwn setting step → Fact setting journal
     → Fact setting (journal ++ piece setting journal row step))
     → (setting : Setting) → IsCarried setting (OfSettings Fact setting)
@@ -211,7 +211,7 @@ pub reached_by : (Fact Holds : Setting → List Item → Type 0)
     → ((setting : Setting) → IsCarried setting (OfSettings Fact setting))
     → ((setting : Setting) (journal : List Item) → Fact setting journal
     → JournalItemsHaveCauses (cause setting) [] journal) → ((setting : Setting) (journal : List Item)
-    → IsSetting setting → JournalItemsHaveCauses (cause setting) [] journal → Holds setting journal)
+    → IsMachineSetting setting → JournalItemsHaveCauses (cause setting) [] journal → Holds setting journal)
     → ControlLawHoldsReached (OfSettings Holds)
 reached_by Fact Holds cause carried causes caused = carried_reached (OfSettings Fact)
     (OfSettings Holds) carried (λ setting journal rest fact is. caused setting journal is
@@ -246,11 +246,11 @@ behind setting journal have =
 -- ---- rises of current
 
 rises_one : (setting : Setting) (before : List Item) (next : Item)
-    → HasControlItemCause setting before next → CurrentMarkRiseHasCause setting before next
+    → HasControlItemCause setting before next → ControlMarkRiseHasCause setting before next
 rises_one setting before (Item.Current version) cause = cause
 rises_one setting before _ cause = tt
 
-pub rises_rightly : FromCauses (λ setting. JournalItemsHaveCauses (CurrentMarkRiseHasCause setting) [])
+pub rises_rightly : FromCauses (λ setting. JournalItemsHaveCauses (ControlMarkRiseHasCause setting) [])
 rises_rightly setting journal have = search (rules, have_weaker)
 
 -- ---- marks at ends
@@ -259,12 +259,12 @@ rises_rightly setting journal have = search (rules, have_weaker)
 abbrev AreCaused : Setting → List Item → Type 0
 AreCaused setting journal = JournalItemsHaveCauses (HasControlItemCause setting) [] journal
 
-settled_in : (setting : Setting) (now : List Item) → AreCaused setting (now ++ settling setting now)
-    → AreMachineMarksSettled setting (now ++ settling setting now)
+settled_in : (setting : Setting) (now : List Item) → AreCaused setting (now ++ machine_settling setting now)
+    → AreMachineMarksSettled setting (now ++ machine_settling setting now)
 settled_in setting now have =
-    let caused = have_front (HasControlItemCause setting) [] now (settling setting now) have in
+    let caused = have_front (HasControlItemCause setting) [] now (machine_settling setting now) have in
     settles setting now (bounded setting now caused).there
-    (behind setting (now ++ settling setting now) have)
+    (behind setting (now ++ machine_settling setting now) have)
 
 -- items that leave the controller leave it settled
 left_settled : (setting : Setting) (journal items : List Item) → Leave journal items
@@ -284,31 +284,31 @@ hello_leaves setting before (Hello s boot) journal = grind (arith, installs_leav
 hello_leaves setting before _ journal = tt
 
 heard_settled : (setting : Setting) (before : List Item) (body : Body) (now : List Item)
-    → AreCaused setting (now ++ controller_items setting before body now)
-    → AreMachineMarksSettled setting (now ++ controller_items setting before body now)
-unfolding controller_items
+    → AreCaused setting (now ++ machine_controller_items setting before body now)
+    → AreMachineMarksSettled setting (now ++ machine_controller_items setting before body now)
+unfolding machine_controller_items
 heard_settled setting before body now =
-    let one : List Item = now ++ settling setting now in
+    let one : List Item = now ++ machine_settling setting now in
     let hello : List Item = machine_after_hello setting before body one in
     subst (λ js. AreCaused setting js → AreMachineMarksSettled setting js)
-    (sym (in_two (settling setting) (machine_after_hello setting before body) now))
+    (sym (in_two (machine_settling setting) (machine_after_hello setting before body) now))
     (λ have. left_settled setting one hello (hello_leaves setting before body one)
     (settled_in setting now (have_front (HasControlItemCause setting) [] one hello have)))
 
 -- a message to the controller is there
 pub told_is : (before : List Item) (number : ℕ) → IsTrue (is_journal_controller_message before number)
-    → (body : Body) × (journal_message_of before number ≡ Some (to_controller body))
+    → (body : Body) × (journal_message_of before number ≡ Some (message_to_controller body))
 told_is before number is = by_message (journal_message_of before number) refl is where
   by_receiver : (to : Place) (body : Body)
       → journal_message_of before number ≡ Some (record { to = to; body = body })
       → IsTrue (is_journal_controller_message before number)
-      → (body : Body) × (journal_message_of before number ≡ Some (to_controller body))
+      → (body : Body) × (journal_message_of before number ≡ Some (message_to_controller body))
   by_receiver Place.Controller body e is = (body, e)
   by_receiver (Place.Switch s) body e is = let no : false ≡ true = rw e at is in absurd cc
 
   by_message : (o : Option Message) → journal_message_of before number ≡ o
       → IsTrue (is_journal_controller_message before number)
-      → (body : Body) × (journal_message_of before number ≡ Some (to_controller body))
+      → (body : Body) × (journal_message_of before number ≡ Some (message_to_controller body))
   by_message None e is = let no : false ≡ true = rw e at is in absurd cc
   by_message (Some message) e is = by_receiver message.to message.body e is
 
@@ -325,7 +325,7 @@ Settles setting journal = AreCaused setting journal → AreMachineMarksSettled s
 
 deliver_settled : (setting : Setting) (before : List Item) (number : ℕ) (here : List Item)
     → IsTrue (is_journal_controller_message before number) → AreMachineMarksSettled setting here
-    → Settles setting (here ++ deliver_items setting before number here)
+    → Settles setting (here ++ machine_deliver_items setting before number here)
 deliver_settled setting before number here is settled = deliver_cases (Settles setting) setting
     before number here (λ have. left_settled setting here nothing (tt, tt) settled)
     (delivered_settled setting before number (here ++ Item.Delivered number ∷ []) is)
@@ -341,7 +341,7 @@ update_settled setting file here settled =
     (settled_in setting (now ++ machine_installs_to_all setting now))
 
 confirm_settled : (setting : Setting) (s : ℕ) (here : List Item) → AreMachineMarksSettled setting here
-    → Settles setting (here ++ confirm_items setting s here)
+    → Settles setting (here ++ machine_confirm_items setting s here)
 confirm_settled setting s here settled = confirm_cases (Settles setting) setting s here
     (λ have. left_settled setting here nothing (tt, tt) settled) (settled_in setting _)
 
@@ -362,7 +362,7 @@ step_settled setting before row step settled = by_kind (control_asks_controller 
   by_kind true e = behind_piece setting before row step (Settles setting) (told_settled setting
       before _ step e (left_settled setting before (Item.Row row step ∷ []) (tt, tt) settled))
 
-steps_settled : (setting : Setting) (before : List Item) (steps : List StepOfRow)
+steps_settled : (setting : Setting) (before : List Item) (steps : List MachineStepOfRow)
     → AreCaused setting before → AreMachineMarksSettled setting before
     → AreMachineMarksSettled setting (journal_after_steps setting before steps)
 steps_settled setting before [] have settled = settled
@@ -381,8 +381,8 @@ none_joins_first s joins = search (rules, start_laws)
 first_settled : (setting : Setting) → AreMachineMarksSettled setting []
 first_settled setting = record {
   current = inl (start_laws.current ∙ sym start_laws.count);
-  joining = All-from_recursion (NoneJoins []) (setting_switches_of setting)
-      (each_always (NoneJoins []) none_joins_first (setting_switches_of setting));
+  joining = All-from_recursion (NoneJoins []) (machine_switches_of setting)
+      (each_always (NoneJoins []) none_joins_first (machine_switches_of setting));
   retired = let current = start_laws.current in
       omega (arith, start_laws.retired, current, next_below setting [] current_at_first);
 }

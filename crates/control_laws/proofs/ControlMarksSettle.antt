@@ -1,7 +1,7 @@
 -- Behind their settling the marks are settled, whatever was heard before it.
 use Rattle.std.proofs.Common.{[], ◌&&◌, ◌++◌, ◌+◌, ◌<◌, ◌∙◌, ◌∷◌, ◌≡◌, ◌≤◌, ◌⊎◌, All, Bool, IsFalse, IsTrue, List, Option, Some, ap, append-nil, append_assoc, arith, false, filter, inl, inr, is_some, length, map, nat_lt, not, refl, subst, suc, sym, take_while, true, zero, ℕ, rules}
 use Rattle.base.proofs.Exports.{All-from_recursion, AllByRecursion, list_all, nat_tests, option_or, range_with_len, take_while-cons}
-use Rattle.update_machine.specs.Exports.{AreMachineMarksSettled, JournalControllerKeeps, Item, Message, Setting, acked_stamp, all_acked, machine_collect_for, current_items, journal_current_mark, has_acked, in_turn, is_joining, is_member, is_over, journal_known_boot, members, journal_next_current, journal_next_message, journal_next_retired, journal_open_for, machine_open_items, journal_opened_at, opening_switches, machine_retired_items, journal_retired_mark, send_items, machine_sent_items_from, settling, journal_stamp_for, setting_switches_of, journal_version_count}
+use Rattle.update_machine.specs.Exports.{AreMachineMarksSettled, JournalControllerKeeps, Item, Message, Setting, acked_stamp, machine_all_acked, machine_collect_for, machine_current_items, journal_current_mark, has_acked, machine_blocks_in_turn, is_joining, is_member, is_over, journal_known_boot, members, journal_next_current, journal_next_message, journal_next_retired, journal_open_for, machine_open_items, journal_opened_at, machine_opening_switches, machine_retired_items, journal_retired_mark, machine_send_items, machine_sent_items_from, machine_settling, journal_stamp_for, machine_switches_of, journal_version_count}
 use Rattle.control_laws.proofs.ControlCommands.{Grows, IsOfSettling, each_command, grows, parts_settle}
 use Rattle.control_laws.proofs.ControlFactsGrown.{current_more, known_more, opened_at_more, over_more, retired_more, told_more}
 use Rattle.control_laws.proofs.ControlMessageSends.{each_range, sent_kept}
@@ -26,7 +26,7 @@ fewer_pass p q m n same more (x ∷ xs) none = search (rules, fewer_pass p q m n
 -- a version that waits for a member goes on to wait
 abbrev pub Waits : Setting → List Item → Type 0
 Waits setting journal = (journal_current_mark journal ≡ journal_version_count journal)
-    ⊎ IsFalse (all_acked setting journal (journal_current_mark journal + 1))
+    ⊎ IsFalse (machine_all_acked setting journal (journal_current_mark journal + 1))
 
 waits_on : (setting : Setting) (before after : List Item) → Grows before after
     → journal_current_mark after ≡ journal_current_mark before → Waits setting before → Waits setting after
@@ -43,8 +43,8 @@ joining_was : (before after : List Item) (s : ℕ) → Grows before after
 joining_was before after s more joins = search rules
 
 joins_on : (setting : Setting) (before after : List Item) → Grows before after
-    → journal_current_mark after ≡ journal_current_mark before → All (NoneJoins before) (setting_switches_of setting)
-    → All (NoneJoins after) (setting_switches_of setting)
+    → journal_current_mark after ≡ journal_current_mark before → All (NoneJoins before) (machine_switches_of setting)
+    → All (NoneJoins after) (machine_switches_of setting)
 joins_on setting before after more current all = search (rules, joining_was)
 
 -- ---- the retired mark
@@ -128,7 +128,7 @@ next_stops test low (suc n) = search (rules, take_while-cons, next_stops test (l
 next_waits : (setting : Setting) (journal : List Item)
     → journal_current_mark journal ≤ journal_version_count journal
     → (journal_next_current setting journal ≡ journal_version_count journal)
-    ⊎ IsFalse (all_acked setting journal (journal_next_current setting journal + 1))
+    ⊎ IsFalse (machine_all_acked setting journal (journal_next_current setting journal + 1))
 unfolding journal_next_current
 next_waits setting journal there = search (rules, next_stops)
 
@@ -139,8 +139,8 @@ next_above setting journal = omega arith
 
 -- behind its rise, current is what it may rise to
 current_is : (setting : Setting) (journal : List Item)
-    → journal_current_mark (journal ++ current_items setting journal) ≡ journal_next_current setting journal
-unfolding current_items
+    → journal_current_mark (journal ++ machine_current_items setting journal) ≡ journal_next_current setting journal
+unfolding machine_current_items
 current_is setting journal =
     let version : ℕ = journal_next_current setting journal in
     let raised : List Item = journal ++ Item.Current version ∷ [] in
@@ -151,16 +151,16 @@ current_is setting journal =
 
 current_waits : (setting : Setting) (journal : List Item)
     → journal_current_mark journal ≤ journal_version_count journal
-    → Waits setting (journal ++ current_items setting journal)
+    → Waits setting (journal ++ machine_current_items setting journal)
 current_waits setting journal there =
-    let after : List Item = journal ++ current_items setting journal in
-    let more = grows journal (current_items setting journal) ((parts_settle setting).rises journal) in
+    let after : List Item = journal ++ machine_current_items setting journal in
+    let more = grows journal (machine_current_items setting journal) ((parts_settle setting).rises journal) in
     let now : journal_current_mark after ≡ journal_next_current setting journal = current_is setting journal in
     elim (next_waits setting journal there) [
       | inl last ↦ inl (now ∙ last ∙ sym more.count)
       | inr none ↦ inr (rw now (fewer_pass _ (λ s. has_acked after s
           (journal_next_current setting journal + 1)) (is_member journal) (is_member after) (λ s. more.acked
-          s (journal_next_current setting journal + 1)) more.member (setting_switches_of setting) none))
+          s (journal_next_current setting journal + 1)) more.member (machine_switches_of setting) none))
     ]
 
 -- ---- joining switches are opened
@@ -172,7 +172,7 @@ open_keeps setting journal = marks_sent _ journal (journal_next_message journal)
 
 opened_all : (setting : Setting) (journal : List Item) → AllByRecursion
     (λ s. IsTrue (is_some (journal_opened_at (journal ++ machine_open_items setting journal) s)))
-    (opening_switches setting journal)
+    (machine_opening_switches setting journal)
 unfolding machine_open_items
 opened_all setting journal = search (rules, all_opened)
 
@@ -227,7 +227,7 @@ collects_reopen journal base version (s ∷ switches) =
 
 retires : (setting : Setting) (journal : List Item) (version : ℕ)
     → version ≡ journal_next_retired setting journal → let retired = journal ++ Item.Retired version ∷ [] in
-    let after = retired ++ send_items retired
+    let after = retired ++ machine_send_items retired
     (map (machine_collect_for journal version) (members setting journal)) in
     (journal_current_mark after ≡ journal_current_mark journal)
     × (journal_retired_mark after ≡ journal_next_retired setting after)
@@ -235,7 +235,7 @@ retires setting journal version is =
     let next : Item = Item.Retired version in
     let retired : List Item = journal ++ next ∷ [] in
     let collects : List Message = map (machine_collect_for journal version) (members setting journal) in
-    let keeps = leaves_keep retired (send_items retired collects) (sends_leave retired collects
+    let keeps = leaves_keep retired (machine_send_items retired collects) (sends_leave retired collects
     (collects_reopen retired journal version (members setting journal))) in
     let opened = λ (s : ℕ). opened_same journal next s (known_more journal next s) refl in
     let member = λ (s : ℕ). member_same journal retired s (over_more journal next s) (opened s) in
@@ -245,7 +245,7 @@ retires setting journal version is =
       keeps.current ∙ current,
       keeps.retired ∙ retired_more journal next ∙ is
           ∙ sym (next_same setting journal retired stamp member current)
-          ∙ sym (next_same setting retired (retired ++ send_items retired collects) keeps.stamp
+          ∙ sym (next_same setting retired (retired ++ machine_send_items retired collects) keeps.stamp
           keeps.member keeps.current),
     )
 
@@ -267,19 +267,19 @@ retired_is setting journal = let version : ℕ = journal_next_retired setting jo
 -- blocks in turn
 pub in_three : (a b c : List Item → List Item) (journal : List Item)
     → let one = journal ++ a journal in let two = one ++ b one in
-    journal ++ in_turn (a ∷ b ∷ c ∷ []) journal ≡ two ++ c two
+    journal ++ machine_blocks_in_turn (a ∷ b ∷ c ∷ []) journal ≡ two ++ c two
 in_three a b c journal = search (rules, append_assoc)
 
 pub settles : (setting : Setting) (journal : List Item)
     → journal_current_mark journal ≤ journal_version_count journal
-    → let after = journal ++ settling setting journal in
+    → let after = journal ++ machine_settling setting journal in
     journal_retired_mark after ≤ journal_next_retired setting after → AreMachineMarksSettled setting after
-unfolding settling
+unfolding machine_settling
 settles setting journal there = rw (in_three _ (machine_open_items setting) (machine_retired_items setting) journal)
     settled
   where
     one : List Item
-    one = journal ++ current_items setting journal
+    one = journal ++ machine_current_items setting journal
 
     two : List Item
     two = one ++ machine_open_items setting one
@@ -298,7 +298,7 @@ settles setting journal there = rw (in_three _ (machine_open_items setting) (mac
       current = waits_on setting two three ends is.0 (waits_on setting one two opens
           (open_keeps setting one).current (current_waits setting journal there));
       joining = joins_on setting two three ends is.0 (All-from_recursion (NoneJoins two)
-          (setting_switches_of setting) (each_range (NoneJoins two) 0 (length setting.net.switches)
+          (machine_switches_of setting) (each_range (NoneJoins two) 0 (length setting.net.switches)
           (λ s above below. none_joins setting one s (omega (arith, below)))));
       retired = is.1;
     }

@@ -2,7 +2,7 @@
 use Rattle.std.proofs.Common.{[], ◌++◌, ◌<◌, ◌==◌, ◌||◌, ◌∙◌, ◌∷◌, ◌≡◌, ◌≤◌, Bool, IsTrue, List, None, Option, Some, ap, append_assoc, arith, false, if◌then◌else◌, inl, inr, is_some, length, nat_eq, nat_lt, option_and_then, refl, subst, sym, true, unwrap_or, ℕ}
 use Rattle.base.proofs.Exports.{cases_lt, each_of_all, list_any, list_any-append, nat_tests, option_map_or, option_or}
 use Rattle.update_machine.specs.Exports.{Item, MachineCurrentMayRise, Message, Setting, journal_body_to_controller, journal_controller_heard, journal_current_mark, machine_first_open, has_acked, machine_hello_boot, machine_installed_version, is_member, is_over, journal_known_boot, members, machine_open_sent, open_version, journal_opened_at, journal_raises_known_boot, journal_retired_mark}
-use Rattle.control_laws.specs.Exports.{HasControlItemCause, IsFirstOpeningMessage, ControlRetirementHasCause}
+use Rattle.control_laws.specs.Exports.{HasControlItemCause, IsFirstControlOpening, ControlRetirementHasCause}
 use Rattle.control_laws.proofs.ControlFactsGrown.{current_more, known_more, opened_at_more, opened_in, opened_is, opened_more, opens_by, over_more, raised, retired_more}
 use Rattle.control_laws.proofs.ControlSwitchOpenings.{member_of, member_parts}
 use Rattle.control_laws.proofs.ControlCurrentVersions.{StampsAreCurrent}
@@ -97,7 +97,7 @@ pub record MemberFact (setting : Setting) (Holds : List Item → ℕ → Type 0)
   pub none : (journal : List Item) (s : ℕ) → (IsTrue (is_member journal s) → ⊥) → Holds journal s
   -- a switch that is opened now has it
   pub new : (before : List Item) (n s version : ℕ) (message : Message)
-      → StampsAreCurrent before → IsFirstOpeningMessage before s version
+      → StampsAreCurrent before → IsFirstControlOpening before s version
       → journal_opened_at (before ++ Item.Sent n message ∷ []) s ≡ Some version
       → Holds (before ++ Item.Sent n message ∷ []) s
   -- it is kept as the marks rise
@@ -131,7 +131,7 @@ pub sent_cases : (setting : Setting) (before : List Item) (n s : ℕ) (message :
     → HasControlItemCause setting before (Item.Sent n message) → (Goal : Type 0)
     → (LeavesMember before (Item.Sent n message) s → Goal)
     → ((IsTrue (is_member (before ++ Item.Sent n message ∷ []) s) → ⊥) → Goal)
-    → ((version : ℕ) → IsFirstOpeningMessage before s version
+    → ((version : ℕ) → IsFirstControlOpening before s version
     → journal_opened_at (before ++ Item.Sent n message ∷ []) s ≡ Some version → Goal) → Goal
 sent_cases setting before n s message cause Goal leaves none new =
     by_opened (journal_opened_at before s) refl
@@ -276,7 +276,7 @@ same_acked setting before next s leaves current is = record {
 
 -- one that is opened now acknowledged the version at which it is
 new_acked : (setting : Setting) (before : List Item) (n s version : ℕ) (message : Message)
-    → IsFirstOpeningMessage before s version
+    → IsFirstControlOpening before s version
     → journal_opened_at (before ++ Item.Sent n message ∷ []) s ≡ Some version
     → IsAcked setting (before ++ Item.Sent n message ∷ []) s
 new_acked setting before n s version message first now =

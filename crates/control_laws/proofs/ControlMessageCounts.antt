@@ -1,7 +1,7 @@
 -- How many messages each block of a piece sends.
 use Rattle.std.proofs.Common.{[], if◌then◌else◌, ◌++◌, ◌+◌, ◌∷◌, ◌≡◌, ◌≤◌, Bool, IsFalse, List, Option, arith, cond, false, filter, flat_map, length, length-append, map, not, refl, true, ℕ, rules}
 use Rattle.base.proofs.Exports.{length-flat_map, length-map, length-range_with_len, length_filter_less, range_with_len, sum_by-cons, sum_each}
-use Rattle.update_machine.specs.Exports.{Action, Advert, AuthorityRule, Body, Found, Header, Item, Leg, Message, NoneConcern, Setting, Step, machine_advert_to, machine_after_hello, machine_arrive_items, machine_authority_items, journal_cache_items, item_concerns_policies, confirm_items, controller_items, count_of, current_items, machine_end_items, machine_expire_items, machine_forget_items, found_items, has_acked, journal_held_adverts, machine_hello_of, machine_hop_items, in_turn, journal_install_for, machine_installs_to, machine_installs_to_all, is_member, is_sending, is_up, journal_items_then, machine_leg_items, machine_lookup_items, lose_items, members, machine_move_items, near, journal_next_message, nothing, machine_open_items, machine_packet_items, machine_advert_passed_on, machine_reroute_items, machine_resend_items, journal_resent_by_controller, journal_resent_by_switch, journal_resent_to_member, machine_retired_items, send_items, machine_sends_or_nothing, machine_sent_items_from, settling, machine_step_items, submitted_items, setting_switches_in, setting_switches_of, journal_unacked_installs, machine_update_items, journal_version_count}
+use Rattle.update_machine.specs.Exports.{Action, Advert, MachineAuthorityRule, Body, Found, Header, Item, Leg, Message, NoMachineItemConcerns, Setting, Step, machine_advert_to, machine_after_hello, machine_arrive_items, machine_authority_items, journal_cache_items, machine_item_concerns_policies, machine_confirm_items, machine_controller_items, machine_count_of, machine_current_items, machine_end_items, machine_expire_items, machine_forget_items, machine_found_items, has_acked, journal_held_adverts, machine_hello_of, machine_hop_items, machine_blocks_in_turn, journal_install_for, machine_installs_to, machine_installs_to_all, is_member, is_machine_sending_item, is_up, journal_items_then, machine_leg_items, machine_lookup_items, machine_lose_items, members, machine_move_items, near, journal_next_message, nothing, machine_open_items, machine_packet_items, machine_advert_passed_on, machine_reroute_items, machine_resend_items, journal_resent_by_controller, journal_resent_by_switch, journal_resent_to_member, machine_retired_items, machine_send_items, machine_sends_or_nothing, machine_sent_items_from, machine_settling, machine_step_items, machine_submitted_items, machine_switches_in, machine_switches_of, journal_unacked_installs, machine_update_items, journal_version_count}
 use Rattle.base.specs.Exports.{has}
 use Rattle.net_file.specs.Exports.{IsNet}
 use Rattle.update_machine.proofs.Exports.{count_of_append, policies_keep}
@@ -11,13 +11,13 @@ use Rattle.control_laws.proofs.ControlTrafficItems.{IsWorkStep}
 use Rattle.control_laws.proofs.ControlLinkSends.{held_few}
 
 abbrev pub sent : List Item → ℕ
-sent items = count_of is_sending items
+sent items = machine_count_of is_machine_sending_item items
 
 -- ---- items one after another
 
 pub sent_more : (next : Item) (items : List Item)
-    → sent (next ∷ items) ≡ cond (is_sending next) 1 0 + sent items
-sent_more next items = sum_by-cons (λ x. cond (is_sending x) 1 0) next items
+    → sent (next ∷ items) ≡ cond (is_machine_sending_item next) 1 0 + sent items
+sent_more next items = sum_by-cons (λ x. cond (is_machine_sending_item x) 1 0) next items
 
 sent_all : (messages : List Message) (n : ℕ) → sent (machine_sent_items_from n messages) ≡ length messages
 unfolding machine_sent_items_from
@@ -25,12 +25,12 @@ sent_all [] n = refl
 sent_all (message ∷ messages) n = omega (arith, sent_more, sent_all messages (n + 1))
 
 pub sends_count : (journal : List Item) (messages : List Message)
-    → sent (send_items journal messages) ≡ length messages
+    → sent (machine_send_items journal messages) ≡ length messages
 sends_count journal messages = sent_all messages (journal_next_message journal)
 
 pub put_few : (first : List Item) (rest : List Item → List Item) (journal : List Item)
     → sent (journal_items_then first rest journal) ≡ sent first + sent (rest (journal ++ first))
-put_few first rest journal = count_of_append is_sending first (rest (journal ++ first))
+put_few first rest journal = count_of_append is_machine_sending_item first (rest (journal ++ first))
 
 -- ---- packets: a lookup at an authority switch may send one cache rule
 
@@ -44,19 +44,19 @@ end_few : (setting : Setting) (i s : ℕ) (act : Action) (journal : List Item)
 unfolding machine_end_items
 end_few setting i s act journal = search (rules, leg_few)
 
-cache_few : (setting : Setting) (i s : ℕ) (rule : AuthorityRule) (journal : List Item)
+cache_few : (setting : Setting) (i s : ℕ) (rule : MachineAuthorityRule) (journal : List Item)
     → sent (journal_cache_items setting i s rule journal) ≤ 1
 unfolding journal_cache_items
 cache_few setting i s rule journal = grind (arith, sends_count)
 
-authority_few : (setting : Setting) (i s : ℕ) (rule : Option AuthorityRule) (journal : List Item)
+authority_few : (setting : Setting) (i s : ℕ) (rule : Option MachineAuthorityRule) (journal : List Item)
     → sent (machine_authority_items setting i s rule journal) ≤ 1
 unfolding machine_authority_items
 authority_few setting i s rule journal =
     search (rules, sent_more, put_few, count_of_append, cache_few, end_few)
 
 found_few : (setting : Setting) (i s : ℕ) (what : Found) (journal : List Item)
-    → sent (found_items setting i s what journal) ≤ 1
+    → sent (machine_found_items setting i s what journal) ≤ 1
 found_few setting i s what journal = grind (arith, sent_more, end_few, authority_few, leg_few)
 
 lookup_few : (setting : Setting) (i s : ℕ) (journal : List Item)
@@ -87,30 +87,30 @@ packet_few setting i s header journal = grind (arith, sent_more, lookup_few)
 -- so what is work alone sends at most one message
 pub step_few : (setting : Setting) (before : List Item) (step : Step) (here : List Item)
     → IsWorkStep step → sent (machine_step_items setting before step here) ≤ 1
-unfolding machine_hop_items lose_items machine_forget_items machine_expire_items
+unfolding machine_hop_items machine_lose_items machine_forget_items machine_expire_items
 step_few setting before step here = search (rules, move_few)
 
 -- ---- settling
 
 switches_few : (setting : Setting) → IsNet setting.net → (test : ℕ → Bool)
-    → length (filter test (setting_switches_of setting)) ≤ 64
+    → length (filter test (machine_switches_of setting)) ≤ 64
 switches_few setting net test = search (rules, length_filter_less, length-range_with_len)
 
 -- the same message to each of these switches
 each_few : (setting : Setting) → IsNet setting.net → (journal : List Item) (to : ℕ → Message)
-    (test : ℕ → Bool) → sent (send_items journal (map to (filter test (setting_switches_of setting)))) ≤ 64
+    (test : ℕ → Bool) → sent (machine_send_items journal (map to (filter test (machine_switches_of setting)))) ≤ 64
 each_few setting net journal to test = omega (
   arith,
-  sends_count journal (map to (filter test (setting_switches_of setting))),
-  length-map (filter test (setting_switches_of setting)) to,
+  sends_count journal (map to (filter test (machine_switches_of setting))),
+  length-map (filter test (machine_switches_of setting)) to,
   switches_few setting net test,
 )
 
 -- a mark that rises is told to the members
 mark_few : (setting : Setting) → IsNet setting.net → (journal : List Item) (next : Item)
-    → is_sending next ≡ false → (to : ℕ → Message) (rises : Bool) → sent (elim rises [
+    → is_machine_sending_item next ≡ false → (to : ℕ → Message) (rises : Bool) → sent (elim rises [
       | false ↦ []
-      | true ↦ journal_items_then (next ∷ []) (λ raised. send_items raised
+      | true ↦ journal_items_then (next ∷ []) (λ raised. machine_send_items raised
           (map to (members setting journal))) journal
     ]) ≤ 64
 mark_few setting net journal next none to false = omega arith
@@ -118,8 +118,8 @@ mark_few setting net journal next none to true = let alone : sent (next ∷ []) 
     omega (arith, put_few, each_few setting net (journal ++ next ∷ []) to (is_member journal))
 
 current_few : (setting : Setting) → IsNet setting.net → (journal : List Item)
-    → sent (current_items setting journal) ≤ 64
-unfolding current_items
+    → sent (machine_current_items setting journal) ≤ 64
+unfolding machine_current_items
 current_few setting net journal = mark_few setting net journal (Item.Current _) refl _ _
 
 open_few : (setting : Setting) → IsNet setting.net → (journal : List Item)
@@ -133,17 +133,17 @@ unfolding machine_retired_items
 retired_few setting net journal = mark_few setting net journal (Item.Retired _) refl _ _
 
 pub settling_few : (setting : Setting) → IsNet setting.net → (journal : List Item)
-    → sent (settling setting journal) ≤ 192
-unfolding settling
+    → sent (machine_settling setting journal) ≤ 192
+unfolding machine_settling
 settling_few setting net journal =
-    let raised : List Item = journal ++ current_items setting journal in
+    let raised : List Item = journal ++ machine_current_items setting journal in
     let opened : List Item = raised ++ machine_open_items setting raised in
     omega (
       arith,
-      put_few (current_items setting journal)
-          (in_turn (machine_open_items setting ∷ machine_retired_items setting ∷ [])) journal,
-      put_few (machine_open_items setting raised) (in_turn (machine_retired_items setting ∷ [])) raised,
-      put_few (machine_retired_items setting opened) (in_turn []) opened,
+      put_few (machine_current_items setting journal)
+          (machine_blocks_in_turn (machine_open_items setting ∷ machine_retired_items setting ∷ [])) journal,
+      put_few (machine_open_items setting raised) (machine_blocks_in_turn (machine_retired_items setting ∷ [])) raised,
+      put_few (machine_retired_items setting opened) (machine_blocks_in_turn []) opened,
       current_few setting net journal,
       open_few setting net raised,
       retired_few setting net opened,
@@ -153,7 +153,7 @@ settling_few setting net journal =
 
 -- there are few versions
 range_few : (journal : List Item) (to : ℕ → Message) (low n : ℕ)
-    → sent (send_items journal (map to (range_with_len low n))) ≤ n
+    → sent (machine_send_items journal (map to (range_with_len low n))) ≤ n
 range_few journal to low n = omega (
   arith,
   sends_count journal (map to (range_with_len low n)),
@@ -172,7 +172,7 @@ unfolding machine_installs_to_all
 all_installs_few setting net journal = each_few setting net journal _ _
 
 pub submitted_few : (setting : Setting) → IsNet setting.net → (journal : List Item)
-    → sent (submitted_items setting journal) ≤ 256
+    → sent (machine_submitted_items setting journal) ≤ 256
 submitted_few setting net journal = search (rules, put_few, all_installs_few, settling_few)
 
 -- ---- what is sent again
@@ -212,15 +212,15 @@ switch_resent_few setting net journal s = by_up (is_up journal s) where
     | false ↦ []
     | true ↦ machine_hello_of journal s
         ∷ flat_map (λ neighbour. map (machine_advert_to neighbour) (journal_held_adverts setting journal s))
-        (setting_switches_in setting (near setting journal s))
+        (machine_switches_in setting (near setting journal s))
   ]) ≤ 4097
   by_up false = omega arith
   by_up true = omega (
     arith,
     length-flat_map (λ neighbour. map (machine_advert_to neighbour) (journal_held_adverts setting journal s))
-        (setting_switches_in setting (near setting journal s)),
+        (machine_switches_in setting (near setting journal s)),
     sum_each (λ neighbour. length (map (machine_advert_to neighbour) (journal_held_adverts setting journal s))) 64
-        (setting_switches_in setting (near setting journal s)) (λ neighbour. omega (
+        (machine_switches_in setting (near setting journal s)) (λ neighbour. omega (
           arith,
           held_few setting journal s,
           length-map (journal_held_adverts setting journal s) (machine_advert_to neighbour),
@@ -251,15 +251,15 @@ unfolding machine_update_items
 update_few setting net file journal = search (rules, sent_more, submitted_few)
 
 pub confirm_few : (setting : Setting) → IsNet setting.net → (s : ℕ) (journal : List Item)
-    → sent (confirm_items setting s journal) ≤ 192
-unfolding confirm_items
+    → sent (machine_confirm_items setting s journal) ≤ 192
+unfolding machine_confirm_items
 confirm_few setting net s journal = search (rules, sent_more, settling_few)
 
 pub passed_few : (setting : Setting) → IsNet setting.net → (journal : List Item) (s : ℕ)
     (advert : Advert) → length (machine_advert_passed_on setting journal s advert) ≤ 64
 passed_few setting net journal s advert = omega (
   arith,
-  length-map (setting_switches_in setting (near setting journal s))
+  length-map (machine_switches_in setting (near setting journal s))
       (λ neighbour. machine_advert_to neighbour advert),
   switches_few setting net (has (near setting journal s)),
 )
@@ -267,11 +267,11 @@ passed_few setting net journal s advert = omega (
 -- ---- what the controller does: settling submits nothing
 
 settling_submits_none : (before : List Item) (next : Item) → IsOfSettling before next
-    → IsFalse (item_concerns_policies before next)
+    → IsFalse (machine_item_concerns_policies before next)
 settling_submits_none before next of = search rules
 
 settling_submitless : (setting : Setting) (journal : List Item)
-    → NoneConcern item_concerns_policies journal (settling setting journal)
+    → NoMachineItemConcerns machine_item_concerns_policies journal (machine_settling setting journal)
 settling_submitless setting journal = have_weaker IsOfSettling _ settling_submits_none journal _
     (settling_settles setting journal)
 
@@ -281,16 +281,16 @@ hello_few setting before body journal = search (rules, installs_few)
 
 pub controller_few : (setting : Setting) → IsNet setting.net → (before : List Item) (body : Body)
     (journal : List Item)
-    → sent (controller_items setting before body journal) ≤ 193 + journal_version_count journal
-unfolding controller_items
+    → sent (machine_controller_items setting before body journal) ≤ 193 + journal_version_count journal
+unfolding machine_controller_items
 controller_few setting net before body journal =
-    let settled : List Item = journal ++ settling setting journal in
+    let settled : List Item = journal ++ machine_settling setting journal in
     let same : journal_version_count settled ≡ journal_version_count journal = (policies_keep journal
-    (settling setting journal) (settling_submitless setting journal)).count in
+    (machine_settling setting journal) (settling_submitless setting journal)).count in
     omega (
       arith,
-      put_few (settling setting journal) (in_turn (machine_after_hello setting before body ∷ [])) journal,
-      put_few (machine_after_hello setting before body settled) (in_turn []) settled,
+      put_few (machine_settling setting journal) (machine_blocks_in_turn (machine_after_hello setting before body ∷ [])) journal,
+      put_few (machine_after_hello setting before body settled) (machine_blocks_in_turn []) settled,
       settling_few setting net journal,
       hello_few setting before body settled,
       same,

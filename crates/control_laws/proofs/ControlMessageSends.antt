@@ -2,10 +2,10 @@
 use Rattle.std.proofs.Common.{[], ◌&&◌, ◌++◌, ◌+◌, ◌-◌, ◌<◌, ◌∙◌, ◌∷◌, ◌≡◌, ◌≤◌, ◌⊎◌, Bool, IsFalse, IsTrue, List, None, Option, Some, ap, arith, false, filter, flat_map, inl, inr, is_some, length, map, nat_lt, not, refl, subst, suc, sym, true, zero, ℕ, rules}
 use Rattle.base.proofs.Exports.{AllByRecursion, each_always, each_flat_map, each_kept, each_map, each_passing, option_or, range_with_len}
 pub use Rattle.policy_rules.proofs.PolicyRulesCallerLemmas.{each_weaker}
-use Rattle.update_machine.specs.Exports.{Advert, Advertise, Body, CacheRule, Collect, JournalItemsHaveCauses, Hello, Install, Installed, Item, Message, OpenAt, Place, Setting, Stamp, Stamped, JournalSwitchKeeps, machine_advert_to, machine_collect_for, journal_controller_heard, current_items, journal_current_mark, machine_first_open, has_acked, journal_held_adverts, machine_hello_of, journal_install_for, is_joining, is_member, is_over, is_up, journal_items_then, journal_known_boot, members, near, journal_next_current, journal_next_retired, journal_open_for, machine_open_items, machine_open_sent, open_version, journal_opened_at, opening_switches, machine_resend_items, journal_resent_by_controller, journal_resent_by_switch, journal_resent_to_member, machine_retired_items, journal_retired_mark, send_items, machine_sent_items_from, settling, journal_stamp_for, setting_switches_in, setting_switches_of, journal_tables_at, machine_touched_by, journal_unacked_installs, journal_version_count, journal_versions_from_current}
+use Rattle.update_machine.specs.Exports.{Advert, Advertise, Body, CacheRule, Collect, JournalItemsHaveCauses, Hello, Install, Installed, Item, Message, OpenAt, Place, Setting, Stamp, Stamped, JournalSwitchKeeps, machine_advert_to, machine_collect_for, journal_controller_heard, machine_current_items, journal_current_mark, machine_first_open, has_acked, journal_held_adverts, machine_hello_of, journal_install_for, is_joining, is_member, is_over, is_up, journal_items_then, journal_known_boot, members, near, journal_next_current, journal_next_retired, journal_open_for, machine_open_items, machine_open_sent, open_version, journal_opened_at, machine_opening_switches, machine_resend_items, journal_resent_by_controller, journal_resent_by_switch, journal_resent_to_member, machine_retired_items, journal_retired_mark, machine_send_items, machine_sent_items_from, machine_settling, journal_stamp_for, machine_switches_in, machine_switches_of, journal_tables_at, machine_touched_by, journal_unacked_installs, journal_version_count, journal_versions_from_current}
 use Rattle.switch_table.specs.Exports.{tables_of}
 use Rattle.update_machine.proofs.Exports.{have_first, have_in_turn, policies_keep, switch_keeps}
-use Rattle.control_laws.specs.Exports.{HasControlItemCause, IsFirstOpeningMessage, IsControlForKnown, IsControlSenderPresent, IsRightControlMessageFrom, IsRightControlMessage, IsRightControlOpening, IsRightControlMessageTo}
+use Rattle.control_laws.specs.Exports.{HasControlItemCause, IsFirstControlOpening, IsControlForKnown, IsControlSenderPresent, IsRightControlMessageFrom, IsRightControlMessage, IsRightControlOpening, IsRightControlMessageTo}
 use Rattle.control_laws.proofs.ControlFactsGrown.{Has, count_more, current_more, known_more, opened_at_more, opens_by, over_more, retired_more, told_more}
 use Rattle.control_laws.proofs.ControlSwitchOpenings.{each_by_controller, each_to_member, later_versions, member_on, member_parts, resent_has}
 
@@ -22,12 +22,12 @@ each_range P low (suc n) all = (
 
 -- the switches of the network, and those that pass a test
 pub switches_there : (setting : Setting)
-    → AllByRecursion (λ s. s < length setting.net.switches) (setting_switches_of setting)
+    → AllByRecursion (λ s. s < length setting.net.switches) (machine_switches_of setting)
 switches_there setting = each_range _ 0 _ (λ s above below. omega (arith, below))
 
 pub each_of_network : (P : ℕ → Type 0) (setting : Setting) (test : ℕ → Bool)
     → ((s : ℕ) → s < length setting.net.switches → IsTrue (test s) → P s)
-    → AllByRecursion P (filter test (setting_switches_of setting))
+    → AllByRecursion P (filter test (machine_switches_of setting))
 each_of_network P setting test so = each_passing _ P test so _ (switches_there setting)
 
 -- ---- messages that are told as the first of them is sent, each of which stays so behind others
@@ -53,7 +53,7 @@ pub sends_kept : (cause : List Item → Item → Type 0) (Tells : List Item → 
     → ((before : List Item) (n : ℕ) (message other : Message) → Tells before message
     → Tells before other → Tells (before ++ Item.Sent n message ∷ []) other)
     → (journal : List Item) (messages : List Message) → AllByRecursion (Tells journal) messages
-    → JournalItemsHaveCauses cause journal (send_items journal messages)
+    → JournalItemsHaveCauses cause journal (machine_send_items journal messages)
 sends_kept cause Tells causes stays journal messages all = search (rules, sent_kept)
 
 -- ---- what a message that is sent leaves as it was
@@ -116,16 +116,16 @@ opening_sent setting before s boot version n message new right = record {
   after = opened_at_more before next s (known_more before next s)
 
   -- another one opens it at the current version too
-  at_current : (w : ℕ) → IsFirstOpeningMessage before s version
+  at_current : (w : ℕ) → IsFirstControlOpening before s version
       → IsRightControlOpening before s (journal_known_boot before s) w → w ≡ version
   at_current w first other = elim other.opens [
     | inl also ↦ also.current ∙ sym first.current
     | inr same ↦ let clash : None ≡ Some w = sym first.closed ∙ same in absurd cc
   ]
 
-  by_opens : IsFirstOpeningMessage before s version → (o : Option ℕ)
+  by_opens : IsFirstControlOpening before s version → (o : Option ℕ)
       → machine_first_open (machine_open_sent s (journal_known_boot before s) next) ≡ o
-      → IsFirstOpeningMessage (before ++ next ∷ []) s version
+      → IsFirstControlOpening (before ++ next ∷ []) s version
       ⊎ (journal_opened_at (before ++ next ∷ []) s ≡ Some version)
   by_opens first None e = inl (record {
     closed = cc (after, first.closed, e);
@@ -183,7 +183,7 @@ right_sent setting before n message Place.Controller body new right = search (ru
 -- messages that are right as the first of them is sent
 pub sends_have : (setting : Setting) (journal : List Item) (messages : List Message)
     → AllByRecursion (IsRight setting journal) messages
-    → JournalItemsHaveCauses (HasControlItemCause setting) journal (send_items journal messages)
+    → JournalItemsHaveCauses (HasControlItemCause setting) journal (machine_send_items journal messages)
 sends_have setting = search (rules, sends_kept, right_sent)
 
 -- ---- what settling writes: whatever causes its marks and the messages behind them have, it has
@@ -202,7 +202,7 @@ pub record SettlingHas (cause : List Item → Item → Type 0) (Tells : List Ite
     (setting : Setting) : Type 0 where
   pub sends : (journal : List Item) (messages : List Message)
       → AllByRecursion (Tells journal) messages
-      → JournalItemsHaveCauses cause journal (send_items journal messages)
+      → JournalItemsHaveCauses cause journal (machine_send_items journal messages)
   pub rises : (journal : List Item) → let version = journal_next_current setting journal in
       IsTrue (nat_lt (journal_current_mark journal) version)
       → Rises cause Tells setting journal (Item.Current version) (journal_stamp_for setting journal version)
@@ -215,20 +215,20 @@ pub record SettlingHas (cause : List Item → Item → Type 0) (Tells : List Ite
 
 -- so its three parts have them
 pub record PartsHave (cause : List Item → Item → Type 0) (setting : Setting) : Type 0 where
-  pub rises : (journal : List Item) → JournalItemsHaveCauses cause journal (current_items setting journal)
+  pub rises : (journal : List Item) → JournalItemsHaveCauses cause journal (machine_current_items setting journal)
   pub opens : (journal : List Item) → JournalItemsHaveCauses cause journal (machine_open_items setting journal)
   pub retires : (journal : List Item) → JournalItemsHaveCauses cause journal (machine_retired_items setting journal)
 
 pub parts_have : (cause : List Item → Item → Type 0) (Tells : List Item → Message → Type 0)
     (setting : Setting) → SettlingHas cause Tells setting → PartsHave cause setting
-unfolding current_items machine_open_items machine_retired_items
+unfolding machine_current_items machine_open_items machine_retired_items
 parts_have cause Tells setting has = record {
   rises = λ journal. let version = journal_next_current setting journal in
       rise_has journal (nat_lt (journal_current_mark journal) version) (Item.Current version)
       (journal_stamp_for setting journal version) (known_more journal (Item.Current version))
       (over_more journal (Item.Current version)) (has.rises journal);
   opens = λ journal. has.sends journal _ (each_map (Tells journal)
-      (journal_open_for journal (journal_current_mark journal)) (opening_switches setting journal)
+      (journal_open_for journal (journal_current_mark journal)) (machine_opening_switches setting journal)
       (each_of_network (λ s. Tells journal (journal_open_for journal (journal_current_mark journal) s)) setting _
       (has.opens journal)));
   retires = λ journal. let version = journal_next_retired setting journal in
@@ -243,14 +243,14 @@ parts_have cause Tells setting has = record {
       → (IsTrue rises → Rises cause Tells setting journal next message)
       → JournalItemsHaveCauses cause journal (elim rises [
         | false ↦ []
-        | true ↦ journal_items_then (next ∷ []) (λ raised. send_items raised
+        | true ↦ journal_items_then (next ∷ []) (λ raised. machine_send_items raised
             (map message (members setting journal)))
             journal
       ])
   rise_has journal false next message known over may = tt
   rise_has journal true next message known over may =
       let raised : List Item = journal ++ next ∷ [] in
-      have_first cause next (λ raised. send_items raised (map message (members setting journal)))
+      have_first cause next (λ raised. machine_send_items raised (map message (members setting journal)))
       journal (may refl).may
       (has.sends raised _ (each_map (Tells raised) message _ (each_of_network _ setting _
       (λ s there member. let stays = member_on journal next s (known s) (over s) member in
@@ -258,8 +258,8 @@ parts_have cause Tells setting has = record {
       (record { known = sym (known s); not_over = (member_parts raised s stays).0 }) stays))))
 
 pub settling_has : (cause : List Item → Item → Type 0) (setting : Setting) → PartsHave cause setting
-    → (journal : List Item) → JournalItemsHaveCauses cause journal (settling setting journal)
-unfolding settling
+    → (journal : List Item) → JournalItemsHaveCauses cause journal (machine_settling setting journal)
+unfolding machine_settling
 settling_has cause setting have = search (rules, have_in_turn)
 
 -- ---- what is sent again has its causes
@@ -276,14 +276,14 @@ resend_by_switch setting journal s = by_up (is_up journal s) refl where
     | false ↦ []
     | true ↦ machine_hello_of journal s
         ∷ flat_map (λ neighbour. map (machine_advert_to neighbour) (journal_held_adverts setting journal s))
-        (setting_switches_in setting (near setting journal s))
+        (machine_switches_in setting (near setting journal s))
   ])
   by_up false e = tt
   by_up true e = (
     record { up = e; own = refl },
     each_flat_map (IsRight setting journal) _
         (λ neighbour. adverts_right setting journal neighbour (journal_held_adverts setting journal s))
-        (setting_switches_in setting (near setting journal s)),
+        (machine_switches_in setting (near setting journal s)),
   )
 
 unacked_right : (setting : Setting) (journal : List Item) (s : ℕ) (versions : List ℕ)

@@ -1,7 +1,7 @@
 -- What messages name is there.
 use Rattle.std.proofs.Common.{[], ◌&&◌, ◌++◌, ◌<◌, ◌==◌, ◌∙◌, ◌∷◌, ◌≡◌, ◌≤◌, Bool, List, None, Option, Some, arith, eqb-true, false, if◌then◌else◌, inl, inr, length, option_and_then, option_to_list, refl, subst, sym, true, ℕ, rules}
 use Rattle.base.proofs.Exports.{All-from_recursion, AllByRecursion, IfSome_then, each_append, each_option, option_map_or, option_or}
-use Rattle.ctrl_msg.specs.Exports.{body_version, to_controller}
+use Rattle.ctrl_msg.specs.Exports.{body_version, message_to_controller}
 use Rattle.update_machine.specs.Exports.{Advertise, Body, CacheRule, Collect, JournalItemsHaveCauses, Hello, Install, Installed, Item, Message, OpenAt, Place, Setting, Stamp, Stamped, journal_body_to_controller, journal_boot_of, journal_controller_heard, machine_first_open, machine_item_gives_ingress, heard, machine_hello_boot, journal_ingress_of, is_up, journal_known_boot, journal_message_of, machine_open_sent, machine_message_to_switch, journal_version_count}
 use Rattle.net_file.specs.Exports.{IsNet}
 use Rattle.update_machine.proofs.Exports.{last_given_append, open_net, start_laws}
@@ -23,7 +23,7 @@ IsThere journal version = (1 ≤ version) × (version ≤ journal_version_count 
 
 -- what the controller was told by names that are there
 abbrev pub IsTold : Setting → List Item → Body → Type 0
-IsTold setting journal body = ControlMessageNamesThere setting journal (to_controller body)
+IsTold setting journal body = ControlMessageNamesThere setting journal (message_to_controller body)
 
 pub record AreNamed (setting : Setting) (journal : List Item) : Type 0 where
   pub planned : IsPlanned setting journal
@@ -155,7 +155,7 @@ known_named setting before (Item.Delivered number) s are above = by_hello _ refl
     by_hello : (o : Option ℕ) → option_and_then (machine_hello_boot s) (journal_body_to_controller before number)
         ≡ o → 1 < raised (journal_known_boot before s) o → s < length setting.net.switches
     by_hello None e above = are.known s above
-    by_hello (Some boot) e above = (are.sent number (to_controller (Hello s boot))
+    by_hello (Some boot) e above = (are.sent number (message_to_controller (Hello s boot))
         (hello_sent before s number boot e)).addressed
 known_named setting before next s are above = are.known s (rw (known_more before next s) at above)
 
@@ -163,7 +163,7 @@ told_on : (setting : Setting) (before : List Item) (next : Item) (bodies : List 
     → AllByRecursion (IsTold setting before) bodies
     → AllByRecursion (IsTold setting (before ++ next ∷ [])) bodies
 told_on setting before next bodies told = each_weaker (IsTold setting before) _
-    (λ body names. names_on setting before next (to_controller body) names) bodies told
+    (λ body names. names_on setting before next (message_to_controller body) names) bodies told
 
 told_named : (setting : Setting) (before : List Item) (next : Item) → AreNamed setting before
     → AllByRecursion (IsTold setting (before ++ next ∷ [])) (journal_controller_heard (before ++ next ∷ []))
@@ -172,7 +172,7 @@ told_named setting before (Item.Delivered number) are = let next : Item = Item.D
     (told_on setting before next _ (each_append (IsTold setting before) (journal_controller_heard before)
     (option_to_list (journal_body_to_controller before number)) are.told
     (each_option (IsTold setting before) (journal_body_to_controller before number)
-    (λ body said. are.sent number (to_controller body) (said_sent before number body said)))))
+    (λ body said. are.sent number (message_to_controller body) (said_sent before number body said)))))
 told_named setting before next are = rw (told_more before next) (told_on _ before next _ are.told)
 
 -- ---- together
@@ -223,18 +223,18 @@ to_second : ControlMessageNamesThere open_net [] (machine_message_to_switch 1 (S
 unfolding journal_version_count
 to_second = record { addressed = (omega arith, refl); version = (omega arith, omega arith) }
 
-of_second : ControlMessageNamesThere open_net [] (to_controller (Hello 1 7))
+of_second : ControlMessageNamesThere open_net [] (message_to_controller (Hello 1 7))
 of_second = record { addressed = omega arith; version = tt }
 
 -- the network has no third switch
 not_to_third : ControlMessageNamesThere open_net [] (machine_message_to_switch 2 (Stamp 1 1 [])) → ⊥
 not_to_third names = absurd (omega (arith, names.addressed.0))
 
-not_of_third : ControlMessageNamesThere open_net [] (to_controller (Hello 2 1)) → ⊥
+not_of_third : ControlMessageNamesThere open_net [] (message_to_controller (Hello 2 1)) → ⊥
 not_of_third names = absurd (omega (arith, names.addressed))
 
 -- no switch tells the controller to open, and none is told who speaks
-not_told_to_open : ControlMessageNamesThere open_net [] (to_controller (OpenAt 1 1)) → ⊥
+not_told_to_open : ControlMessageNamesThere open_net [] (message_to_controller (OpenAt 1 1)) → ⊥
 not_told_to_open names = absurd names.addressed
 
 not_a_hello_to_switch : ControlMessageNamesThere open_net [] (machine_message_to_switch 1 (Hello 0 1)) → ⊥
@@ -244,7 +244,7 @@ not_a_hello_to_switch names = cc names.addressed.1
 not_version_0 : ControlMessageNamesThere open_net [] (machine_message_to_switch 1 (Stamp 1 0 [])) → ⊥
 not_version_0 names = absurd (omega (arith, names.version.0))
 
-not_version_2 : ControlMessageNamesThere open_net [] (to_controller (Installed 1 1 2)) → ⊥
+not_version_2 : ControlMessageNamesThere open_net [] (message_to_controller (Installed 1 1 2)) → ⊥
 unfolding journal_version_count
 not_version_2 names = absurd (omega (arith, names.version.1))
 
@@ -303,6 +303,6 @@ not_heard_of_version_2 name =
     let heard = name.heard 1 0 (Stamp 1 1 []) (omega arith) in absurd (omega (arith, heard.version.1))
 
 not_told_of_third : ControlBodiesNameThere open_net
-    (Item.Sent 1 (to_controller (Hello 2 1)) ∷ Item.Delivered 1 ∷ []) → ⊥
+    (Item.Sent 1 (message_to_controller (Hello 2 1)) ∷ Item.Delivered 1 ∷ []) → ⊥
 unfolding journal_message_of journal_controller_heard
 not_told_of_third name = search rules

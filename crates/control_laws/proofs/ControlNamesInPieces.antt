@@ -1,7 +1,7 @@
 -- Each piece of a step of the network names what is there, as far as its items alone tell.
 use Rattle.std.proofs.Common.{[], ◌++◌, ◌<◌, ◌∙◌, ◌∷◌, ◌≡◌, ◌≤◌, ◌⊎◌, Bool, IsTrue, List, Some, arith, false, filter, flat_map, inl, inr, length, map, not, refl, true, ℕ}
 use Rattle.base.proofs.Exports.{AllByRecursion, each_map, nat_tests, ⊤}
-use Rattle.update_machine.specs.Exports.{Advertise, Body, CacheRule, Collect, Confirm, Crash, Deliver, JournalItemsHaveCauses, Hello, Install, Installed, Item, Message, OpenAt, Packet, Place, Resend, Restart, Setting, Stamp, Stamped, Step, Tables, Update, machine_advert_to, confirm_items, deliver_items, has_acked, journal_held_adverts, machine_hello_of, journal_install_for, machine_installs_to, machine_installs_to_all, is_over, is_up, is_version, journal_known_boot, journal_message_of, near, journal_next_packet, journal_raises_known_boot, machine_resend_items, journal_resent_by_controller, journal_resent_by_switch, journal_resent_to_member, restart_items, send_items, machine_sent_items_from, settling, machine_step_items, submitted_items, journal_switch_items, setting_switches_in, setting_switches_of, machine_message_to_switch, machine_update_items, journal_version_count, journal_versions_from_current}
+use Rattle.update_machine.specs.Exports.{Advertise, Body, CacheRule, Collect, Confirm, Crash, Deliver, JournalItemsHaveCauses, Hello, Install, Installed, Item, Message, OpenAt, Packet, Place, Resend, Restart, Setting, Stamp, Stamped, Step, Tables, Update, machine_advert_to, machine_confirm_items, machine_deliver_items, has_acked, journal_held_adverts, machine_hello_of, journal_install_for, machine_installs_to, machine_installs_to_all, is_over, is_up, is_journal_version, journal_known_boot, journal_message_of, near, journal_next_packet, journal_raises_known_boot, machine_resend_items, journal_resent_by_controller, journal_resent_by_switch, journal_resent_to_member, machine_restart_items, machine_send_items, machine_sent_items_from, machine_settling, machine_step_items, machine_submitted_items, journal_switch_items, machine_switches_in, machine_switches_of, machine_message_to_switch, machine_update_items, journal_version_count, journal_versions_from_current}
 use Rattle.update_machine.proofs.Exports.{have_in_turn}
 use Rattle.control_laws.proofs.ControlFactsGrown.{have_weaker, hello_above, known_more, message_more, piece_has}
 use Rattle.control_laws.proofs.ControlCommands.{IsCommand, grows, settling_settles}
@@ -45,7 +45,7 @@ pub record AnswersStamp (before : List Item) (s boot version : ℕ) : Type 0 whe
 
 abbrev pub SaysThere : Setting → List Item → Place → Body → Type 0
 SaysThere setting before (Place.Switch s) (CacheRule version word rule action) =
-    IsTrue (is_version before version) × IsIngress before s
+    IsTrue (is_journal_version before version) × IsIngress before s
 SaysThere setting before Place.Controller (Installed s boot version) =
     AnswersTables before s boot version
 SaysThere setting before Place.Controller (Stamped s boot version) =
@@ -106,7 +106,7 @@ own_names setting before to body own = own
 
 sends_name : (setting : Setting) (journal : List Item) (messages : List Message)
     → AllByRecursion (IsOwn setting journal) messages
-    → Name setting journal (send_items journal messages)
+    → Name setting journal (machine_send_items journal messages)
 sends_name setting = sends_kept (NamesRightly setting) (IsOwn setting)
     (λ before n message own. own_names setting before message.to message.body own)
     (λ before n message other new own. own_sent setting before n message other.to other.body own)
@@ -132,7 +132,7 @@ settling_own setting = record {
 }
 
 settling_name : (setting : Setting) (journal : List Item)
-    → Name setting journal (settling setting journal)
+    → Name setting journal (machine_settling setting journal)
 settling_name setting = settling_has (NamesRightly setting) setting
     (parts_have (NamesRightly setting) (IsOwn setting) setting (settling_own setting))
 
@@ -149,14 +149,14 @@ all_installs_name : (setting : Setting) (journal : List Item)
 unfolding machine_installs_to_all
 all_installs_name setting journal = sends_name setting journal _
     (each_map (IsOwn setting journal) (journal_install_for setting journal (journal_version_count journal))
-    (filter (λ s. not (is_over journal s)) (setting_switches_of setting))
+    (filter (λ s. not (is_over journal s)) (machine_switches_of setting))
     (each_of_network (λ s. ⊤ × IsKnownSwitch setting journal s) setting
     (λ s. not (is_over journal s)) (λ s there is. (tt, inl there))))
 
 submitted_name : (setting : Setting) (journal : List Item)
-    → Name setting journal (submitted_items setting journal)
+    → Name setting journal (machine_submitted_items setting journal)
 submitted_name setting journal = have_in_turn (NamesRightly setting) (machine_installs_to_all setting
-    ∷ settling setting ∷ []) (all_installs_name setting, (settling_name setting, tt)) journal
+    ∷ machine_settling setting ∷ []) (all_installs_name setting, (settling_name setting, tt)) journal
 
 -- ---- at a switch
 
@@ -176,19 +176,19 @@ switch_name setting before now s _ answers = tt
 -- a known boot that is raised is another one than the first, and stays so
 raised_known : (setting : Setting) (here : List Item) (s number : ℕ)
     → IsTrue (journal_raises_known_boot here s number)
-    → let now = here ++ Item.Delivered number ∷ [] in 1 < journal_known_boot (now ++ settling setting now) s
+    → let now = here ++ Item.Delivered number ∷ [] in 1 < journal_known_boot (now ++ machine_settling setting now) s
 raised_known setting here s number raises =
     let now : List Item = here ++ Item.Delivered number ∷ [] in
     omega (
       arith,
-      (grows now (settling setting now) (settling_settles setting now)).known s,
+      (grows now (machine_settling setting now) (settling_settles setting now)).known s,
       known_first here s,
       hello_above here s number raises,
     )
 
 deliver_name : (setting : Setting) (before : List Item) (row number : ℕ) (step : Step)
     → let here = before ++ Item.Row row step ∷ [] in
-    Name setting here (deliver_items setting before number here)
+    Name setting here (machine_deliver_items setting before number here)
 deliver_name setting before row number step =
     let here : List Item = before ++ Item.Row row step ∷ [] in
     row_delivers (NamesRightly setting) setting before row number step tt tt
@@ -209,13 +209,13 @@ unfolding machine_update_items
 update_name setting file journal = grind (arith, submitted_name)
 
 restart_name : (setting : Setting) (s : ℕ) (journal : List Item)
-    → s < length setting.net.switches → Name setting journal (restart_items s journal)
-unfolding restart_items machine_sent_items_from
+    → s < length setting.net.switches → Name setting journal (machine_restart_items s journal)
+unfolding machine_restart_items machine_sent_items_from
 restart_name setting s journal there = grind arith
 
 confirm_name : (setting : Setting) (s : ℕ) (journal : List Item)
-    → Name setting journal (confirm_items setting s journal)
-unfolding confirm_items
+    → Name setting journal (machine_confirm_items setting s journal)
+unfolding machine_confirm_items
 confirm_name setting s journal = grind (arith, settling_name)
 
 -- ---- what is sent again
@@ -230,7 +230,7 @@ switch_own : (setting : Setting) (journal : List Item) (s : ℕ) → s < length 
 switch_own setting journal s there = by_up (is_up journal s) where
   adverts : List Message
   adverts = flat_map (λ neighbour. map (machine_advert_to neighbour) (journal_held_adverts setting journal s))
-      (setting_switches_in setting (near setting journal s))
+      (machine_switches_in setting (near setting journal s))
 
   by_up : (up : Bool) → AllByRecursion (IsOwn setting journal) (elim up [
     | false ↦ []
@@ -243,7 +243,7 @@ switch_own setting journal s there = by_up (is_up journal s) where
         (λ message is. advert_own setting journal message.to message.body is) adverts
         (each_told setting (λ neighbour. map (machine_advert_to neighbour) (journal_held_adverts setting journal s))
         (λ neighbour within. adverts_to setting neighbour within (journal_held_adverts setting journal s))
-        (setting_switches_in setting (near setting journal s))
+        (machine_switches_in setting (near setting journal s))
         (masked_there setting (near setting journal s))),
   )
 

@@ -1,14 +1,14 @@
 -- Adverts, known links and routes name links of the network alone.
 use Rattle.std.proofs.Common.{[], ◌&&◌, ◌<◌, ◌==◌, ◌∙◌, ◌∷◌, ◌≡◌, ◌≤◌, ◌⊎◌, Bool, IsTrue, List, None, Option, Some, ap, arith, eq-eqb, false, filter, get_or, get_or-set_other, get_or-set_same, inl, inr, length, length-set, map, refl, set, subst, sym, true, ℕ}
 use Rattle.base.proofs.Exports.{All-from_recursion, any_filter, cases_eq, cases_lt, get_or-map, get_or_past, has-zero, length-map, list_any, mask_of_lt, nat_tests}
-use Rattle.failover.specs.Exports.{AreJoinedByLinks, IsPath, IsRoute, LinksLeadTo, adverts_after_hearing, first_adverts, held_advert, is_route_link, is_news, neighbours_by_adverts, neighbours_named_by_advert}
+use Rattle.failover.specs.Exports.{AreJoinedByFailoverLinks, IsFailoverPath, IsRoute, FailoverLinksLeadTo, adverts_after_hearing, first_adverts, held_advert, is_known_route_link, is_advert_news, neighbours_by_adverts, neighbours_named_by_advert}
 use Rattle.base.specs.Exports.{has, small_number_mask, number_set_where, switches}
-use Rattle.update_machine.specs.Exports.{Advert, JournalItemsHaveCauses, Hello, Item, LinkRow, Net, Setting, Step, StepOfRow, journal_advert_known, machine_advert_to, journal_adverts_known, journal_after_steps, journal_boot_of, journal_crash_items, heard, journal_held_adverts, is_link_up_in_journal, is_up, is_usable_in_journal, journal_link_changes, machine_link_items, journal_links_known, journal_message_of, near, journal_next_message, own_advert, journal_own_advert_sent, journal_own_seq, piece, restart_items, machine_sent_items_from, serves, journal_steps_in}
-use Rattle.net_file.specs.Exports.{IsNet, IsNetSwitchRow, are_linked_in_net, joins, links_of, net_of_one_switch}
+use Rattle.update_machine.specs.Exports.{Advert, JournalItemsHaveCauses, Hello, Item, LinkRow, Net, Setting, Step, MachineStepOfRow, journal_advert_known, machine_advert_to, journal_adverts_known, journal_after_steps, journal_boot_of, journal_crash_items, heard, journal_held_adverts, is_link_up_in_journal, is_up, is_usable_in_journal, journal_link_changes, machine_link_items, journal_links_known, journal_message_of, near, journal_next_message, own_advert, journal_own_advert_sent, journal_own_seq, piece, machine_restart_items, machine_sent_items_from, serves, journal_steps_in}
+use Rattle.net_file.specs.Exports.{IsNet, IsNetSwitchRow, are_linked_in_net, net_link_joins, links_of, net_of_one_switch}
 use Rattle.net_file.proofs.NetFilePortMasks.{in_mask, in_mask_of, in_mask_past}
-use Rattle.steps.specs.Exports.{HasLink, HasSwitch}
+use Rattle.steps.specs.Exports.{StepLinkExists, StepSwitchExists}
 use Rattle.update_machine.proofs.Exports.{advert, at, has_known_link, known_link_laws, open_net, to, to_controller, two_switches}
-use Rattle.control_laws.specs.Exports.{ControlAdvertsAreOfSwitches, AllControlAdverts, ControlRouteFollowsLinks, IsNoNewerControlAdvert, IsControlRouteOverLinks, AdvertisedLinksAreThere, ControlAdvertNamesLinks, OwnAdvertsAreNewest}
+use Rattle.control_laws.specs.Exports.{ControlAdvertsAreOfSwitches, AllControlAdverts, ControlRouteFollowsLinks, IsNoNewerControlAdvert, IsControlRouteOverLinks, ControlAdvertisedLinksAreThere, ControlAdvertNamesLinks, ControlOwnAdvertsAreNewest}
 use Rattle.control_laws.proofs.ControlAllAdverts.{AreSuch, HasBothCauses, IsAdvertFact, all_such, behind_both, is_newest, known_such, own_told, such_on}
 use Rattle.net_file.proofs.NetFileRowPlaces.{links}
 use Rattle.control_laws.proofs.ControlOwnAdverts.{own_newest}
@@ -26,38 +26,38 @@ linked_by_mask links s k is = elim (cases_lt k 64) [
 ]
 
 pub near_linked : (setting : Setting) (journal : List Item) (s k : ℕ)
-    → IsTrue (has (near setting journal s) k) → HasLink setting.net s k
+    → IsTrue (has (near setting journal s) k) → StepLinkExists setting.net s k
 unfolding near
-near_linked setting journal s k is = any_filter (joins s k) (is_usable_in_journal journal) setting.net.links
+near_linked setting journal s k is = any_filter (net_link_joins s k) (is_usable_in_journal journal) setting.net.links
     (linked_by_mask (filter (is_usable_in_journal journal) setting.net.links) s k is)
 
 -- ---- both ends of such a link serve
 
-usable_serves : (journal : List Item) (s k : ℕ) (link : LinkRow) → joins s k link ≡ true
+usable_serves : (journal : List Item) (s k : ℕ) (link : LinkRow) → net_link_joins s k link ≡ true
     → is_usable_in_journal journal link ≡ true → (serves journal s ≡ true) × (serves journal k ≡ true)
 usable_serves journal s k link joined usable = grind (arith, nat_tests)
 
 any_serves : (journal : List Item) (s k : ℕ) (links : List LinkRow)
-    → list_any (joins s k) (filter (is_usable_in_journal journal) links) ≡ true
+    → list_any (net_link_joins s k) (filter (is_usable_in_journal journal) links) ≡ true
     → (serves journal s ≡ true) × (serves journal k ≡ true)
 any_serves journal s k [] is = absurd cc
 any_serves journal s k (link ∷ links) is =
     by_tests (is_usable_in_journal journal link) refl (any_serves journal s k links) is
   where
-    by_joins : (b : Bool) → joins s k link ≡ b → is_usable_in_journal journal link ≡ true
-        → (list_any (joins s k) (filter (is_usable_in_journal journal) links) ≡ true
+    by_joins : (b : Bool) → net_link_joins s k link ≡ b → is_usable_in_journal journal link ≡ true
+        → (list_any (net_link_joins s k) (filter (is_usable_in_journal journal) links) ≡ true
         → (serves journal s ≡ true) × (serves journal k ≡ true))
-        → list_any (joins s k) (link ∷ filter (is_usable_in_journal journal) links) ≡ true
+        → list_any (net_link_joins s k) (link ∷ filter (is_usable_in_journal journal) links) ≡ true
         → (serves journal s ≡ true) × (serves journal k ≡ true)
     by_joins true e usable rest is = usable_serves journal s k link e usable
     by_joins false e usable rest is = rest (rw e at is)
 
     by_tests : (b : Bool) → is_usable_in_journal journal link ≡ b
-        → (list_any (joins s k) (filter (is_usable_in_journal journal) links) ≡ true
+        → (list_any (net_link_joins s k) (filter (is_usable_in_journal journal) links) ≡ true
         → (serves journal s ≡ true) × (serves journal k ≡ true))
-        → list_any (joins s k) (filter (is_usable_in_journal journal) (link ∷ links)) ≡ true
+        → list_any (net_link_joins s k) (filter (is_usable_in_journal journal) (link ∷ links)) ≡ true
         → (serves journal s ≡ true) × (serves journal k ≡ true)
-    by_tests true e rest is = by_joins (joins s k link) refl e rest (rw e at is)
+    by_tests true e rest is = by_joins (net_link_joins s k link) refl e rest (rw e at is)
     by_tests false e rest is = rest (rw e at is)
 
 pub ends_serve : (setting : Setting) (journal : List Item) (s k : ℕ)
@@ -120,18 +120,18 @@ claimed_mask adverts one = elim (cases_lt one (length adverts)) [
 
 claims_linked : (net : Net) (told : Option Advert) (one other : ℕ)
     → ((advert : Advert) → told ≡ Some advert → ControlAdvertNamesLinks net advert × (advert.origin ≡ one))
-    → IsTrue (has (neighbours_named_by_advert told) other) → HasLink net one other
+    → IsTrue (has (neighbours_named_by_advert told) other) → StepLinkExists net one other
 claims_linked net None one other names is = absurd (no_link_in_none other is)
 claims_linked net (Some advert) one other names is = let named = names advert refl in
-    subst (λ origin. HasLink net origin other) named.1 (named.0 other is)
+    subst (λ origin. StepLinkExists net origin other) named.1 (named.0 other is)
 
 -- a row of the links that are told: the switch's own, or one of an advert
 linked_row : (net : Net) (adverts : List (Option Advert)) (at own one other : ℕ)
-    → (IsTrue (has own other) → HasLink net at other)
+    → (IsTrue (has own other) → StepLinkExists net at other)
     → ((advert : Advert) → held_advert adverts one ≡ Some advert
     → ControlAdvertNamesLinks net advert × (advert.origin ≡ one))
     → IsTrue (has (get_or (set (map neighbours_named_by_advert adverts) at own) one 0) other)
-    → HasLink net one other
+    → StepLinkExists net one other
 linked_row net adverts at own one other sees names is = elim (cases_eq one at) [
   | inl same ↦ by_place same (cases_lt at (length rows))
   | inr apart ↦ claims_linked net (held_advert adverts one) one other names
@@ -141,11 +141,11 @@ linked_row net adverts at own one other sees names is = elim (cases_eq one at) [
   rows = map neighbours_named_by_advert adverts
 
   by_place : one ≡ at → (at < length (map neighbours_named_by_advert adverts))
-      ⊎ (length (map neighbours_named_by_advert adverts) ≤ at) → HasLink net one other
+      ⊎ (length (map neighbours_named_by_advert adverts) ≤ at) → StepLinkExists net one other
   by_place same (inl within) =
       let row = ap (λ x. get_or (set (map neighbours_named_by_advert adverts) at own) x 0) same
       ∙ get_or-set_same (map neighbours_named_by_advert adverts) at own 0 within in
-      subst (λ x. HasLink net x other) (sym same)
+      subst (λ x. StepLinkExists net x other) (sym same)
       (sees (subst (λ mask. IsTrue (has mask other)) row is))
   by_place same (inr past) =
       let none = get_or_past (set (map neighbours_named_by_advert adverts) at own) one 0
@@ -155,8 +155,8 @@ linked_row net adverts at own one other sees names is = elim (cases_eq one at) [
 known_linked : (setting : Setting) (journal : List Item)
     → AllControlAdverts setting journal (ControlAdvertNamesLinks setting.net)
     → (s one other : ℕ) (down : List ℕ) → one < 64 → other < 64
-    → AreJoinedByLinks (journal_links_known setting journal s down) one other → HasLink setting.net one other
-unfolding is_route_link neighbours_by_adverts
+    → AreJoinedByFailoverLinks (journal_links_known setting journal s down) one other → StepLinkExists setting.net one other
+unfolding is_known_route_link neighbours_by_adverts
 known_linked setting journal adverts s one other down one_small other_small joined =
     linked_row setting.net (journal_adverts_known setting journal s) s (near setting journal s) one other
     (near_linked setting journal s other) (λ advert known. (
@@ -169,8 +169,8 @@ known_linked setting journal adverts s one other down one_small other_small join
 -- ---- routes
 
 leads_over : (net : Net) (links : List ℕ)
-    → ((one other : ℕ) → one < 64 → other < 64 → AreJoinedByLinks links one other → HasLink net one other)
-    → (target at : ℕ) (route : List ℕ) → at < 64 → LinksLeadTo links target at route
+    → ((one other : ℕ) → one < 64 → other < 64 → AreJoinedByFailoverLinks links one other → StepLinkExists net one other)
+    → (target at : ℕ) (route : List ℕ) → at < 64 → FailoverLinksLeadTo links target at route
     → ControlRouteFollowsLinks net at route
 leads_over net links linked target at [] small leads = tt
 leads_over net links linked target at (next ∷ route) small leads = (
@@ -179,15 +179,15 @@ leads_over net links linked target at (next ∷ route) small leads = (
 )
 
 path_over : (net : Net) (links : List ℕ)
-    → ((one other : ℕ) → one < 64 → other < 64 → AreJoinedByLinks links one other → HasLink net one other)
-    → (from target : ℕ) (route : List ℕ) → IsPath links from target route → IsControlRouteOverLinks net route
-unfolding IsPath
+    → ((one other : ℕ) → one < 64 → other < 64 → AreJoinedByFailoverLinks links one other → StepLinkExists net one other)
+    → (from target : ℕ) (route : List ℕ) → IsFailoverPath links from target route → IsControlRouteOverLinks net route
+unfolding IsFailoverPath
 path_over net links linked from target [] path = tt
 path_over net links linked from target (first ∷ route) path =
     leads_over net links linked target first route path.1 path.2
 
 route_over : (net : Net) (links : List ℕ)
-    → ((one other : ℕ) → one < 64 → other < 64 → AreJoinedByLinks links one other → HasLink net one other)
+    → ((one other : ℕ) → one < 64 → other < 64 → AreJoinedByFailoverLinks links one other → StepLinkExists net one other)
     → (from : ℕ) (targets route : List ℕ) → IsRoute links from targets (Some route)
     → IsControlRouteOverLinks net route
 unfolding IsRoute
@@ -200,7 +200,7 @@ route_over net links linked from (target ∷ targets) route (inr is) =
 -- ---- all of it
 
 pub links_there : (setting : Setting) (journal : List Item)
-    → JournalItemsHaveCauses (HasBothCauses setting) [] journal → AdvertisedLinksAreThere setting journal
+    → JournalItemsHaveCauses (HasBothCauses setting) [] journal → ControlAdvertisedLinksAreThere setting journal
 links_there setting journal have =
     let adverts = all_such setting (λ js. ControlAdvertNamesLinks setting.net) (names_fact setting) journal have
     (own_names setting journal) in record {
@@ -216,15 +216,15 @@ links_there setting journal have =
 -- ---- each advert that is told is of a switch of the network: those that tell have neighbours
 
 abbrev pub IsOfSwitch : Setting → List Item → Advert → Type 0
-IsOfSwitch setting journal advert = HasSwitch setting.net advert.origin
+IsOfSwitch setting journal advert = StepSwitchExists setting.net advert.origin
 
 -- a switch that has a neighbour is of the network
 has_neighbour : (setting : Setting) (journal : List Item) (s neighbour : ℕ) → IsNet setting.net
-    → IsTrue (has (near setting journal s) neighbour) → HasSwitch setting.net s
+    → IsTrue (has (near setting journal s) neighbour) → StepSwitchExists setting.net s
 has_neighbour setting journal s neighbour net is = links.below setting.net neighbour s net
     (links.both_ways setting.net.links neighbour s ∙ near_linked setting journal s neighbour is)
 
-own_of : (setting : Setting) (journal : List Item) (s : ℕ) → HasSwitch setting.net s
+own_of : (setting : Setting) (journal : List Item) (s : ℕ) → StepSwitchExists setting.net s
     → IsOfSwitch setting journal (own_advert setting journal s)
 own_of setting journal s there = rw (own_origin setting journal s) there
 
@@ -245,7 +245,7 @@ of_switches setting journal have net =
       heard = such.heard;
       held = λ s origin advert there small known. let at : advert.origin ≡ origin =
           known_origin setting journal s origin advert small known in (
-            subst (HasSwitch setting.net) at (known_such setting (IsOfSwitch setting) journal such s
+            subst (StepSwitchExists setting.net) at (known_such setting (IsOfSwitch setting) journal such s
                 origin advert small (own_of setting journal s there) known),
             at,
           );
@@ -335,30 +335,30 @@ back = Item.Row 1 (Step.LinkDown 0 1) ∷ Item.LinkIs 0 1 false ∷ Item.Row 2 (
     ∷ Item.Sent 2 (to 1 (advert 1 1 1 1)) ∷ Item.Sent 3 (to 0 (advert 0 1 1 2))
     ∷ Item.Sent 4 (to 0 (advert 1 1 3 1)) ∷ []
 
-abbrev its_steps : List StepOfRow
+abbrev its_steps : List MachineStepOfRow
 its_steps = at 1 (Step.LinkDown 0 1) ∷ at 2 (Step.LinkUp 0 1) ∷ []
 
 written : journal_after_steps open_net [] its_steps ≡ back
 unfolding piece machine_link_items journal_link_changes journal_held_adverts journal_adverts_known own_advert journal_own_seq near
     is_link_up_in_journal serves is_up journal_boot_of heard journal_steps_in journal_next_message machine_sent_items_from first_adverts
-    adverts_after_hearing is_news has number_set_where switches small_number_mask
+    adverts_after_hearing is_advert_news has number_set_where switches small_number_mask
 written = refl
 
-linked_once_back : AdvertisedLinksAreThere open_net back
-linked_once_back = subst (AdvertisedLinksAreThere open_net) written
-    ((behind_both AdvertisedLinksAreThere links_there).ends.stepped open_net its_steps)
+linked_once_back : ControlAdvertisedLinksAreThere open_net back
+linked_once_back = subst (ControlAdvertisedLinksAreThere open_net) written
+    ((behind_both ControlAdvertisedLinksAreThere links_there).ends.stepped open_net its_steps)
 
-newest_once_back : OwnAdvertsAreNewest open_net back
-newest_once_back = subst (OwnAdvertsAreNewest open_net) written
-    ((behind_both OwnAdvertsAreNewest own_newest).ends.stepped open_net its_steps)
+newest_once_back : ControlOwnAdvertsAreNewest open_net back
+newest_once_back = subst (ControlOwnAdvertsAreNewest open_net) written
+    ((behind_both ControlOwnAdvertsAreNewest own_newest).ends.stepped open_net its_steps)
 
 -- ---- journals in which wrong adverts were sent
 
-unlinked : AdvertisedLinksAreThere open_net (Item.Sent 1 (to 1 (advert 0 1 1 4)) ∷ []) → ⊥
+unlinked : ControlAdvertisedLinksAreThere open_net (Item.Sent 1 (to 1 (advert 0 1 1 4)) ∷ []) → ⊥
 unfolding journal_message_of
 unlinked there = names_none (there.adverts.sent 1 1 (told 1 1 4) refl)
 
-newer_sent : OwnAdvertsAreNewest open_net (Item.Sent 1 (to 1 (advert 0 2 1 2)) ∷ []) → ⊥
+newer_sent : ControlOwnAdvertsAreNewest open_net (Item.Sent 1 (to 1 (advert 0 2 1 2)) ∷ []) → ⊥
 unfolding journal_message_of journal_boot_of
 newer_sent newest = let limit : 2 ≤ 1 = (newest.sent 1 1 (told 2 1 2) refl).boot in omega arith
 
@@ -367,12 +367,12 @@ newer_sent newest = let limit : 2 ≤ 1 = (newest.sent 1 1 (told 2 1 2) refl).bo
 first_of_b : journal_advert_known open_net failed 0 1
     ≡ Some (record { origin = 1; boot = 1; seq = 1; up = 1 })
 unfolding journal_adverts_known own_advert journal_own_seq near is_link_up_in_journal serves is_up journal_boot_of heard journal_steps_in
-    first_adverts adverts_after_hearing is_news small_number_mask number_set_where switches
+    first_adverts adverts_after_hearing is_advert_news small_number_mask number_set_where switches
 first_of_b = refl
 
 none_of_third : journal_advert_known open_net failed 0 2 ≡ None
 unfolding journal_adverts_known own_advert journal_own_seq near is_link_up_in_journal serves is_up journal_boot_of heard journal_steps_in
-    first_adverts adverts_after_hearing is_news small_number_mask number_set_where switches
+    first_adverts adverts_after_hearing is_advert_news small_number_mask number_set_where switches
 none_of_third = refl
 
 of_third : ControlAdvertsAreOfSwitches open_net (Item.Sent 1 (to 1 (advert 2 1 1 0)) ∷ []) → ⊥
@@ -402,7 +402,7 @@ is_net = record {
   cache = omega arith;
 }
 
-abbrev pub restart : List StepOfRow
+abbrev pub restart : List MachineStepOfRow
 restart = at 1 (Step.Crash 0) ∷ at 2 (Step.Restart 0) ∷ []
 
 abbrev pub restarted : List Item
@@ -410,7 +410,7 @@ restarted = Item.Row 1 (Step.Crash 0) ∷ Item.Down 0 ∷ Item.Row 2 (Step.Resta
     ∷ Item.Sent 1 (to_controller (Hello 0 2)) ∷ []
 
 of_the_switch : ControlAdvertsAreOfSwitches solo restarted
-unfolding piece journal_crash_items restart_items journal_link_changes near is_link_up_in_journal serves is_up journal_boot_of
+unfolding piece journal_crash_items machine_restart_items journal_link_changes near is_link_up_in_journal serves is_up journal_boot_of
     journal_next_message machine_sent_items_from small_number_mask number_set_where switches
 of_the_switch =
     (behind_both (λ setting journal. IsNet setting.net → ControlAdvertsAreOfSwitches setting journal)

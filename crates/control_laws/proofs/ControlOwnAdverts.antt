@@ -1,10 +1,10 @@
 -- How the own advert of a switch goes on while the switch is up in its boot.
 use Rattle.std.proofs.Common.{[], ◌&&◌, ◌++◌, ◌+◌, ◌<◌, ◌==◌, ◌||◌, ◌∙◌, ◌∷◌, ◌≡◌, ◌≤◌, ◌⊎◌, Bool, IsTrue, List, ap, append_assoc, arith, cond, count_by, eq-eqb, eqb-true, false, if◌then◌else◌, inl, inr, nat_lt, not, refl, sym, true, ℕ, rules}
 use Rattle.base.proofs.Exports.{All-weaker, nat_tests, sum_by-cons}
-use Rattle.update_machine.specs.Exports.{Advert, JournalItemsHaveCauses, Item, MachineLinksKeep, Setting, StepItems, journal_adverts_heard, journal_boot_of, item_changes_steps, journal_step_changes_links, is_up, near, own_advert, journal_own_seq, journal_steps_in, machine_steps_with_item}
+use Rattle.update_machine.specs.Exports.{Advert, JournalItemsHaveCauses, Item, MachineLinksKeep, Setting, MachineStepItems, journal_adverts_heard, journal_boot_of, machine_item_changes_steps, journal_step_changes_links, is_up, near, own_advert, journal_own_seq, journal_steps_in, machine_steps_with_item}
 use Rattle.update_machine.proofs.Exports.{folded_append, links_keep, start_laws}
 use Rattle.control_laws.proofs.ControlSaidToController.{ChangedNoLinks, HasLinkCause}
-use Rattle.control_laws.specs.Exports.{AllControlAdverts, HasControlItemCause, IsNoNewerControlAdvert, OwnAdvertsAreNewest}
+use Rattle.control_laws.specs.Exports.{AllControlAdverts, HasControlItemCause, IsNoNewerControlAdvert, ControlOwnAdvertsAreNewest}
 use Rattle.control_laws.proofs.ControlFactsGrown.{boot_more, boot_rises, up_more}
 use Rattle.control_laws.proofs.ControlAllAdverts.{HasBothCauses, IsAdvertFact, all_such, begun_with}
 
@@ -53,16 +53,16 @@ seq_is setting journal s up = rw (up, journal_own_seq) refl
 -- ---- an item that changes links
 
 -- the step, with one more item
-abbrev longer : StepItems → Item → StepItems
+abbrev longer : MachineStepItems → Item → MachineStepItems
 longer step next = record { before = step.before; items = step.items ++ next ∷ [] }
 
 steps_longer : (before : List Item) (next : Item) (is : ChangedNoLinks before)
-    → ((steps : List StepItems) → item_changes_steps before steps next ≡ machine_steps_with_item steps next)
+    → ((steps : List MachineStepItems) → machine_item_changes_steps before steps next ≡ machine_steps_with_item steps next)
     → journal_steps_in (before ++ next ∷ []) ≡ longer is.newest next ∷ is.earlier
 unfolding journal_steps_in
 steps_longer before next is no_row = search (rules, folded_append)
 
-count_cons : (test : StepItems → Bool) (step : StepItems) (steps : List StepItems)
+count_cons : (test : MachineStepItems → Bool) (step : MachineStepItems) (steps : List MachineStepItems)
     → count_by test (step ∷ steps) ≡ cond (test step) 1 0 + count_by test steps
 count_cons test step steps = sum_by-cons (λ x. cond (test x) 1 0) step steps
 
@@ -90,12 +90,12 @@ now_changed setting before next s is =
 
 counted : (setting : Setting) (before : List Item) (next : Item) (s : ℕ)
     (is : ChangedNoLinks before)
-    → ((steps : List StepItems) → item_changes_steps before steps next ≡ machine_steps_with_item steps next)
+    → ((steps : List MachineStepItems) → machine_item_changes_steps before steps next ≡ machine_steps_with_item steps next)
     → (d : Bool) → (near setting before s == near setting (before ++ next ∷ []) s) ≡ d
     → count_by (journal_step_changes_links setting s (journal_boot_of before s)) (journal_steps_in (before ++ next ∷ []))
     ≡ count_by (journal_step_changes_links setting s (journal_boot_of before s)) (journal_steps_in before) + cond (not d) 1 0
 counted setting before next s is no_row d e =
-    let test : StepItems → Bool = journal_step_changes_links setting s (journal_boot_of before s) in
+    let test : MachineStepItems → Bool = journal_step_changes_links setting s (journal_boot_of before s) in
     let after = ap (count_by test) (steps_longer before next is no_row)
     ∙ count_cons test _ is.earlier ∙ ap (λ b. cond b 1 0 + count_by test is.earlier)
     (now_changed setting before next s is ∙ ap not e) in
@@ -115,7 +115,7 @@ as_many x y k f after was = omega arith
 
 link_item_on : (setting : Setting) (before : List Item) (next : Item) (s : ℕ)
     → ChangedNoLinks before
-    → ((steps : List StepItems) → item_changes_steps before steps next ≡ machine_steps_with_item steps next)
+    → ((steps : List MachineStepItems) → machine_item_changes_steps before steps next ≡ machine_steps_with_item steps next)
     → is_up before s ≡ true → is_up (before ++ next ∷ []) s ≡ true → journal_boot_of (before ++ next ∷ []) s
     ≡ journal_boot_of before s → AdvertGoesOn setting before (before ++ next ∷ []) s
 link_item_on setting before next s is no_row was_up up boot = by_links _ refl where
@@ -233,7 +233,7 @@ unfolding own_advert
 no_newer setting journal advert past = search (rules, newer_by_boot, newer_by_seq)
 
 pub own_newest : (setting : Setting) (journal : List Item)
-    → JournalItemsHaveCauses (HasBothCauses setting) [] journal → OwnAdvertsAreNewest setting journal
+    → JournalItemsHaveCauses (HasBothCauses setting) [] journal → ControlOwnAdvertsAreNewest setting journal
 own_newest setting journal have =
     let past = all_such _ _ (past_fact setting) journal have (own_past setting journal) in record {
       sent = λ n s advert is. no_newer setting journal advert (past.sent n s advert is);

@@ -1,12 +1,12 @@
 -- Each piece has its causes, whatever its step, and so has the journal of any steps.
 use Rattle.std.proofs.Common.{[], ◌&&◌, ◌++◌, ◌+◌, ◌-◌, ◌<◌, ◌==◌, ◌||◌, ◌∙◌, ◌∷◌, ◌≡◌, ◌≤◌, Bool, IsFalse, IsTrue, List, None, Option, Some, ap, arith, cond, eq-eqb, eqb-true, false, if◌then◌else◌, inl, inr, length, not, option_and_then, refl, subst, suc, sym, take_while, true, zero, ℕ}
 use Rattle.base.proofs.Exports.{cases_eq, each_filter, each_map, list_any, list_any-append, nat_tests, option_map_or, or_right, range_with_len, take_while-cons}
-use Rattle.update_machine.specs.Exports.{Advertise, Body, Confirm, Crash, Deliver, JournalItemsHaveCauses, Hello, Install, Installed, Item, MachineCurrentMayRise, Message, OpenAt, Packet, Place, Resend, Restart, Setting, Stamp, Stamped, Step, Update, machine_after_hello, all_acked, journal_body_to_controller, journal_body_to_switch, journal_boot_of, confirm_items, controller_items, journal_current_mark, deliver_items, machine_delivery_items, has_acked, heard, machine_hello_of, in_turn, journal_install_for, machine_installs_to, machine_installs_to_all, installs_version, is_journal_body_for_boot, is_joining, is_member, is_new_boot_in_journal, is_over, is_up, machine_marks_code, journal_message_of, journal_next_current, journal_next_packet, journal_next_retired, journal_opened_at, journal_raises_known_boot, machine_received_items, restart_items, send_items, settling, machine_stamp_message_version, journal_stamp_of, machine_step_items, submitted_items, journal_switch_items, setting_switches_of, machine_message_to_switch, machine_update_code, machine_update_items, journal_version_count, journal_versions_from_current}
+use Rattle.update_machine.specs.Exports.{Advertise, Body, Confirm, Crash, Deliver, JournalItemsHaveCauses, Hello, Install, Installed, Item, MachineCurrentMayRise, Message, OpenAt, Packet, Place, Resend, Restart, Setting, Stamp, Stamped, Step, Update, machine_after_hello, machine_all_acked, journal_body_to_controller, journal_body_to_switch, journal_boot_of, machine_confirm_items, machine_controller_items, journal_current_mark, machine_deliver_items, machine_delivery_items, has_acked, heard, machine_hello_of, machine_blocks_in_turn, journal_install_for, machine_installs_to, machine_installs_to_all, machine_body_installs_version, is_journal_body_for_boot, is_joining, is_member, is_new_boot_in_journal, is_over, is_up, machine_marks_code, journal_message_of, journal_next_current, journal_next_packet, journal_next_retired, journal_opened_at, journal_raises_known_boot, machine_received_items, machine_restart_items, machine_send_items, machine_settling, machine_version_to_stamp_with, journal_stamp_of, machine_step_items, machine_submitted_items, journal_switch_items, machine_switches_of, machine_message_to_switch, machine_update_code, machine_update_items, journal_version_count, journal_versions_from_current}
 use Rattle.update_machine.proofs.Exports.{PiecesHave, allowed_next, have_first, have_in_turn, have_put, policies_keep}
 use Rattle.control_laws.specs.Exports.{HasControlItemCause, ControlLawHoldsAlways, ControlOpeningHasCause, ControlSubmissionHasCause}
 use Rattle.control_laws.proofs.ControlFactsGrown.{FromCauses, Has, boot_more, current_more, heard_more, known_more, message_more, over_more, piece_has, raised, retired_more, stamp_told, up_more}
 use Rattle.control_laws.proofs.ControlMessageSends.{IsRight, SettlingHas, each_range, parts_have, resend_have, sends_have, settling_has}
-use Rattle.ctrl_msg.specs.Exports.{to_controller}
+use Rattle.ctrl_msg.specs.Exports.{message_to_controller}
 use Rattle.control_laws.proofs.ControlTrafficItems.{links_have, packet_has, passed_traffic, step_traffic, traffic_has, traffic_right}
 use Rattle.control_laws.proofs.ControlCommands.{grows, settling_settles}
 use Rattle.control_laws.proofs.ControlStampingSwitches.{behind_items, crash_has}
@@ -47,11 +47,11 @@ may_rise : (setting : Setting) (journal : List Item)
     → MachineCurrentMayRise setting journal (journal_next_current setting journal)
 unfolding journal_next_current
 may_rise setting journal rises =
-    let few = passing_few (all_acked setting journal) (journal_current_mark journal + 1)
+    let few = passing_few (machine_all_acked setting journal) (journal_current_mark journal + 1)
     (journal_version_count journal - journal_current_mark journal) in record {
       rises = rises;
       there = omega (arith, few, rises);
-      acknowledged = λ v above below. passing (all_acked setting journal)
+      acknowledged = λ v above below. passing (machine_all_acked setting journal)
           (journal_current_mark journal + 1) (journal_version_count journal - journal_current_mark journal) v
           (omega (arith, above)) (omega (arith, below));
     }
@@ -92,7 +92,7 @@ settling_right setting = record {
 }
 
 pub settling_have : (setting : Setting) (journal : List Item)
-    → Has setting journal (settling setting journal)
+    → Has setting journal (machine_settling setting journal)
 settling_have setting = settling_has (HasControlItemCause setting) setting
     (parts_have (HasControlItemCause setting) (IsRight setting) setting (settling_right setting))
 
@@ -125,24 +125,24 @@ all_installs_have setting journal = sends_have setting journal _
       which = inl refl;
       there = omega arith;
       planned = refl;
-    }) (setting_switches_of setting)))
+    }) (machine_switches_of setting)))
   where
     not_true : (b : Bool) → IsTrue (not b) → IsFalse b
     not_true true is = absurd cc
     not_true false is = refl
 
 pub submitted_have : (setting : Setting) (journal : List Item)
-    → Has setting journal (submitted_items setting journal)
+    → Has setting journal (machine_submitted_items setting journal)
 submitted_have setting journal = have_in_turn (HasControlItemCause setting) (machine_installs_to_all setting
-    ∷ settling setting ∷ []) (all_installs_have setting, (settling_have setting, tt)) journal
+    ∷ machine_settling setting ∷ []) (all_installs_have setting, (settling_have setting, tt)) journal
 
 -- ---- what a delivery causes, by its receiver: what the items of each receiver have, its items
 -- have
 
 pub delivery_has : (Have : List Item → Type 0) (setting : Setting) (before : List Item)
     (number : ℕ) (now : List Item) → Have []
-    → ((body : Body) → journal_message_of before number ≡ Some (to_controller body)
-    → Have (controller_items setting before body now))
+    → ((body : Body) → journal_message_of before number ≡ Some (message_to_controller body)
+    → Have (machine_controller_items setting before body now))
     → ((s : ℕ) (body : Body) → journal_body_to_switch before s number ≡ Some body
     → Have (journal_switch_items setting before s body now))
     → Have (machine_delivery_items setting before number now)
@@ -174,12 +174,12 @@ delivery_has Have setting before number now none at_controller at_switch =
 pub deliver_has : (cause : List Item → Item → Type 0) (setting : Setting) (before : List Item)
     (number : ℕ) (here : List Item) → cause here Item.Nothing → cause here (Item.Delivered number)
     → let now = here ++ Item.Delivered number ∷ [] in
-    ((body : Body) → journal_message_of before number ≡ Some (to_controller body)
-    → JournalItemsHaveCauses cause now (controller_items setting before body now))
+    ((body : Body) → journal_message_of before number ≡ Some (message_to_controller body)
+    → JournalItemsHaveCauses cause now (machine_controller_items setting before body now))
     → ((s : ℕ) (body : Body) → journal_body_to_switch before s number ≡ Some body
     → JournalItemsHaveCauses cause now (journal_switch_items setting before s body now))
-    → JournalItemsHaveCauses cause here (deliver_items setting before number here)
-unfolding deliver_items
+    → JournalItemsHaveCauses cause here (machine_deliver_items setting before number here)
+unfolding machine_deliver_items
 deliver_has cause setting before number here nothing delivered at_controller at_switch =
     let now : List Item = here ++ Item.Delivered number ∷ [] in
     let first = have_first cause (Item.Delivered number) (machine_delivery_items setting before number)
@@ -196,42 +196,42 @@ hello_has cause setting before settled _ begun = tt
 
 -- the controller settles first, and then sends tables to a switch that says hello of a new boot
 controller_has : (cause : List Item → Item → Type 0) (setting : Setting) (before now : List Item)
-    (body : Body) → JournalItemsHaveCauses cause now (settling setting now)
-    → (let settled = now ++ settling setting now in
+    (body : Body) → JournalItemsHaveCauses cause now (machine_settling setting now)
+    → (let settled = now ++ machine_settling setting now in
     (s boot : ℕ) → body ≡ Hello s boot → IsTrue (is_new_boot_in_journal before s boot)
     → JournalItemsHaveCauses cause settled (machine_installs_to setting s settled))
-    → JournalItemsHaveCauses cause now (controller_items setting before body now)
-unfolding controller_items
+    → JournalItemsHaveCauses cause now (machine_controller_items setting before body now)
+unfolding machine_controller_items
 controller_has cause setting before now body settles begun =
-    let settled : List Item = now ++ settling setting now in
-    have_put cause (settling setting now) (in_turn (machine_after_hello setting before body ∷ [])) now
+    let settled : List Item = now ++ machine_settling setting now in
+    have_put cause (machine_settling setting now) (machine_blocks_in_turn (machine_after_hello setting before body ∷ [])) now
     settles
-    (have_put cause (machine_after_hello setting before body settled) (in_turn []) settled
+    (have_put cause (machine_after_hello setting before body settled) (machine_blocks_in_turn []) settled
     (hello_has cause setting before settled body begun) tt)
 
 -- a hello of a new boot raises the known one, behind the row of its delivery
 hello_raises : (before : List Item) (row number s boot : ℕ) (step : Step) (body : Body)
-    → journal_message_of before number ≡ Some (to_controller body) → body ≡ Hello s boot
+    → journal_message_of before number ≡ Some (message_to_controller body) → body ≡ Hello s boot
     → IsTrue (is_new_boot_in_journal before s boot)
     → IsTrue (journal_raises_known_boot (before ++ Item.Row row step ∷ []) s number)
 hello_raises before row number s boot step body sent hello new =
     let still : journal_message_of (before ++ Item.Row row step ∷ []) number
-    ≡ Some (to_controller (Hello s boot)) = message_more before (Item.Row row step) number
-    ∙ sent ∙ ap (λ of. Some (to_controller of)) hello in
+    ≡ Some (message_to_controller (Hello s boot)) = message_more before (Item.Row row step) number
+    ∙ sent ∙ ap (λ of. Some (message_to_controller of)) hello in
     rw ((known_more before (Item.Row row step) s), still, journal_body_to_controller, eq-eqb s s refl) new
 
 -- so behind its row a delivery has what settling has, tables to a switch whose known boot is
 -- raised, and what a switch writes to which something is said
 pub row_delivers : (cause : List Item → Item → Type 0) (setting : Setting) (before : List Item)
     (row number : ℕ) (step : Step) → let here = before ++ Item.Row row step ∷ [] in
-    let now = here ++ Item.Delivered number ∷ [] in let settled = now ++ settling setting now in
+    let now = here ++ Item.Delivered number ∷ [] in let settled = now ++ machine_settling setting now in
     cause here Item.Nothing → cause here (Item.Delivered number)
-    → JournalItemsHaveCauses cause now (settling setting now)
+    → JournalItemsHaveCauses cause now (machine_settling setting now)
     → ((s : ℕ) → IsTrue (journal_raises_known_boot here s number)
     → JournalItemsHaveCauses cause settled (machine_installs_to setting s settled))
     → ((s : ℕ) (body : Body) → journal_body_to_switch before s number ≡ Some body
     → JournalItemsHaveCauses cause now (journal_switch_items setting before s body now))
-    → JournalItemsHaveCauses cause here (deliver_items setting before number here)
+    → JournalItemsHaveCauses cause here (machine_deliver_items setting before number here)
 row_delivers cause setting before row number step nothing delivered settles raised at_switch =
     deliver_has cause setting before number _ nothing delivered
     (λ body sent. controller_has cause setting before _ body settles
@@ -257,7 +257,7 @@ record IsHeard (now : List Item) (s number : ℕ) (body : Body) : Type 0 where
   said : IsSaid now s number body
   earlier : List Body
   heard : heard now s ≡ earlier ++ body ∷ []
-  stamps : (version : ℕ) → machine_stamp_message_version body ≡ Some version → version ≤ journal_stamp_of now s
+  stamps : (version : ℕ) → machine_version_to_stamp_with body ≡ Some version → version ≤ journal_stamp_of now s
 
 -- a row changes nothing of what is said
 pub said_row : (before : List Item) (row s number : ℕ) (step : Step)
@@ -280,7 +280,7 @@ delivered_heard before s number body said =
       heard = cc (heard_more before (Item.Delivered number) s, said);
       stamps = λ version is. let after : journal_stamp_of (before ++ Item.Delivered number ∷ []) s
           ≡ raised (journal_stamp_of before s) (Some version) = stamp_told before number s
-          ∙ ap (raised (journal_stamp_of before s)) (ap (option_and_then machine_stamp_message_version) said ∙ is) in
+          ∙ ap (raised (journal_stamp_of before s)) (ap (option_and_then machine_version_to_stamp_with) said ∙ is) in
           omega (arith, after);
     }
 
@@ -304,7 +304,7 @@ switch_have : (setting : Setting) (before now : List Item) (s number : ℕ) (bod
     → IsHeard now s number body → Has setting now (journal_switch_items setting before s body now)
 unfolding journal_switch_items
 switch_have setting before now s number (Install boot tables) is =
-    sends_have setting now (to_controller (Installed s boot tables.version) ∷ []) (
+    sends_have setting now (message_to_controller (Installed s boot tables.version) ∷ []) (
       record {
         present = record { up = is.said.up; own = own_boot now s boot is.said.own };
         heard = installed;
@@ -312,14 +312,14 @@ switch_have setting before now s number (Install boot tables) is =
       tt,
     )
   where
-    installed : IsTrue (list_any (installs_version tables.version) (heard now s))
-    installed = ap (list_any (installs_version tables.version)) is.heard
-        ∙ list_any-append (installs_version tables.version) is.earlier (Install boot tables ∷ [])
-        ∙ ap (λ b. list_any (installs_version tables.version) is.earlier || (b || false))
+    installed : IsTrue (list_any (machine_body_installs_version tables.version) (heard now s))
+    installed = ap (list_any (machine_body_installs_version tables.version)) is.heard
+        ∙ list_any-append (machine_body_installs_version tables.version) is.earlier (Install boot tables ∷ [])
+        ∙ ap (λ b. list_any (machine_body_installs_version tables.version) is.earlier || (b || false))
         (eq-eqb tables.version tables.version refl)
-        ∙ or_right (list_any (installs_version tables.version) is.earlier) true refl
+        ∙ or_right (list_any (machine_body_installs_version tables.version) is.earlier) true refl
 switch_have setting before now s number (Stamp boot version touched) is =
-    sends_have setting now (to_controller (Stamped s boot version) ∷ []) (
+    sends_have setting now (message_to_controller (Stamped s boot version) ∷ []) (
       record {
         present = record { up = is.said.up; own = own_boot now s boot is.said.own };
         stamps = is.stamps version refl;
@@ -344,16 +344,16 @@ said_have setting before here s number body said =
 -- a switch whose known boot is raised isn't over, nor is it behind settling
 raised_ends : (setting : Setting) (here : List Item) (s number : ℕ)
     → IsTrue (journal_raises_known_boot here s number) → let now = here ++ Item.Delivered number ∷ [] in
-    IsFalse (is_over (now ++ settling setting now) s)
+    IsFalse (is_over (now ++ machine_settling setting now) s)
 raised_ends setting here s number raises =
     let now : List Item = here ++ Item.Delivered number ∷ [] in
-    (grows now (settling setting now) (settling_settles setting now)).over s
+    (grows now (machine_settling setting now) (settling_settles setting now)).over s
     ∙ over_more here (Item.Delivered number) s
     ∙ ap (λ b. if b then false else is_over here s) raises
 
 pub deliver_have : (setting : Setting) (before : List Item) (row number : ℕ) (step : Step)
     → let here = before ++ Item.Row row step ∷ [] in
-    Has setting here (deliver_items setting before number here)
+    Has setting here (machine_deliver_items setting before number here)
 deliver_have setting before row number step = row_delivers (HasControlItemCause setting) setting before row
     number step tt tt (settling_have setting _)
     (λ s raises. installs_have setting s _ (raised_ends setting _ s number raises)) (λ s body said.
@@ -382,7 +382,7 @@ update_have setting file journal = grind (arith, submitted_have, may_submit)
 -- a switch that began a boot is up, and says hello of it
 says_hello : (setting : Setting) (s boot : ℕ) (journal : List Item)
     → let booted = journal ++ Item.Booted s boot ∷ [] in
-    Has setting booted (send_items booted (machine_hello_of booted s ∷ []))
+    Has setting booted (machine_send_items booted (machine_hello_of booted s ∷ []))
 says_hello setting s boot journal =
     let own : (s == s) ≡ true = eq-eqb s s refl in
     let booted : List Item = journal ++ Item.Booted s boot ∷ [] in
@@ -390,13 +390,13 @@ says_hello setting s boot journal =
     sends_have setting booted (machine_hello_of booted s ∷ []) (record { up = up; own = refl }, tt)
 
 restart_have : (setting : Setting) (s : ℕ) (journal : List Item)
-    → Has setting journal (restart_items s journal)
-unfolding restart_items
+    → Has setting journal (machine_restart_items s journal)
+unfolding machine_restart_items
 restart_have setting s journal = grind (arith, says_hello)
 
 confirm_have : (setting : Setting) (s : ℕ) (journal : List Item)
-    → Has setting journal (confirm_items setting s journal)
-unfolding confirm_items
+    → Has setting journal (machine_confirm_items setting s journal)
+unfolding machine_confirm_items
 confirm_have setting s journal = grind (arith, settling_have)
 
 step_have : (setting : Setting) (before : List Item) (row : ℕ) (step : Step)

@@ -2,7 +2,7 @@
 -- one switch change and are told of, or a switch begins a boot.
 use Rattle.std.proofs.Common.{[], ◌++◌, ◌+◌, ◌∙◌, ◌∷◌, ◌≡◌, ◌≤◌, ◌⊎◌, Bool, IsFalse, List, None, Option, Some, ap, append-nil, append_assoc, arith, false, inl, inr, length, map, max, min, refl, subst, sym, true, ℕ}
 use Rattle.base.proofs.Exports.{beq}
-use Rattle.update_machine.specs.Exports.{Body, Confirm, Crash, Deliver, Item, LinkDown, LinkUp, Message, NoneConcern, Packet, Place, Resend, Restart, Setting, Step, Update, journal_body_to_switch, journal_boot_of, concerns_links, controller_items, journal_crash_items, deliver_items, machine_delivery_items, machine_hello_of, is_deliverable, is_link_up_in_journal, is_up, journal_items_then, journal_link_changes, machine_link_items, journal_message_of, journal_next_packet, nothing, journal_packets_at, machine_advert_passed_on, piece, machine_received_items, machine_resend_items, restart_items, send_items, journal_stamp_of, machine_step_items, journal_switch_items, journal_version_count}
+use Rattle.update_machine.specs.Exports.{Body, Confirm, Crash, Deliver, Item, LinkDown, LinkUp, Message, NoMachineItemConcerns, Packet, Place, Resend, Restart, Setting, Step, Update, journal_body_to_switch, journal_boot_of, machine_item_concerns_links, machine_controller_items, journal_crash_items, machine_deliver_items, machine_delivery_items, machine_hello_of, is_deliverable, is_link_up_in_journal, is_up, journal_items_then, journal_link_changes, machine_link_items, journal_message_of, journal_next_packet, nothing, journal_packets_at, machine_advert_passed_on, piece, machine_received_items, machine_resend_items, machine_restart_items, machine_send_items, journal_stamp_of, machine_step_items, journal_switch_items, journal_version_count}
 use Rattle.net_file.specs.Exports.{IsNet}
 use Rattle.control_laws.proofs.ControlCommands.{confirm_control, controller_control, resends_any, update_has}
 use Rattle.control_laws.proofs.ControlStampingSwitches.{IsPlain, control_is_plain, control_plain, losts_have, packet_plain, plain_keeps_links, sends_silent, step_plain}
@@ -24,7 +24,7 @@ pub record IsBootPiece (before items : List Item) : Type 0 where
   pub hello : List Item
   pub next : boot ≡ journal_boot_of (before ++ Item.Row row step ∷ []) switch + 1
   pub told : sent hello ≡ 1
-  pub silent : NoneConcern concerns_links
+  pub silent : NoMachineItemConcerns machine_item_concerns_links
       ((before ++ Item.Row row step ∷ []) ++ Item.Booted switch boot ∷ []) hello
   pub written : items ≡ Item.Row row step ∷ Item.Booted switch boot ∷ hello
 
@@ -32,7 +32,7 @@ pub record IsBootPiece (before items : List Item) : Type 0 where
 
 -- links stay as they are, and few messages are sent
 pub record IsQuietPiece (setting : Setting) (before items : List Item) : Type 0 where
-  pub none : NoneConcern concerns_links before items
+  pub none : NoMachineItemConcerns machine_item_concerns_links before items
   pub few : IsNet setting.net → journal_version_count before ≤ 64 → sent items ≤ 5000
 
 -- links stay, or change at one switch, or a switch begins a boot
@@ -41,7 +41,7 @@ PieceKind setting before items = IsQuietPiece setting before items
     ⊎ (IsLinkPiece setting before items ⊎ IsBootPiece before items)
 
 behind_row : (setting : Setting) (before : List Item) (row : ℕ) (step : Step) (items : List Item)
-    → NoneConcern concerns_links (before ++ Item.Row row step ∷ []) items → (IsNet setting.net
+    → NoMachineItemConcerns machine_item_concerns_links (before ++ Item.Row row step ∷ []) items → (IsNet setting.net
     → journal_version_count (before ++ Item.Row row step ∷ []) ≤ 64 → sent items ≤ 5000) → PieceKind setting
     before (Item.Row row step ∷ items)
 behind_row setting before row step items none few = inl (record {
@@ -52,7 +52,7 @@ behind_row setting before row step items none few = inl (record {
 behind_delivered : (setting : Setting) (before : List Item) (row number : ℕ) (step : Step)
     (items : List Item)
     → let now = (before ++ Item.Row row step ∷ []) ++ Item.Delivered number ∷ [] in
-    NoneConcern concerns_links now items
+    NoMachineItemConcerns machine_item_concerns_links now items
     → (IsNet setting.net → journal_version_count now ≤ 64 → sent items ≤ 5000)
     → PieceKind setting before (Item.Row row step ∷ Item.Delivered number ∷ items)
 behind_delivered setting before row number step items none few =
@@ -75,7 +75,7 @@ nothing_caused setting before row number step =
     behind_delivered setting before row number step [] tt (λ net versions. omega arith)
 
 sends_few : (journal : List Item) (messages : List Message) (most : ℕ) → length messages ≤ most
-    → sent (send_items journal messages) ≤ most
+    → sent (machine_send_items journal messages) ≤ most
 sends_few journal messages most few = omega (arith, few, sends_count journal messages)
 
 link_kind : (setting : Setting) (before : List Item) (row : ℕ) (step : Step) (one two : ℕ)
@@ -117,7 +117,7 @@ crash_kind setting before row step s = by_up (is_up before s) where
   by_up false = nothing_happens setting before row step
   by_up true = inr (inl (link_piece setting before (Item.Row row step ∷ []) (Item.Down s)
       (map Item.Lost (journal_packets_at before s)) s refl (row_first before row step) (refl, tt)
-      (losts_have (λ now next. IsFalse (concerns_links now next)) (λ now i. refl)
+      (losts_have (λ now next. IsFalse (machine_item_concerns_links now next)) (λ now i. refl)
       (journal_packets_at before s) ((before ++ Item.Row row step ∷ []) ++ Item.Down s ∷ []))
       (sent_more (Item.Row row step) (Item.Down s ∷ map Item.Lost (journal_packets_at before s)) ∙ omega (
         arith,
@@ -130,13 +130,13 @@ crash_kind setting before row step s = by_up (is_up before s) where
 
 restart_kind : (setting : Setting) (before : List Item) (row : ℕ) (step : Step) (s : ℕ)
     → let here = before ++ Item.Row row step ∷ [] in
-    PieceKind setting before (Item.Row row step ∷ restart_items s here)
-unfolding restart_items
+    PieceKind setting before (Item.Row row step ∷ machine_restart_items s here)
+unfolding machine_restart_items
 restart_kind setting before row step s = by_up (is_up (before ++ Item.Row row step ∷ []) s) where
   by_up : (up : Bool) → PieceKind setting before (Item.Row row step ∷ elim up [
     | true ↦ nothing
     | false ↦ journal_items_then (Item.Booted s (journal_boot_of (before ++ Item.Row row step ∷ []) s + 1) ∷ [])
-        (λ booted. send_items booted (machine_hello_of booted s ∷ [])) (before ++ Item.Row row step ∷ [])
+        (λ booted. machine_send_items booted (machine_hello_of booted s ∷ [])) (before ++ Item.Row row step ∷ [])
   ])
   by_up true = nothing_happens setting before row step
   by_up false = inr (inr (record {
@@ -144,7 +144,7 @@ restart_kind setting before row step s = by_up (is_up (before ++ Item.Row row st
     step = step;
     switch = s;
     boot = journal_boot_of (before ++ Item.Row row step ∷ []) s + 1;
-    hello = send_items booted (machine_hello_of booted s ∷ []);
+    hello = machine_send_items booted (machine_hello_of booted s ∷ []);
     next = refl;
     told = sends_count booted (machine_hello_of booted s ∷ []);
     silent = sends_silent booted (machine_hello_of booted s ∷ []);
@@ -177,12 +177,12 @@ switch_kind setting before row number step s body = switch_cases (λ items. Piec
 
     sent_behind : (messages : List Message) → (IsNet setting.net → length messages ≤ 5000)
         → PieceKind setting before (Item.Row row step ∷ Item.Delivered number
-        ∷ send_items now messages)
+        ∷ machine_send_items now messages)
     sent_behind messages few = behind_delivered setting before row number step _
         (sends_silent now messages) (λ net versions. sends_few now messages 5000 (few net))
 
     answered : (message : Message) → PieceKind setting before (Item.Row row step
-        ∷ Item.Delivered number ∷ send_items now (message ∷ []))
+        ∷ Item.Delivered number ∷ machine_send_items now (message ∷ []))
     answered message = sent_behind (message ∷ []) (λ net. omega arith)
 
     opened : PieceKind setting before (Item.Row row step ∷ Item.Delivered number
@@ -217,22 +217,22 @@ received_kind setting before row number step message = by_receiver message.to wh
 
   by_receiver : (to : Place)
       → PieceKind setting before (Item.Row row step ∷ Item.Delivered number ∷ elim to [
-        | Place.Controller ↦ controller_items setting before message.body now
+        | Place.Controller ↦ machine_controller_items setting before message.body now
         | Place.Switch s ↦ elim (journal_body_to_switch before s number) [
           | None ↦ []
           | Some body ↦ journal_switch_items setting before s body now
         ]
       ])
   by_receiver Place.Controller = behind_delivered setting before row number step
-      (controller_items setting before message.body now) (plain_keeps_links now _
+      (machine_controller_items setting before message.body now) (plain_keeps_links now _
       (control_plain now _ (controller_control setting before message.body now)))
       (λ net versions. omega (arith, versions, controller_few setting net before message.body now))
   by_receiver (Place.Switch s) = by_said s (journal_body_to_switch before s number)
 
 deliver_kind : (setting : Setting) (before : List Item) (row number : ℕ) (step : Step)
     → let here = before ++ Item.Row row step ∷ [] in
-    PieceKind setting before (Item.Row row step ∷ deliver_items setting before number here)
-unfolding deliver_items machine_delivery_items
+    PieceKind setting before (Item.Row row step ∷ machine_deliver_items setting before number here)
+unfolding machine_deliver_items machine_delivery_items
 deliver_kind setting before row number step =
     by_test (is_deliverable before number) (journal_message_of before number)
   where
@@ -257,8 +257,8 @@ deliver_kind setting before row number step =
 -- ---- all steps
 
 resend_silent : (setting : Setting) (s : ℕ) (journal : List Item)
-    → NoneConcern concerns_links journal (machine_resend_items setting s journal)
-resend_silent setting s journal = resends_any (λ before next. IsFalse (concerns_links before next))
+    → NoMachineItemConcerns machine_item_concerns_links journal (machine_resend_items setting s journal)
+resend_silent setting s journal = resends_any (λ before next. IsFalse (machine_item_concerns_links before next))
     (λ before n message. refl) setting s journal refl
 
 step_kind : (setting : Setting) (before : List Item) (row : ℕ) (step : Step)

@@ -1,16 +1,16 @@
 -- Versions are few, each has its plan, and the tables of each are those of its plan.
 use Rattle.std.proofs.Common.{[], ◌&&◌, ◌++◌, ◌+◌, ◌-◌, ◌<◌, ◌==◌, ◌^◌, ◌||◌, ◌∷◌, ◌≡◌, ◌≤◌, Bool, IsTrue, List, None, Option, Some, append_assoc, arith, eqb-true, false, if◌then◌else◌, inl, inr, not, refl, subst, true, unwrap_or, ℕ, rules}
 use Rattle.net_file.specs.Exports.{IsNet}
-use Rattle.update_machine.specs.Exports.{Body, SettingHasPlan, HasRoom, JournalItemsHaveCauses, MachineJournalsHaveRoom, Install, Item, Setting, Step, StepOfRow, Tables, JournalVersionsAreNumbered, journal_adverts_known, journal_after_steps, journal_body_to_switch, journal_boot_of, is_collect_message_of_version, journal_crash_items, heard, journal_held_adverts, holds_version, installs_version, is_first_boot_in_journal, is_link_up_in_journal, is_up, journal_known_boot, journal_link_changes, machine_link_items, journal_message_of, most_live_journal_versions, most_journal_versions, near, journal_next_message, own_advert, journal_own_seq, piece, restart_items, journal_retired_mark, machine_sent_items_from, serves, journal_steps_in, machine_message_to_switch, journal_version_count}
+use Rattle.update_machine.specs.Exports.{Body, MachineVersionHasPlan, MachineJournalHasRoom, JournalItemsHaveCauses, MachineJournalsHaveRoom, Install, Item, Setting, Step, MachineStepOfRow, Tables, JournalVersionsAreNumbered, journal_adverts_known, journal_after_steps, journal_body_to_switch, journal_boot_of, message_collects_version, journal_crash_items, heard, journal_held_adverts, holds_version, machine_body_installs_version, is_first_boot_in_journal, is_link_up_in_journal, is_up, journal_known_boot, journal_link_changes, machine_link_items, journal_message_of, most_live_journal_versions, most_journal_versions, near, journal_next_message, own_advert, journal_own_seq, piece, machine_restart_items, journal_retired_mark, machine_sent_items_from, serves, journal_steps_in, machine_message_to_switch, journal_version_count}
 use Rattle.update_machine.proofs.Exports.{first_has_plan, has_plan_stays, have_append, next_has_plan, open_net, plan_stays, start_laws}
-use Rattle.control_laws.specs.Exports.{AreControlInstallTablesPlanned, AreControlTablesOf, BootsAreKnown, MessageBringsPlannedTables, HasControlItemCause, ControlNumbersAreFew, ControlNumbersFit, StepsSendAtMost, StepsSendFew, ControlTablesArePlanned, ControlVersionsArePlanned, control_messages_sent_count}
+use Rattle.control_laws.specs.Exports.{AreControlInstallTablesPlanned, AreControlTablesOf, ControlBootsArePast, ControlMessageBringsPlannedTables, HasControlItemCause, ControlNumbersAreFew, ControlNumbersFit, ControlStepsSendAtMost, ControlStepsSendFew, ControlTablesArePlanned, ControlVersionsArePlanned, control_messages_sent_count}
 use Rattle.control_laws.proofs.ControlFactsGrown.{AreKept, FromCauses, boot_more, count_more, from_causes, heard_more, known_rises, retired_more}
 use Rattle.control_laws.proofs.ControlPieceCauses.{pieces_have, said_parts}
 use Rattle.control_laws.proofs.ControlMessageCounts.{sent}
 use Rattle.control_laws.proofs.ControlAdvertNumbers.{FewNumbers, at_most_one, numbers_at_first, numbers_behind, sent_both}
 use Rattle.control_laws.proofs.ControlPieceKinds.{piece_few}
 use Rattle.control_laws.proofs.ControlLinkSends.{once}
-use Rattle.failover.specs.Exports.{first_adverts, is_news}
+use Rattle.failover.specs.Exports.{first_adverts, is_advert_news}
 use Rattle.base.specs.Exports.{has, small_number_mask, number_set_where, switches}
 use Rattle.control_laws.proofs.ControlNetLinks.{is_net, restart, restarted, solo}
 use Rattle.base.proofs.Exports.{All-from_recursion, AllByRecursion, cases_lt, list_any, list_any-append, option_map_or}
@@ -32,7 +32,7 @@ versions_few = from_causes _ versions_on (λ setting. omega (arith, start_laws.c
 extra : (none : Bool) → (if none then 2 else 1) ≡ 1 + once none
 extra none = search rules
 
-pub numbers_few : (setting : Setting) (steps : List StepOfRow) → IsNet setting.net
+pub numbers_few : (setting : Setting) (steps : List MachineStepOfRow) → IsNet setting.net
     → ControlNumbersAreFew setting (journal_after_steps setting [] steps)
 numbers_few setting steps net =
     let few = numbers_behind setting net [] steps tt (numbers_at_first setting) in record {
@@ -42,7 +42,7 @@ numbers_few setting steps net =
 
 -- ---- room
 
-room_is : (journal : List Item) → HasRoom journal → sent journal < 990_000
+room_is : (journal : List Item) → MachineJournalHasRoom journal → sent journal < 990_000
 unfolding journal_next_message
 room_is journal room = omega (arith, room)
 
@@ -51,7 +51,7 @@ unfolding journal_next_message
 next_is journal = refl
 
 sent_few : (setting : Setting) → IsNet setting.net → (before : List Item)
-    (steps : List StepOfRow) → JournalItemsHaveCauses (HasControlItemCause setting) [] before
+    (steps : List MachineStepOfRow) → JournalItemsHaveCauses (HasControlItemCause setting) [] before
     → sent before ≤ 1_000_000 → MachineJournalsHaveRoom setting before steps
     → sent (journal_after_steps setting before steps) ≤ 1_000_000
 sent_few setting net before [] have few room = few
@@ -66,7 +66,7 @@ sent_few setting net before (next ∷ steps) have few room =
       piece_few setting net before (versions_few setting before have) next.row next.step,
     )) room.1
 
-fit_while : (setting : Setting) (steps : List StepOfRow) → IsNet setting.net
+fit_while : (setting : Setting) (steps : List MachineStepOfRow) → IsNet setting.net
     → sent (journal_after_steps setting [] steps) ≤ 1_000_000
     → ControlNumbersFit setting (journal_after_steps setting [] steps)
 fit_while setting steps net small =
@@ -79,12 +79,12 @@ fit_while setting steps net small =
     }
 
 -- as a step begins
-pub fit_in_room : (setting : Setting) (steps : List StepOfRow) → IsNet setting.net
-    → HasRoom (journal_after_steps setting [] steps) → ControlNumbersFit setting (journal_after_steps setting [] steps)
+pub fit_in_room : (setting : Setting) (steps : List MachineStepOfRow) → IsNet setting.net
+    → MachineJournalHasRoom (journal_after_steps setting [] steps) → ControlNumbersFit setting (journal_after_steps setting [] steps)
 fit_in_room setting steps net room = fit_while setting steps net (omega (arith, room_is))
 
 -- as a step that began with room has ended
-pub fit_behind_room : (setting : Setting) (steps : List StepOfRow) → IsNet setting.net
+pub fit_behind_room : (setting : Setting) (steps : List MachineStepOfRow) → IsNet setting.net
     → MachineJournalsHaveRoom setting [] steps → ControlNumbersFit setting (journal_after_steps setting [] steps)
 fit_behind_room setting steps net room =
     fit_while setting steps net (sent_few setting net [] steps tt (omega arith) room)
@@ -98,12 +98,12 @@ failed = Item.Row 1 (Step.LinkDown 0 1) ∷ Item.LinkIs 0 1 false ∷ []
 
 four_sent : control_messages_sent_count (piece open_net failed 2 (Step.LinkUp 0 1)) ≡ 4
 unfolding piece machine_link_items journal_link_changes journal_held_adverts journal_adverts_known own_advert journal_own_seq near
-    is_link_up_in_journal serves is_up journal_boot_of heard journal_steps_in journal_next_message machine_sent_items_from first_adverts is_news has
+    is_link_up_in_journal serves is_up journal_boot_of heard journal_steps_in journal_next_message machine_sent_items_from first_adverts is_advert_news has
     number_set_where switches small_number_mask
 four_sent = refl
 
 -- so that step sends more than three
-not_three : StepsSendAtMost 3 open_net failed → ⊥
+not_three : ControlStepsSendAtMost 3 open_net failed → ⊥
 not_three few = absurd (omega (arith, few 2 (Step.LinkUp 0 1), four_sent))
 
 -- ---- the link failed without a message, so there may be one number more
@@ -124,17 +124,17 @@ last_boot fit = let limit : 2 ^ 32 - 1 < 2 ^ 32 - 1 = fit.boots 0 in omega arith
 
 -- ---- on a network of one switch, which crashed and restarted, all is small
 
-steps_send_few : StepsSendFew solo restarted
+steps_send_few : ControlStepsSendFew solo restarted
 unfolding journal_version_count
 steps_send_few row step = piece_few solo is_net restarted (omega arith) row step
 
 few_behind_them : ControlNumbersAreFew solo restarted
-unfolding piece journal_crash_items restart_items journal_link_changes near is_link_up_in_journal serves is_up journal_boot_of
+unfolding piece journal_crash_items machine_restart_items journal_link_changes near is_link_up_in_journal serves is_up journal_boot_of
     journal_next_message machine_sent_items_from small_number_mask number_set_where switches
 few_behind_them = numbers_few solo restart is_net
 
 fit_behind_them : ControlNumbersFit solo restarted
-unfolding piece journal_crash_items restart_items journal_link_changes near is_link_up_in_journal serves is_up journal_boot_of
+unfolding piece journal_crash_items machine_restart_items journal_link_changes near is_link_up_in_journal serves is_up journal_boot_of
     journal_next_message machine_sent_items_from small_number_mask number_set_where switches
 fit_behind_them = fit_behind_room solo restart is_net (omega arith, (omega arith, tt))
 
@@ -142,12 +142,12 @@ fit_behind_them = fit_behind_room solo restart is_net (omega arith, (omega arith
 
 abbrev pub HeardAreKnown : List Item → Type 0
 HeardAreKnown journal = (s version : ℕ) → IsTrue
-    (list_any (installs_version version) (heard journal s))
+    (list_any (machine_body_installs_version version) (heard journal s))
     → journal_boot_of journal s ≤ journal_known_boot journal s
 
 -- a body that is heard
-heard_now : (before : List Item) (s number v : ℕ) (body : Body) → BootsAreKnown before
-    → journal_body_to_switch before s number ≡ Some body → IsTrue (installs_version v body)
+heard_now : (before : List Item) (s number v : ℕ) (body : Body) → ControlBootsArePast before
+    → journal_body_to_switch before s number ≡ Some body → IsTrue (machine_body_installs_version v body)
     → journal_boot_of before s ≤ journal_known_boot before s
 heard_now before s number v (Install boot tables) boots said is =
     let parts = said_parts before s number (Install boot tables) said in
@@ -155,19 +155,19 @@ heard_now before s number v (Install boot tables) boots said is =
     omega (arith, eqb-true boot (journal_boot_of before s) parts.own, past)
 heard_now before s number v body boots said is = absurd cc
 
-pub heard_known : (before : List Item) (next : Item) → BootsAreKnown before
+pub heard_known : (before : List Item) (next : Item) → ControlBootsArePast before
     → HeardAreKnown before → HeardAreKnown (before ++ next ∷ [])
 heard_known before (Item.Down t) boots known s v is = rw (boot_more before (Item.Down t) s)
     (by_test (t == s) (rw (heard_more before (Item.Down t) s) at is))
   where
-    by_test : (b : Bool) → IsTrue (list_any (installs_version v) (if b then [] else heard before s))
+    by_test : (b : Bool) → IsTrue (list_any (machine_body_installs_version v) (if b then [] else heard before s))
         → journal_boot_of before s ≤ journal_known_boot (before ++ Item.Down t ∷ []) s
     by_test true none = absurd cc
     by_test false is = omega (arith, known s v is, known_rises before (Item.Down t) s)
 heard_known before (Item.Booted t boot) boots known s v is = rw (boot_more before _ s)
     (by_test (t == s) (rw (heard_more before (Item.Booted t boot) s) at is))
   where
-    by_test : (b : Bool) → IsTrue (list_any (installs_version v) (if b then [] else heard before s))
+    by_test : (b : Bool) → IsTrue (list_any (machine_body_installs_version v) (if b then [] else heard before s))
         → unwrap_or (if b then Some boot else None) (journal_boot_of before s)
         ≤ journal_known_boot (before ++ Item.Booted t boot ∷ []) s
     by_test true none = absurd cc
@@ -187,13 +187,13 @@ heard_known before (Item.Delivered number) boots known s v is = rw (boot_more be
     by_parts false false is one other = absurd cc
 
     by_said : (said : Option Body) → journal_body_to_switch before s number ≡ said
-        → IsTrue (list_any (installs_version v)
+        → IsTrue (list_any (machine_body_installs_version v)
         (option_map_or (λ body. heard before s ++ body ∷ []) said (heard before s)))
         → journal_boot_of before s ≤ journal_known_boot (before ++ Item.Delivered number ∷ []) s
     by_said None e is = omega (arith, known s v is, rises)
     by_said (Some body) e is =
-        let here : journal_boot_of before s ≤ journal_known_boot before s = by_parts _ (installs_version v body)
-        (rw (list_any-append (installs_version v) (heard before s) (body ∷ [])) at is) (known s v)
+        let here : journal_boot_of before s ≤ journal_known_boot before s = by_parts _ (machine_body_installs_version v body)
+        (rw (list_any-append (machine_body_installs_version v) (heard before s) (body ∷ [])) at is) (known s v)
         (heard_now before s number v body boots e) in
         omega (arith, here, rises)
 heard_known before next boots known s v is = rw (boot_more before next s)
@@ -218,15 +218,15 @@ few_at_first = search (rules, start_laws)
 -- each version that was submitted has a plan
 abbrev pub HavePlans : Setting → List Item → Type 0
 HavePlans setting journal = (version : ℕ) → 1 < version → version ≤ journal_version_count journal
-    → SettingHasPlan setting journal version
+    → MachineVersionHasPlan setting journal version
 
 plans_kept : (setting : Setting) (before : List Item) (next : Item)
     → HasControlItemCause setting before next → JournalVersionsAreNumbered before → HavePlans setting before
     → HavePlans setting (before ++ next ∷ [])
 plans_kept setting before (Item.Submitted file version) cause are plans v above below =
     let next : Item = Item.Submitted file version in
-    let newest : version ≡ v → SettingHasPlan setting (before ++ next ∷ []) v =
-    λ same. subst (SettingHasPlan setting (before ++ next ∷ [])) same (next_has_plan setting before file
+    let newest : version ≡ v → MachineVersionHasPlan setting (before ++ next ∷ []) v =
+    λ same. subst (MachineVersionHasPlan setting (before ++ next ∷ [])) same (next_has_plan setting before file
     version cause.rows are cause.next cause.policy cause.planned) in
     elim (cases_lt (journal_version_count before) v) [
       | inl new ↦ newest (omega (arith, new, count_more before next, below, cause.next))
@@ -243,7 +243,7 @@ tables_on : (setting : Setting) (before : List Item) (next : Item) (s : ℕ) (in
 tables_on setting before next s installed are = search (rules, count_rises, append_assoc)
 
 brings_on : (setting : Setting) (before : List Item) (next : Item) (s : ℕ) (body : Body)
-    → MessageBringsPlannedTables setting before s body → MessageBringsPlannedTables setting (before ++ next ∷ []) s body
+    → ControlMessageBringsPlannedTables setting before s body → ControlMessageBringsPlannedTables setting (before ++ next ∷ []) s body
 brings_on setting before next s (Install boot installed) brings = tables_on _ before next s _ brings
 brings_on setting before next s _ brings = tt
 
@@ -255,7 +255,7 @@ own_tables setting journal s installed are is = search (rules, plan_stays)
 
 sent_brings : (setting : Setting) (journal : List Item) (s number : ℕ)
     → JournalVersionsAreNumbered journal → IsPlannedSoFar setting journal → (body : Body)
-    → journal_message_of journal number ≡ Some (machine_message_to_switch s body) → MessageBringsPlannedTables setting journal s body
+    → journal_message_of journal number ≡ Some (machine_message_to_switch s body) → ControlMessageBringsPlannedTables setting journal s body
 sent_brings setting journal s number are so_far body sent = search (rules, own_tables)
 
 -- ---- together
@@ -264,14 +264,14 @@ pub record IsPlanned (setting : Setting) (journal : List Item) : Type 0 where
   pub few : AreFew journal
   pub plans : HavePlans setting journal
   pub so_far : IsPlannedSoFar setting journal
-  pub heard : (s : ℕ) → AllByRecursion (MessageBringsPlannedTables setting journal s) (heard journal s)
+  pub heard : (s : ℕ) → AllByRecursion (ControlMessageBringsPlannedTables setting journal s) (heard journal s)
 
 pub all_kept : (setting : Setting) → AreKept (HasControlItemCause setting) (IsPlanned setting)
 all_kept setting before next cause is = record {
   few = few_kept setting before next cause is.few;
   plans = plans_kept setting before next cause is.so_far.versions is.plans;
   so_far = planned_kept setting before next cause is.so_far;
-  heard = λ s. heard_on (MessageBringsPlannedTables setting before s) _ before next s
+  heard = λ s. heard_on (ControlMessageBringsPlannedTables setting before s) _ before next s
       (brings_on setting before next s) (λ number body sent. sent_brings setting before s number
       is.so_far.versions is.so_far body sent) (is.heard s);
 }
@@ -297,8 +297,8 @@ versions_planned setting journal have = let is = caused_planned setting journal 
 -- ---- what is held
 
 brought : (setting : Setting) (journal : List Item) (s version : ℕ) (bodies : List Body)
-    → AllByRecursion (MessageBringsPlannedTables setting journal s) bodies
-    → IsTrue (list_any (installs_version version) bodies)
+    → AllByRecursion (ControlMessageBringsPlannedTables setting journal s) bodies
+    → IsTrue (list_any (machine_body_installs_version version) bodies)
     → (1 ≤ version) × (version ≤ journal_version_count journal)
 brought setting journal s version [] all any = absurd cc
 brought setting journal s version (body ∷ bodies) all any =
@@ -308,8 +308,8 @@ held_there : (setting : Setting) (journal : List Item) (s version : ℕ) → IsP
     → IsTrue (holds_version journal s version) → (1 ≤ version) × (version ≤ journal_version_count journal)
 unfolding holds_version
 held_there setting journal s version is holds =
-    by_heard (list_any (installs_version version) (heard journal s)) refl
-    (left _ (not (list_any (is_collect_message_of_version version) (heard journal s))) holds)
+    by_heard (list_any (machine_body_installs_version version) (heard journal s)) refl
+    (left _ (not (list_any (message_collects_version version) (heard journal s))) holds)
   where
     left : (b c : Bool) → IsTrue (b && c) → IsTrue b
     left true c both = refl
@@ -319,7 +319,7 @@ held_there setting journal s version is holds =
     first own = let marks = is.so_far.marks in
         (omega (arith, own), omega (arith, own, marks.first, marks.there))
 
-    by_heard : (b : Bool) → list_any (installs_version version) (heard journal s) ≡ b
+    by_heard : (b : Bool) → list_any (machine_body_installs_version version) (heard journal s) ≡ b
         → IsTrue (b || (version == 1 && is_first_boot_in_journal journal s))
         → (1 ≤ version) × (version ≤ journal_version_count journal)
     by_heard true e has = brought setting journal s version (heard journal s) (is.heard s) e
@@ -329,6 +329,6 @@ pub tables_planned : FromCauses ControlTablesArePlanned
 tables_planned setting journal have = let is = caused_planned setting journal have in record {
   sent = λ s boot n installed sent. own_tables setting journal s installed is.so_far.versions
       (is.so_far.installs s boot n installed sent);
-  heard = λ s. All-from_recursion (MessageBringsPlannedTables setting journal s) (heard journal s) (is.heard s);
+  heard = λ s. All-from_recursion (ControlMessageBringsPlannedTables setting journal s) (heard journal s) (is.heard s);
   held = λ s version holds. held_there setting journal s version is holds;
 }

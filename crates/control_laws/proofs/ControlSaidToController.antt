@@ -1,9 +1,9 @@
 -- What was told to the controller, item by item.
 use Rattle.std.proofs.Common.{[], ◌++◌, ◌+◌, ◌<◌, ◌||◌, ◌∙◌, ◌∷◌, ◌≡◌, ◌≤◌, ◌⊎◌, Bool, IsTrue, List, None, Option, Some, ap, append-nil, append_assoc, arith, eqb-true, false, filter, filter_map, fold, if◌then◌else◌, inl, inr, map, max, min, nat_eq, option_and_then, option_to_list, refl, subst, suc, sym, true, unwrap_or, zero, ℕ}
-use Rattle.update_machine.specs.Exports.{Advert, Advertise, Body, JournalItemsHaveCauses, Install, Installed, Item, Message, NoneConcern, OpenAt, Setting, Stamp, Stamped, StepItems, acked_stamp, journal_advert_known, journal_adverts_heard, journal_body_to_controller, journal_boot_of, concerns_links, confirm_items, journal_controller_heard, deliver_items, machine_delivery_items, machine_hello_boot, machine_hello_of, in_turn, machine_installs_to_all, is_deliverable, is_journal_news_to, is_up, journal_items_then, journal_known_boot, machine_least_number, journal_link_changes, members, journal_message_of, near, nothing, open_version, journal_opened_at, own_advert, machine_advert_passed_on, restart_items, send_items, serves, settling, journal_stamp_of, machine_stamped_version_in, journal_steps_in, submitted_items, journal_switch_items, machine_update_code, machine_update_items, journal_version_count}
+use Rattle.update_machine.specs.Exports.{Advert, Advertise, Body, JournalItemsHaveCauses, Install, Installed, Item, Message, NoMachineItemConcerns, OpenAt, Setting, Stamp, Stamped, MachineStepItems, acked_stamp, journal_advert_known, journal_adverts_heard, journal_body_to_controller, journal_boot_of, machine_item_concerns_links, machine_confirm_items, journal_controller_heard, machine_deliver_items, machine_delivery_items, machine_hello_boot, machine_hello_of, machine_blocks_in_turn, machine_installs_to_all, is_deliverable, is_journal_news_to, is_up, journal_items_then, journal_known_boot, machine_least_number, journal_link_changes, members, journal_message_of, near, nothing, open_version, journal_opened_at, own_advert, machine_advert_passed_on, machine_restart_items, machine_send_items, serves, machine_settling, journal_stamp_of, machine_stamped_version_in, journal_steps_in, machine_submitted_items, journal_switch_items, machine_update_code, machine_update_items, journal_version_count}
 use Rattle.base.proofs.Exports.{⊤, AllByRecursion, cases_eq, filter_map-append, fold-append, list_any, range_with_len}
 use Rattle.base.specs.Exports.{has}
-use Rattle.ctrl_msg.specs.Exports.{to_controller}
+use Rattle.ctrl_msg.specs.Exports.{message_to_controller}
 use Rattle.control_laws.proofs.ControlFactsGrown.{said_sent, told_more}
 pub use Rattle.control_laws.proofs.ControlMessageSends.{each_weaker}
 
@@ -11,32 +11,32 @@ pub use Rattle.control_laws.proofs.ControlMessageSends.{each_weaker}
 
 -- two blocks in turn
 pub in_two : (a b : List Item → List Item) (journal : List Item)
-    → let one = journal ++ a journal in journal ++ in_turn (a ∷ b ∷ []) journal ≡ one ++ b one
+    → let one = journal ++ a journal in journal ++ machine_blocks_in_turn (a ∷ b ∷ []) journal ≡ one ++ b one
 in_two a b journal = let one : List Item = journal ++ a journal in
-    sym (append_assoc journal (a journal) (in_turn (b ∷ []) one))
+    sym (append_assoc journal (a journal) (machine_blocks_in_turn (b ∷ []) one))
     ∙ ap (λ items. one ++ items) (append-nil (b one))
 
 -- no mark rises, or it does and the members are told
 pub rise_cases : (F : List Item → Type 0) (setting : Setting) (journal : List Item) (next : Item)
     (message : ℕ → Message) (rises : Bool) → (rises ≡ false → F journal)
     → (let raised = journal ++ next ∷ [] in
-    F (raised ++ send_items raised (map message (members setting journal))))
+    F (raised ++ machine_send_items raised (map message (members setting journal))))
     → F (journal ++ elim rises [
       | false ↦ []
       | true ↦ journal_items_then
-          (next ∷ []) (λ raised. send_items raised (map message (members setting journal))) journal
+          (next ∷ []) (λ raised. machine_send_items raised (map message (members setting journal))) journal
     ])
 rise_cases F setting journal next message false none risen = rw (append-nil journal) (none refl)
 rise_cases F setting journal next message true none risen = subst F (append_assoc journal
-    (next ∷ []) (send_items (journal ++ next ∷ []) (map message (members setting journal)))) risen
+    (next ∷ []) (machine_send_items (journal ++ next ∷ []) (map message (members setting journal)))) risen
 
 -- nothing happens, or the message is delivered
 pub deliver_cases : (F : List Item → Type 0) (setting : Setting) (before : List Item) (number : ℕ)
     (here : List Item) → F (here ++ nothing) →
     (let now = here ++ Item.Delivered number ∷ [] in
     F (now ++ machine_delivery_items setting before number now)) →
-    F (here ++ deliver_items setting before number here)
-unfolding deliver_items
+    F (here ++ machine_deliver_items setting before number here)
+unfolding machine_deliver_items
 deliver_cases F setting before number here none delivered = by_test (is_deliverable before number)
   where
     next : Item
@@ -54,7 +54,7 @@ deliver_cases F setting before number here none delivered = by_test (is_delivera
 pub update_cases : (F : List Item → Type 0) (setting : Setting) (file : ℕ) (here : List Item)
     → ((code : ℕ) → F (here ++ Item.Refused file code ∷ [])) →
     (let now = here ++ Item.Submitted file (journal_version_count here + 1) ∷ [] in
-    let sent = now ++ machine_installs_to_all setting now in F (sent ++ settling setting sent)) →
+    let sent = now ++ machine_installs_to_all setting now in F (sent ++ machine_settling setting sent)) →
     F (here ++ machine_update_items setting file here)
 unfolding machine_update_items
 update_cases F setting file here refused submitted = by_code (machine_update_code setting here file) where
@@ -66,42 +66,42 @@ update_cases F setting file here refused submitted = by_code (machine_update_cod
 
   by_code : (o : Option ℕ) → F (here ++ elim o [
     | Some code ↦ Item.Refused file code ∷ []
-    | None ↦ journal_items_then (next ∷ []) (submitted_items setting) here
+    | None ↦ journal_items_then (next ∷ []) (machine_submitted_items setting) here
   ])
   by_code (Some code) = refused code
-  by_code None = subst F (append_assoc here (next ∷ []) (submitted_items setting now))
-      (subst F (sym (in_two (machine_installs_to_all setting) (settling setting) now)) submitted)
+  by_code None = subst F (append_assoc here (next ∷ []) (machine_submitted_items setting now))
+      (subst F (sym (in_two (machine_installs_to_all setting) (machine_settling setting) now)) submitted)
 
 -- nothing happens, or the marks settle
 pub confirm_cases : (F : List Item → Type 0) (setting : Setting) (s : ℕ) (here : List Item)
     → F (here ++ nothing) →
-    (let now = here ++ Item.OverNow s ∷ [] in F (now ++ settling setting now)) →
-    F (here ++ confirm_items setting s here)
-unfolding confirm_items
+    (let now = here ++ Item.OverNow s ∷ [] in F (now ++ machine_settling setting now)) →
+    F (here ++ machine_confirm_items setting s here)
+unfolding machine_confirm_items
 confirm_cases F setting s here none confirmed = by_up (is_up here s) where
   next : Item
   next = Item.OverNow s
 
   by_up : (b : Bool) → F (here ++ elim b [
     | true ↦ nothing
-    | false ↦ journal_items_then (next ∷ []) (settling setting) here
+    | false ↦ journal_items_then (next ∷ []) (machine_settling setting) here
   ])
   by_up true = none
   by_up false =
-      subst F (append_assoc here (next ∷ []) (settling setting (here ++ next ∷ []))) confirmed
+      subst F (append_assoc here (next ∷ []) (machine_settling setting (here ++ next ∷ []))) confirmed
 
 -- nothing happens, or the switch begins its next boot and says hello
 pub restart_cases : (F : List Item → Type 0) (s : ℕ) (here : List Item) → F (here ++ nothing)
     → (is_up here s ≡ false → let now = here ++ Item.Booted s (journal_boot_of here s + 1) ∷ [] in
-    F (now ++ send_items now (machine_hello_of now s ∷ []))) →
-    F (here ++ restart_items s here)
-unfolding restart_items
+    F (now ++ machine_send_items now (machine_hello_of now s ∷ []))) →
+    F (here ++ machine_restart_items s here)
+unfolding machine_restart_items
 restart_cases F s here none booted = by_up (is_up here s) refl where
   next : Item
   next = Item.Booted s (journal_boot_of here s + 1)
 
   hello : List Item → List Item
-  hello now = send_items now (machine_hello_of now s ∷ [])
+  hello now = machine_send_items now (machine_hello_of now s ∷ [])
 
   by_up : (b : Bool) → is_up here s ≡ b → F (here ++ elim b [
     | true ↦ nothing
@@ -141,11 +141,11 @@ IsToldIn setting before _ = ⊤
 
 -- the journal ends with the step that is being taken, which changed no links so far
 pub record ChangedNoLinks (before : List Item) : Type 0 where
-  pub newest : StepItems
-  pub earlier : List StepItems
+  pub newest : MachineStepItems
+  pub earlier : List MachineStepItems
   pub steps : journal_steps_in before ≡ newest ∷ earlier
   pub ends : newest.before ++ newest.items ≡ before
-  pub none : NoneConcern concerns_links newest.before newest.items
+  pub none : NoMachineItemConcerns machine_item_concerns_links newest.before newest.items
 
 -- ---- the table
 
@@ -172,11 +172,11 @@ opening_items setting before s now =
 -- what is true of each of these is true of what the switch writes
 pub switch_cases : (P : List Item → Type 0) (setting : Setting) (before : List Item) (s : ℕ)
     (body : Body) (now : List Item)
-    → ((boot version : ℕ) → P (send_items now (to_controller (Installed s boot version) ∷ [])))
-    → ((boot version : ℕ) → P (send_items now (to_controller (Stamped s boot version) ∷ [])))
+    → ((boot version : ℕ) → P (machine_send_items now (message_to_controller (Installed s boot version) ∷ [])))
+    → ((boot version : ℕ) → P (machine_send_items now (message_to_controller (Stamped s boot version) ∷ [])))
     → ((boot version : ℕ) → body ≡ OpenAt boot version → P (opening_items setting before s now))
     → ((advert : Advert) → body ≡ Advertise advert → IsTrue (is_journal_news_to setting before s advert)
-    → P (send_items now (machine_advert_passed_on setting now s advert)))
+    → P (machine_send_items now (machine_advert_passed_on setting now s advert)))
     → P [] → P (journal_switch_items setting before s body now)
 unfolding journal_switch_items
 switch_cases P setting before s (Install boot tables) now installed stamped opens passes none =
@@ -196,7 +196,7 @@ switch_cases P setting before s (Advertise advert) now installed stamped opens p
     by_news (is_journal_news_to setting before s advert) refl
   where
     by_news : (news : Bool) → is_journal_news_to setting before s advert ≡ news → P (elim news [
-      | true ↦ send_items now (machine_advert_passed_on setting now s advert)
+      | true ↦ machine_send_items now (machine_advert_passed_on setting now s advert)
       | false ↦ []
     ])
     by_news true is = passes advert refl is
@@ -237,11 +237,11 @@ pub told_sent : {X : Type 0} (reads : Body → Option X) (writes : X → Body) �
     ((body : Body) (x : X) → reads body ≡ Some x → body ≡ writes x) →
     (before : List Item) (number : ℕ) (x : X)
     → option_and_then reads (journal_body_to_controller before number) ≡ Some x
-    → journal_message_of before number ≡ Some (to_controller (writes x))
+    → journal_message_of before number ≡ Some (message_to_controller (writes x))
 told_sent reads writes is before number x told = by_said (journal_body_to_controller before number) refl
   where
     by_said : (said : Option Body) → journal_body_to_controller before number ≡ said
-        → journal_message_of before number ≡ Some (to_controller (writes x))
+        → journal_message_of before number ≡ Some (message_to_controller (writes x))
     by_said None e = let none : None ≡ Some x = rw e at told in absurd cc
     by_said (Some body) e = cc (said_sent before number body e, is body x (rw e at told))
 

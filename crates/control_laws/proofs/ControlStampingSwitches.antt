@@ -2,12 +2,12 @@
 -- it is known to stamp with.
 use Rattle.base.proofs.Exports.{⊤, AllByRecursion, list_any, nat_tests, same_Some}
 use Rattle.std.proofs.Common.{[], ◌++◌, ◌==◌, ◌||◌, ◌∙◌, ◌∷◌, ◌≡◌, ◌≤◌, Bool, IsFalse, IsTrue, List, None, Option, Some, ap, append-nil, append_assoc, arith, eqb-true, false, if◌then◌else◌, inl, inr, is_some, map, nat_eq, refl, subst, sym, take, true, ℕ}
-use Rattle.update_machine.specs.Exports.{Advertise, Body, JournalItemsHaveCauses, Header, Item, Message, NoneConcern, Setting, Step, StepOfRow, acked_stamp, journal_after_steps, journal_boot_of, concerns_links, journal_controller_heard, journal_crash_items, has_acked, heard, machine_installed_version, installs_version, is_advert, is_up, journal_items_then, journal_known_boot, journal_link_changes, nothing, journal_opened_at, machine_packet_items, journal_packets_at, send_items, serves, journal_stamp_of, machine_stamped_version_in, machine_step_items}
+use Rattle.update_machine.specs.Exports.{Advertise, Body, JournalItemsHaveCauses, Header, Item, Message, NoMachineItemConcerns, Setting, Step, MachineStepOfRow, acked_stamp, journal_after_steps, journal_boot_of, machine_item_concerns_links, journal_controller_heard, journal_crash_items, has_acked, heard, machine_installed_version, machine_body_installs_version, is_machine_advert_body, is_up, journal_items_then, journal_known_boot, journal_link_changes, nothing, journal_opened_at, machine_packet_items, journal_packets_at, machine_send_items, serves, journal_stamp_of, machine_stamped_version_in, machine_step_items}
 use Rattle.control_laws.proofs.ControlCommands.{Control, IsCommand, IsControl, sends_any}
 use Rattle.control_laws.proofs.ControlFactsGrown.{AreKept, FromCauses, from_causes, have_weaker, known_more, opened_in, opened_is, serving_more, steps_have}
 use Rattle.control_laws.proofs.ControlTrafficItems.{IsChange, IsTraffic, IsWork, IsWorkStep, Work, change_traffic, links_change, packet_works, rule_cases, step_work}
 use Rattle.update_machine.proofs.Exports.{PiecesHave, have_put, have_take, start_laws}
-use Rattle.control_laws.specs.Exports.{AcksHold, HasControlItemCause, HasHeardTables, ControlLawHoldsAtEnds, ControlLawHoldsBehindItems}
+use Rattle.control_laws.specs.Exports.{ControlAcksHold, HasControlItemCause, ControlSwitchHeardTables, ControlLawHoldsAtEnds, ControlLawHoldsBehindItems}
 use Rattle.control_laws.proofs.ControlSwitchOpenings.{IsKnown, IsServing, delivery_known, known_at_first, known_kept, opened_on, opening_known}
 use Rattle.control_laws.proofs.ControlAckKinds.{AreTrue, of_stamps, of_tables, stamp_kept, true_at_first, true_on, turns}
 use Rattle.control_laws.proofs.ControlSaidToController.{acked_stamp_within, each_at, open_within, told_by}
@@ -16,7 +16,7 @@ use Rattle.control_laws.proofs.ControlSaidToController.{acked_stamp_within, each
 
 -- the item changes no links, and sends no advert
 abbrev pub IsPlain : List Item → Item → Type 0
-IsPlain before (Item.Sent number message) = IsFalse (is_advert message.body)
+IsPlain before (Item.Sent number message) = IsFalse (is_machine_advert_body message.body)
 IsPlain before (Item.Down s) = ⊥
 IsPlain before (Item.Booted s boot) = ⊥
 IsPlain before (Item.Opened s version) = ⊥
@@ -27,7 +27,7 @@ abbrev pub ArePlain : List Item → List Item → Type 0
 ArePlain journal items = JournalItemsHaveCauses IsPlain journal items
 
 no_link_change : (before : List Item) (next : Item) → IsPlain before next
-    → IsFalse (concerns_links before next)
+    → IsFalse (machine_item_concerns_links before next)
 no_link_change before (Item.Down s) plain = absurd plain
 no_link_change before (Item.Booted s boot) plain = absurd plain
 no_link_change before (Item.Opened s version) plain = absurd plain
@@ -35,24 +35,24 @@ no_link_change before (Item.LinkIs one two up) plain = absurd plain
 no_link_change before _ plain = refl
 
 pub plain_keeps_links : (before items : List Item) → ArePlain before items
-    → NoneConcern concerns_links before items
+    → NoMachineItemConcerns machine_item_concerns_links before items
 plain_keeps_links before items plain = have_weaker IsPlain
-    (λ journal next. IsFalse (concerns_links journal next)) no_link_change before items plain
+    (λ journal next. IsFalse (machine_item_concerns_links journal next)) no_link_change before items plain
 
 -- ---- messages
 
 -- what is sent changes no links
 pub sends_silent : (journal : List Item) (messages : List Message)
-    → NoneConcern concerns_links journal (send_items journal messages)
+    → NoMachineItemConcerns machine_item_concerns_links journal (machine_send_items journal messages)
 sends_silent =
-    sends_any (λ before next. IsFalse (concerns_links before next)) (λ before n message. refl)
+    sends_any (λ before next. IsFalse (machine_item_concerns_links before next)) (λ before n message. refl)
 
 -- ---- packets, and messages and cache rules that end
 
 work_plain : (setting : Setting) (before : List Item) (next : Item) → IsWork setting before next
     → IsPlain before next
 work_plain setting before (Item.Sent number message) is =
-    rule_cases before (λ to body. IsFalse (is_advert body))
+    rule_cases before (λ to body. IsFalse (is_machine_advert_body body))
     (λ s version word rule action there ingress. refl) message.to message.body is
 work_plain setting before (Item.Down s) is = is
 work_plain setting before (Item.Booted s boot) is = is
@@ -77,7 +77,7 @@ step_plain setting before step here is =
 
 -- ---- the controller
 
-command_plain : (body : Body) → IsCommand body → IsFalse (is_advert body)
+command_plain : (body : Body) → IsCommand body → IsFalse (is_machine_advert_body body)
 command_plain (Advertise advert) is = absurd is
 command_plain _ is = refl
 
@@ -96,7 +96,7 @@ control_plain = have_weaker IsControl IsPlain control_is_plain
 
 -- what is true after any steps is true in answers to schedules
 pub at_ends : (Holds : Setting → List Item → Type 0)
-    → ((setting : Setting) (steps : List StepOfRow) → Holds setting (journal_after_steps setting [] steps))
+    → ((setting : Setting) (steps : List MachineStepOfRow) → Holds setting (journal_after_steps setting [] steps))
     → ControlLawHoldsAtEnds Holds
 at_ends Holds stepped = record {
   stepped = stepped;
@@ -118,11 +118,11 @@ behind_items Holds cause pieces caused = record {
       (sym (begins.written ∙ ap (take begins.length) begins.answers.written))
       (some_items setting begins.answers.steps begins.length);
 } where
-  all_have : (setting : Setting) (steps : List StepOfRow)
+  all_have : (setting : Setting) (steps : List MachineStepOfRow)
       → JournalItemsHaveCauses (cause setting) [] (journal_after_steps setting [] steps)
   all_have setting steps = steps_have (cause setting) setting (pieces setting) [] steps tt
 
-  some_items : (setting : Setting) (steps : List StepOfRow) (n : ℕ)
+  some_items : (setting : Setting) (steps : List MachineStepOfRow) (n : ℕ)
       → Holds setting (take n (journal_after_steps setting [] steps))
   some_items setting steps n = caused setting (take n (journal_after_steps setting [] steps))
       (have_take (cause setting) [] (journal_after_steps setting [] steps) n (all_have setting steps))
@@ -210,36 +210,36 @@ caused_told = from_causes (λ setting. IsTold) told_kept (λ setting. told_at_fi
 -- what it is known to have acknowledged, it has
 acked_is : (journal : List Item) (s version : ℕ) → AreTrue of_tables journal
     → IsTrue (is_up journal s) → journal_known_boot journal s ≡ journal_boot_of journal s
-    → IsTrue (has_acked journal s version) → HasHeardTables journal s version
+    → IsTrue (has_acked journal s version) → ControlSwitchHeardTables journal s version
 unfolding has_acked
 acked_is journal s version tables up known acked = by_first (journal_known_boot journal s == 1) refl acked
   where
     later : IsTrue (list_any (nat_eq version)
-        (told_by (machine_installed_version s (journal_known_boot journal s)) journal)) → HasHeardTables journal s version
-    later any = inr (each_at (λ v. IsTrue (list_any (installs_version v) (heard journal s))) version
+        (told_by (machine_installed_version s (journal_known_boot journal s)) journal)) → ControlSwitchHeardTables journal s version
+    later any = inr (each_at (λ v. IsTrue (list_any (machine_body_installs_version v) (heard journal s))) version
         (told_by (machine_installed_version s (journal_boot_of journal s)) journal) (tables.told s up) (rw known at any))
 
     by_version : (b : Bool) → nat_eq version 1 ≡ b → journal_boot_of journal s ≡ 1 → IsTrue
         (b || list_any (nat_eq version) (told_by (machine_installed_version s (journal_known_boot journal s)) journal))
-        → HasHeardTables journal s version
+        → ControlSwitchHeardTables journal s version
     by_version true e first any = inl (eqb-true version 1 e, first)
     by_version false e first any = later any
 
     by_first : (b : Bool) → (journal_known_boot journal s == 1) ≡ b → IsTrue (list_any (nat_eq version)
         ((if b then 1 ∷ [] else []) ++ told_by (machine_installed_version s (journal_known_boot journal s)) journal))
-        → HasHeardTables journal s version
+        → ControlSwitchHeardTables journal s version
     by_first true e any = by_version (nat_eq version 1) refl
         (sym known ∙ eqb-true (journal_known_boot journal s) 1 e) any
     by_first false e any = later any
 
-pub acks_hold : (journal : List Item) → IsTold journal → (s : ℕ) → AcksHold journal s
+pub acks_hold : (journal : List Item) → IsTold journal → (s : ℕ) → ControlAcksHold journal s
 acks_hold journal told s = record {
   installed = λ boot version n is up own. told.tables.sent s boot version n is up own;
   stamped = λ boot version n is up own. told.stamps.sent s boot version n is up own;
   acked = λ version up known acked. acked_is journal s version told.tables up known acked;
 }
 
-pub acks_held : FromCauses (λ setting journal. (s : ℕ) → AcksHold journal s)
+pub acks_held : FromCauses (λ setting journal. (s : ℕ) → ControlAcksHold journal s)
 acks_held setting journal have = acks_hold journal (caused_told setting journal have)
 
 -- ---- stamping switches

@@ -1,9 +1,9 @@
 -- Items that have their causes keep what is known of openings and of switches that serve.
 use Rattle.std.proofs.Common.{[], ◌++◌, ◌+◌, ◌-◌, ◌==◌, ◌∙◌, ◌∷◌, ◌≡◌, ◌≤◌, Bool, IsFalse, IsTrue, List, None, Option, Some, arith, eq-eqb, false, if◌then◌else◌, inl, inr, is_some, nat_lt, refl, ℕ, rules}
 use Rattle.base.proofs.Exports.{AllByRecursion, each_append, nat_tests, option_map_or, range_with_len}
-use Rattle.update_machine.specs.Exports.{JournalItemsHaveCauses, Item, Message, OpenAt, Setting, journal_boot_of, machine_collect_for, journal_controller_heard, journal_current_mark, machine_first_open, is_member, is_over, is_up, journal_known_boot, journal_message_of, journal_open_for, machine_open_sent, open_version, journal_opened_at, machine_resend_items, journal_resent_by_controller, journal_resent_by_switch, journal_resent_to_member, journal_retired_mark, send_items, serves, journal_stamp_for, machine_message_to_switch, journal_unacked_installs, journal_version_count, journal_versions_from_current}
+use Rattle.update_machine.specs.Exports.{JournalItemsHaveCauses, Item, Message, OpenAt, Setting, journal_boot_of, machine_collect_for, journal_controller_heard, journal_current_mark, machine_first_open, is_member, is_over, is_up, journal_known_boot, journal_message_of, journal_open_for, machine_open_sent, open_version, journal_opened_at, machine_resend_items, journal_resent_by_controller, journal_resent_by_switch, journal_resent_to_member, journal_retired_mark, machine_send_items, serves, journal_stamp_for, machine_message_to_switch, journal_unacked_installs, journal_version_count, journal_versions_from_current}
 use Rattle.update_machine.proofs.Exports.{start_laws}
-use Rattle.control_laws.specs.Exports.{BootsAreKnown, HasControlItemCause, IsRightControlOpening, OpeningMessagesNameOneVersion, ServingIsKnown}
+use Rattle.control_laws.specs.Exports.{ControlBootsArePast, HasControlItemCause, IsRightControlOpening, ControlOpeningMessagesNameOneVersion, ControlServingIsKnown}
 use Rattle.control_laws.proofs.ControlFactsGrown.{AreKept, FromCauses, boot_more, boots_on, by_number, from_causes, known_more, opened_at_more, opened_in, opened_is, opened_more, over_more, raised, serving_more, told_past, up_more}
 
 -- ---- what is sent again, by its parts: what the messages of each part have, its messages have
@@ -32,7 +32,7 @@ each_by_controller P setting journal s to_member to_other = search rules
 pub resent_has : (cause : List Item → Item → Type 0) (P : Message → Type 0) (setting : Setting)
     (s : ℕ) (journal : List Item) → cause journal Item.Nothing
     → ((messages : List Message) → AllByRecursion P messages
-    → JournalItemsHaveCauses cause journal (send_items journal messages))
+    → JournalItemsHaveCauses cause journal (machine_send_items journal messages))
     → AllByRecursion P (journal_resent_by_switch setting journal s)
     → AllByRecursion P (journal_resent_by_controller setting journal s)
     → JournalItemsHaveCauses cause journal (machine_resend_items setting s journal)
@@ -89,7 +89,7 @@ openings_at_first s boot version n is =
     let none : None ≡ Some (machine_message_to_switch s (OpenAt boot version)) =
     rw (start_laws.message n).message at is in absurd cc
 
-pub one_opening : (journal : List Item) → OpeningsStand journal → OpeningMessagesNameOneVersion journal
+pub one_opening : (journal : List Item) → OpeningsStand journal → ControlOpeningMessagesNameOneVersion journal
 one_opening journal stand s boot one other m n first second =
     let a : opened_in journal s boot ≡ Some one = stand s boot one m first in
     let b : opened_in journal s boot ≡ Some other = stand s boot other n second in cc
@@ -110,7 +110,7 @@ up_on : (setting : Setting) (before : List Item) (next : Item) (s : ℕ)
 up_on setting before next s cause up serving = search (rules, nat_tests, serving_more, up_more)
 
 -- a switch opens in its known boot, by a message of that boot
-pub opening_known : (before : List Item) (s number version : ℕ) → BootsAreKnown before
+pub opening_known : (before : List Item) (s number version : ℕ) → ControlBootsArePast before
     → journal_message_of before number ≡ Some (machine_message_to_switch s (OpenAt (journal_boot_of before s) version))
     → journal_known_boot before s ≡ journal_boot_of before s
 opening_known before s number version boots sent =
@@ -123,13 +123,13 @@ not_raised : (boot : ℕ) (hello : Option ℕ) (own : ℕ) → boot ≡ own
 not_raised boot hello own same past = search rules
 
 -- where the known boot of a switch is its own, a delivery leaves it so
-pub delivery_known : (before : List Item) (s number : ℕ) → BootsAreKnown before
+pub delivery_known : (before : List Item) (s number : ℕ) → ControlBootsArePast before
     → journal_known_boot before s ≡ journal_boot_of before s
     → journal_known_boot (before ++ Item.Delivered number ∷ []) s ≡ journal_known_boot before s
 delivery_known before s number boots same = search (rules, known_more, not_raised, told_past)
 
 known_on : (setting : Setting) (before : List Item) (next : Item) (s : ℕ)
-    → HasControlItemCause setting before next → BootsAreKnown before → IsServing before s
+    → HasControlItemCause setting before next → ControlBootsArePast before → IsServing before s
     → IsTrue (serves (before ++ next ∷ []) s)
     → journal_known_boot (before ++ next ∷ []) s ≡ journal_boot_of (before ++ next ∷ []) s
 known_on setting before next s cause boots kept serving =
@@ -148,14 +148,14 @@ pub member_on : (before : List Item) (next : Item) (s : ℕ) → journal_known_b
 member_on before next s known over member = let parts = member_parts before s member in
     member_of (before ++ next ∷ []) s (over ∙ parts.0) (still_opened before next s known parts.1)
 
-opened_here : (before : List Item) (s number version : ℕ) → BootsAreKnown before
+opened_here : (before : List Item) (s number version : ℕ) → ControlBootsArePast before
     → OpeningsStand before
     → journal_message_of before number ≡ Some (machine_message_to_switch s (OpenAt (journal_boot_of before s) version))
     → IsTrue (is_some (journal_opened_at before s))
 opened_here before s number version boots stand sent = search (rules, opened_is, opening_known)
 
 opened_serving : (setting : Setting) (before : List Item) (next : Item) (s : ℕ)
-    → HasControlItemCause setting before next → BootsAreKnown before → OpeningsStand before
+    → HasControlItemCause setting before next → ControlBootsArePast before → OpeningsStand before
     → IsServing before s → IsTrue (serves (before ++ next ∷ []) s)
     → IsTrue (is_some (journal_opened_at (before ++ next ∷ []) s))
 opened_serving setting before next s cause boots stand kept serving =
@@ -168,7 +168,7 @@ by_raise : (boot : ℕ) (hello : Option ℕ) (over : Bool) → (raised boot hell
 by_raise boot hello over none = search (rules, nat_tests)
 
 not_over_on : (setting : Setting) (before : List Item) (next : Item) (s : ℕ)
-    → HasControlItemCause setting before next → BootsAreKnown before → IsServing before s
+    → HasControlItemCause setting before next → ControlBootsArePast before → IsServing before s
     → IsTrue (is_up (before ++ next ∷ []) s)
     → journal_known_boot (before ++ next ∷ []) s ≡ journal_boot_of (before ++ next ∷ []) s
     → IsFalse (is_over (before ++ next ∷ []) s)
@@ -179,7 +179,7 @@ not_over_on setting before next s cause boots kept up same =
 
 -- what is known of boots, openings and switches that serve
 pub record IsKnown (journal : List Item) : Type 0 where
-  pub boots : BootsAreKnown journal
+  pub boots : ControlBootsArePast journal
   pub openings : OpeningsStand journal
   pub serving : (s : ℕ) → IsServing journal s
 
@@ -205,7 +205,7 @@ known_at_first = search (rules, start_laws, first_opened)
 pub caused_known : FromCauses (λ setting. IsKnown)
 caused_known = from_causes (λ setting. IsKnown) known_kept (λ setting. known_at_first)
 
-pub serving_known : (journal : List Item) → IsKnown journal → ServingIsKnown journal
+pub serving_known : (journal : List Item) → IsKnown journal → ControlServingIsKnown journal
 serving_known journal known = record {
   up = λ s. (known.serving s).up;
   known = λ s. (known.serving s).known;

@@ -2,11 +2,11 @@
 -- deliver nothing and move no mark, whatever journal they follow.
 use Rattle.std.proofs.Common.{[], ◌++◌, ◌<◌, ◌∷◌, ◌≡◌, Bool, IfSome, IsFalse, IsTrue, List, None, Option, Some, arith, false, filter, flat_map, length, map, option_map, refl, slice_get, true, unwrap_or, ℕ}
 use Rattle.base.proofs.Exports.{AllByRecursion, each_append, each_flat_map, each_map, ⊤}
-use Rattle.update_machine.specs.Exports.{Action, Advert, Advertise, AuthorityRule, Body, CacheRule, Exit, Expire, Forget, Found, JournalItemsHaveCauses, Header, Hop, How, Item, Leg, LinkDown, LinkUp, Lose, Message, Place, Rule, Seek, Setting, Step, machine_advert_to, journal_leg_arrival_items, machine_arrive_items, machine_authority_items, journal_authority_rule, journal_cache_items, cache_rule, machine_end_items, machine_expire_items, first_place, machine_forget_items, journal_found_down, found_items, go_on, journal_usable_links_changed, journal_packet_header_at, journal_held_adverts, holds_version, machine_hop_items, in_turn, journal_ingress_of, is_at, is_deliverable, is_version, journal_items_then, machine_leg_items, journal_leg_of, journal_link_changes, machine_link_items, lookup_at, machine_lookup_items, lose_items, machine_messages_of, machine_messages_over_link, machine_move_items, near, nothing, own_advert, machine_packet_items, machine_advert_passed_on, journal_plan_at, journal_reroute_by, machine_reroute_items, journal_packet_route, journal_route_from, send_items, machine_sent_items_from, serves, journal_stamp_of, machine_step_items, machine_stuck_on_leg_item, setting_switches_in, setting_switches_of, machine_takes_route, journal_leg_targets}
+use Rattle.update_machine.specs.Exports.{Action, Advert, Advertise, MachineAuthorityRule, Body, CacheRule, Exit, Expire, Forget, Found, JournalItemsHaveCauses, Header, Hop, How, Item, Leg, LinkDown, LinkUp, Lose, Message, Place, Rule, Seek, Setting, Step, machine_advert_to, journal_leg_arrival_items, machine_arrive_items, machine_authority_items, journal_authority_rule, journal_cache_items, machine_cache_rule, machine_end_items, machine_expire_items, machine_first_rule_place, machine_forget_items, journal_found_down, machine_found_items, machine_onward_items, journal_usable_links_changed, journal_packet_header_at, journal_held_adverts, holds_version, machine_hop_items, machine_blocks_in_turn, journal_ingress_of, is_at_machine_switch, is_deliverable, is_journal_version, journal_items_then, machine_leg_items, journal_leg_of, journal_link_changes, machine_link_items, machine_lookup_at, machine_lookup_items, machine_lose_items, machine_messages_of, machine_messages_over_link, machine_move_items, near, nothing, own_advert, machine_packet_items, machine_advert_passed_on, journal_plan_at, journal_reroute_by, machine_reroute_items, journal_packet_route, journal_route_from, machine_send_items, machine_sent_items_from, serves, journal_stamp_of, machine_step_items, machine_stuck_on_leg_item, machine_switches_in, machine_switches_of, machine_takes_route, journal_leg_targets}
 use Rattle.base.specs.Exports.{has}
 use Rattle.update_machine.proofs.Exports.{have_first, have_in_turn, have_put, part_there, version_kept}
-use Rattle.partition.specs.Plan.{Hosted}
-use Rattle.switch_table.specs.Exports.{part_of}
+use Rattle.partition.specs.Plan.{HostedPolicyPartition}
+use Rattle.switch_table.specs.Exports.{switch_table_part_of}
 use Rattle.control_laws.specs.Exports.{HasControlItemCause, IsRightControlMessage}
 use Rattle.control_laws.proofs.ControlFactsGrown.{Has, have_weaker}
 use Rattle.control_laws.proofs.ControlMessageSends.{each_of_network}
@@ -20,12 +20,12 @@ pub record IsIngress (before : List Item) (s : ℕ) : Type 0 where
 -- a cache rule of a version that is there goes to an ingress
 abbrev pub IsRuleTo : List Item → Place → Body → Type 0
 IsRuleTo before (Place.Switch s) (CacheRule version word rule action) =
-    IsTrue (is_version before version) × IsIngress before s
+    IsTrue (is_journal_version before version) × IsIngress before s
 IsRuleTo before to body = ⊥
 
 -- what such rules have
 pub rule_cases : (before : List Item) (P : Place → Body → Type 0)
-    → ((s version : ℕ) (word : _) (rule : Option ℕ) (action : Action) → IsTrue (is_version before
+    → ((s version : ℕ) (word : _) (rule : Option ℕ) (action : Action) → IsTrue (is_journal_version before
     version) → IsIngress before s → P (Place.Switch s) (CacheRule version word rule action))
     → (to : Place) (body : Body) → IsRuleTo before to body → P to body
 rule_cases before P rules (Place.Switch s) (CacheRule version word rule action) is =
@@ -77,7 +77,7 @@ Traffic setting journal items = JournalItemsHaveCauses (IsTraffic setting) journ
 
 -- what rules have and adverts
 pub between_cases : (setting : Setting) (before : List Item) (P : Place → Body → Type 0)
-    → ((s version : ℕ) (word : _) (rule : Option ℕ) (action : Action) → IsTrue (is_version before
+    → ((s version : ℕ) (word : _) (rule : Option ℕ) (action : Action) → IsTrue (is_journal_version before
     version) → IsIngress before s → P (Place.Switch s) (CacheRule version word rule action))
     → ((s : ℕ) (advert : Advert) → s < length setting.net.switches
     → P (Place.Switch s) (Advertise advert))
@@ -140,26 +140,26 @@ end_work setting i s Action.Drop journal = (tt, tt)
 end_work setting i s (Action.Out port) journal = grind (arith, leg_work)
 
 -- a rule is of a version that is there
-abbrev IsOfVersion : List Item → Option AuthorityRule → Type 0
-IsOfVersion journal rule = IfSome rule (λ found. IsTrue (is_version journal found.version))
+abbrev IsOfVersion : List Item → Option MachineAuthorityRule → Type 0
+IsOfVersion journal rule = IfSome rule (λ found. IsTrue (is_journal_version journal found.version))
 
 rule_there : (setting : Setting) (journal : List Item) (version partition place : ℕ)
     → IsOfVersion journal (journal_authority_rule setting journal version partition place)
 rule_there setting journal version partition place =
     by_part (slice_get (journal_plan_at setting journal version) partition) refl
   where
-    by_rule : (hosted : Hosted) (o : Option Rule) → IsTrue (is_version journal version)
+    by_rule : (hosted : HostedPolicyPartition) (o : Option Rule) → IsTrue (is_journal_version journal version)
         → IsOfVersion journal (option_map
-        (λ rule. record { version = version; part = part_of hosted; place = place; rule = rule }) o)
+        (λ rule. record { version = version; part = switch_table_part_of hosted; place = place; rule = rule }) o)
     by_rule hosted None there = tt
     by_rule hosted (Some rule) there = there
 
-    by_part : (o : Option Hosted) → slice_get (journal_plan_at setting journal version) partition ≡ o
+    by_part : (o : Option HostedPolicyPartition) → slice_get (journal_plan_at setting journal version) partition ≡ o
         → IsOfVersion journal (elim o [
           | None ↦ None
           | Some hosted ↦ option_map (λ rule. record {
             version = version;
-            part = part_of hosted;
+            part = switch_table_part_of hosted;
             place = place;
             rule = rule;
           }) (slice_get hosted.0.rules place)
@@ -168,20 +168,20 @@ rule_there setting journal version partition place =
     by_part (Some hosted) e = by_rule hosted (slice_get hosted.0.rules place)
         (part_there setting journal version partition hosted e)
 
-cache_work : (setting : Setting) (i s : ℕ) (rule : AuthorityRule) (journal : List Item)
-    → IsTrue (is_version journal rule.version)
+cache_work : (setting : Setting) (i s : ℕ) (rule : MachineAuthorityRule) (journal : List Item)
+    → IsTrue (is_journal_version journal rule.version)
     → Work setting journal (journal_cache_items setting i s rule journal)
 unfolding journal_cache_items machine_sent_items_from
-cache_work setting i s rule journal there = by_test (is_at s (journal_ingress_of journal i)) where
+cache_work setting i s rule journal there = by_test (is_at_machine_switch s (journal_ingress_of journal i)) where
   by_test : (b : Bool) → Work setting journal (elim b [
     | true ↦ []
-    | false ↦ send_items journal
-        (cache_rule rule (unwrap_or (journal_ingress_of journal i) 0) (journal_packet_header_at journal i) ∷ [])
+    | false ↦ machine_send_items journal
+        (machine_cache_rule rule (unwrap_or (journal_ingress_of journal i) 0) (journal_packet_header_at journal i) ∷ [])
   ])
   by_test true = tt
   by_test false = ((there, record { packet = i; ingress = refl }), tt)
 
-authority_work : (setting : Setting) (i s : ℕ) (rule : Option AuthorityRule) (journal : List Item)
+authority_work : (setting : Setting) (i s : ℕ) (rule : Option MachineAuthorityRule) (journal : List Item)
     → IsOfVersion journal rule → Work setting journal (machine_authority_items setting i s rule journal)
 unfolding machine_authority_items
 authority_work setting i s None journal there = tt
@@ -190,16 +190,16 @@ authority_work setting i s (Some rule) journal there =
     (How.Authority s rule.part.number) in
     let now : List Item = journal ++ decided ∷ [] in
     have_first (IsWork setting) decided
-    (in_turn (journal_cache_items setting i s rule ∷ machine_end_items setting i s rule.rule.action ∷ [])) journal
+    (machine_blocks_in_turn (journal_cache_items setting i s rule ∷ machine_end_items setting i s rule.rule.action ∷ [])) journal
     tt
     (have_put (IsWork setting) (journal_cache_items setting i s rule now)
-    (in_turn (machine_end_items setting i s rule.rule.action ∷ [])) now
+    (machine_blocks_in_turn (machine_end_items setting i s rule.rule.action ∷ [])) now
     (cache_work setting i s rule now (version_kept journal (decided ∷ []) rule.version there))
     (have_in_turn (IsWork setting) (machine_end_items setting i s rule.rule.action ∷ [])
     (end_work setting i s rule.rule.action, tt) (now ++ journal_cache_items setting i s rule now)))
 
 found_work : (setting : Setting) (i s : ℕ) (what : Found) (journal : List Item)
-    → Work setting journal (found_items setting i s what journal)
+    → Work setting journal (machine_found_items setting i s what journal)
 found_work setting i s (Found.Cached entry) journal =
     let decided = Item.Decided i entry.version entry.rule entry.action (How.Cached entry.message) in
     have_first (IsWork setting) decided (machine_end_items setting i s entry.action) journal tt
@@ -214,7 +214,7 @@ lookup_work : (setting : Setting) (i s : ℕ) (journal : List Item)
     → Work setting journal (machine_lookup_items setting i s journal)
 unfolding machine_lookup_items
 lookup_work setting i s journal =
-    found_work setting i s (lookup_at setting journal s (journal_packet_header_at journal i)) journal
+    found_work setting i s (machine_lookup_at setting journal s (journal_packet_header_at journal i)) journal
 
 arrive_by_work : (setting : Setting) (i s : ℕ) (leg : Option Leg) (journal : List Item)
     → Work setting journal (journal_leg_arrival_items setting i s leg journal)
@@ -224,7 +224,7 @@ arrive_by_work setting i s (Some (Seek version partition)) journal =
     by_held (holds_version journal s version)
   where
     place : ℕ
-    place = first_place setting journal version partition (journal_packet_header_at journal i)
+    place = machine_first_rule_place setting journal version partition (journal_packet_header_at journal i)
 
     by_held : (b : Bool) → Work setting journal (elim b [
       | false ↦ machine_lookup_items setting i s journal
@@ -249,11 +249,11 @@ reroute_by_work setting i s (Some leg) journal = by_route (journal_packet_route 
     by_route : (o : Option (List ℕ)) → journal_packet_route setting journal i s leg ≡ o
         → Work setting journal (elim o [
           | None ↦ machine_stuck_on_leg_item setting journal i s leg ∷ []
-          | Some route ↦ journal_items_then (Item.Rerouted i route ∷ []) (go_on setting i s) journal
+          | Some route ↦ journal_items_then (Item.Rerouted i route ∷ []) (machine_onward_items setting i s) journal
         ])
     by_route None e = (record { found = refl; none = e }, tt)
     by_route (Some route) e = have_first (IsWork setting) (Item.Rerouted i route)
-        (go_on setting i s) journal tt (grind (arith, arrive_work))
+        (machine_onward_items setting i s) journal tt (grind (arith, arrive_work))
 
 reroute_work : (setting : Setting) (i s : ℕ) (journal : List Item)
     → Work setting journal (machine_reroute_items setting i s journal)
@@ -297,8 +297,8 @@ unfolding machine_hop_items
 hop_work setting i journal = grind (arith, move_work)
 
 lose_work : (setting : Setting) (i : ℕ) (journal : List Item)
-    → Work setting journal (lose_items i journal)
-unfolding lose_items
+    → Work setting journal (machine_lose_items i journal)
+unfolding machine_lose_items
 lose_work setting i journal = grind arith
 
 -- ---- caches and messages
@@ -361,7 +361,7 @@ adverts_to setting s there (advert ∷ adverts) = (there, adverts_to setting s t
 
 -- the switches of a mask are of the network
 pub masked_there : (setting : Setting) (mask : ℕ)
-    → AllByRecursion (λ s. s < length setting.net.switches) (setting_switches_in setting mask)
+    → AllByRecursion (λ s. s < length setting.net.switches) (machine_switches_in setting mask)
 masked_there setting mask =
     each_of_network (λ s. s < length setting.net.switches) setting (has mask) (λ s there is. there)
 
@@ -394,8 +394,8 @@ links_change setting before journal = sends_each (IsChange setting) (IsAdvert se
     (λ before n message is. is) journal _
     (each_flat_map (IsAdvert setting) (machine_messages_of setting before journal) (λ s. each_told setting
     (machine_messages_over_link setting before journal s) (told_adverts setting before journal s)
-    (setting_switches_in setting (near setting journal s)) (masked_there setting (near setting journal s)))
-    (filter (journal_usable_links_changed setting before journal) (setting_switches_of setting)))
+    (machine_switches_in setting (near setting journal s)) (masked_there setting (near setting journal s)))
+    (filter (journal_usable_links_changed setting before journal) (machine_switches_of setting)))
 
 pub link_change : (setting : Setting) (before : List Item) (one two : ℕ) (up : Bool)
     (journal : List Item) → Change setting journal (machine_link_items setting before one two up journal)
@@ -418,12 +418,12 @@ links_have setting before journal = traffic_has setting journal
     (journal_link_changes setting before journal) (links_traffic setting before journal)
 
 pub passed_traffic : (setting : Setting) (journal : List Item) (s : ℕ) (advert : Advert)
-    → Traffic setting journal (send_items journal (machine_advert_passed_on setting journal s advert))
+    → Traffic setting journal (machine_send_items journal (machine_advert_passed_on setting journal s advert))
 passed_traffic setting journal s advert = sends_each (IsTraffic setting) (IsAdvert setting)
     (λ before n message is. advert_between setting before message.to message.body is) journal
     (machine_advert_passed_on setting journal s advert)
     (each_map (IsAdvert setting) (λ neighbour. machine_advert_to neighbour advert)
-    (setting_switches_in setting (near setting journal s)) (masked_there setting (near setting journal s)))
+    (machine_switches_in setting (near setting journal s)) (masked_there setting (near setting journal s)))
 
 -- ---- steps
 

@@ -2,10 +2,10 @@
 -- stamp does, and what is planned.
 use Rattle.std.proofs.Common.{[], ◌++◌, ◌∙◌, ◌∷◌, ◌≡◌, ◌≤◌, List, ap, arith, false, inl, inr, length, refl, subst, sym, true, ℕ, rules}
 use Rattle.base.proofs.Exports.{All-from_recursion, cases_lt}
-use Rattle.update_machine.specs.Exports.{Collect, Drop, SettingHasPlan, JournalItemsHaveCauses, Install, Item, OpenAt, Stamp, Step, StepOfRow, Tables, journal_boot_of, journal_controller_heard, journal_current_mark, heard, holds_version, is_over, is_up, journal_known_boot, journal_message_of, journal_next_policy, piece, journal_retired_mark, serves, journal_stamp_of, journal_tables_at, machine_message_to_switch, journal_version_count}
+use Rattle.update_machine.specs.Exports.{Collect, Drop, MachineVersionHasPlan, JournalItemsHaveCauses, Install, Item, OpenAt, Stamp, Step, MachineStepOfRow, Tables, journal_boot_of, journal_controller_heard, journal_current_mark, heard, holds_version, is_over, is_up, journal_known_boot, journal_message_of, journal_next_policy, piece, journal_retired_mark, serves, journal_stamp_of, journal_tables_at, machine_message_to_switch, journal_version_count}
 use Rattle.steps.specs.Exports.{IsStep}
 use Rattle.update_machine.proofs.Exports.{all_to, at, first_planned, none_of_7, open_net, plan_q, second_plan, second_planned, tables_of, versions}
-use Rattle.control_laws.specs.Exports.{AreControlTablesOf, MessageBringsPlannedTables, HasControlItemCause, ControlLawHoldsAtEnds, ControlLawHoldsBehindItems, ControlLawHoldsReached, HoldsStampedVersions, ServingHoldVersions, ControlSubmissionHasCause, ControlTablesArePlanned, ControlVersionsArePlanned}
+use Rattle.control_laws.specs.Exports.{AreControlTablesOf, ControlMessageBringsPlannedTables, HasControlItemCause, ControlLawHoldsAtEnds, ControlLawHoldsBehindItems, ControlLawHoldsReached, ControlHoldsStampedVersions, ControlServingHoldVersions, ControlSubmissionHasCause, ControlTablesArePlanned, ControlVersionsArePlanned}
 use Rattle.control_laws.proofs.ControlPlannedTables.{tables_planned}
 use Rattle.control_laws.proofs.ControlMarkLaws.{serving_hold}
 
@@ -47,7 +47,7 @@ unfolding piece
 not_all_are_empty holds = let one = at 1 (Step.Lose 1) ∷ [] in
     cc (holds.reached open_net _ (record {
       steps = one;
-      own = All-from_recursion (λ (next : StepOfRow). IsStep open_net.net (length open_net.files)
+      own = All-from_recursion (λ (next : MachineStepOfRow). IsStep open_net.net (length open_net.files)
           next.step) one (omega arith, tt);
       written = refl;
     }))
@@ -80,7 +80,7 @@ only_two version above below = omega (arith, above, below)
 only_one : (version : ℕ) → 1 ≤ version → version ≤ 1 → 1 ≡ version
 only_one version above below = omega (arith, above, below)
 
-holds_both : HoldsStampedVersions (installed ++ stamped) 0
+holds_both : ControlHoldsStampedVersions (installed ++ stamped) 0
 unfolding journal_boot_of heard is_up journal_current_mark journal_retired_mark journal_message_of holds_version journal_stamp_of
 holds_both = search (rules, only_two)
 
@@ -88,7 +88,7 @@ holds_both = search (rules, only_two)
 abbrev untold : List Item
 untold = Item.Submitted 2 2 ∷ Item.Current 2 ∷ stamped
 
-not_without_tables : HoldsStampedVersions untold 0 → ⊥
+not_without_tables : ControlHoldsStampedVersions untold 0 → ⊥
 unfolding journal_boot_of heard is_up journal_current_mark journal_retired_mark journal_message_of holds_version journal_stamp_of
 not_without_tables holds = let no : false ≡ true = holds.stamp in absurd cc
 
@@ -96,12 +96,12 @@ not_without_tables holds = let no : false ≡ true = holds.stamp in absurd cc
 abbrev dropped : List Item
 dropped = (installed ++ stamped) ++ Item.Sent 3 (machine_message_to_switch 0 (Collect 1 2)) ∷ Item.Delivered 3 ∷ []
 
-not_dropped : HoldsStampedVersions dropped 0 → ⊥
+not_dropped : ControlHoldsStampedVersions dropped 0 → ⊥
 unfolding journal_boot_of heard is_up journal_current_mark journal_retired_mark journal_message_of holds_version journal_stamp_of
 not_dropped holds = let no : false ≡ true = holds.stamp in absurd cc
 
 -- a switch that serves without its tables doesn't hold its stamp
-not_while_serving : ServingHoldVersions open_net untold → ⊥
+not_while_serving : ControlServingHoldVersions open_net untold → ⊥
 unfolding serves
 not_while_serving hold = not_without_tables (hold 0 (omega arith) refl)
 
@@ -116,9 +116,9 @@ two_planned = record {
   few = omega arith;
   live = omega arith;
   planned = λ first version above below. elim (cases_lt 1 version) [
-    | inl later ↦ subst (SettingHasPlan open_net two_versions) (only_two version later below)
+    | inl later ↦ subst (MachineVersionHasPlan open_net two_versions) (only_two version later below)
         (second_planned [] [] tt)
-    | inr own ↦ subst (SettingHasPlan open_net two_versions) (only_one version above own) (first_planned _)
+    | inr own ↦ subst (MachineVersionHasPlan open_net two_versions) (only_one version above own) (first_planned _)
   ];
 }
 
@@ -153,14 +153,14 @@ not_second items is =
 not_others : AreControlTablesOf open_net two_versions 0 second → ⊥
 not_others are = not_second [] are.planned
 
-brings_its : MessageBringsPlannedTables open_net two_versions 0 (Install 1 (tables_of plan_q 2 0))
+brings_its : ControlMessageBringsPlannedTables open_net two_versions 0 (Install 1 (tables_of plan_q 2 0))
 brings_its = its_tables
 
-brings_others : MessageBringsPlannedTables open_net two_versions 0 (Install 1 second) → ⊥
+brings_others : ControlMessageBringsPlannedTables open_net two_versions 0 (Install 1 second) → ⊥
 brings_others = not_others
 
 -- a body without tables brings none that are wrong
-brings_none : MessageBringsPlannedTables open_net two_versions 0 (OpenAt 1 7)
+brings_none : ControlMessageBringsPlannedTables open_net two_versions 0 (OpenAt 1 7)
 brings_none = tt
 
 -- ---- whole journals
@@ -175,7 +175,7 @@ unfolding journal_version_count journal_retired_mark journal_known_boot is_over 
 told_rightly = search (rules, second_file, its_tables)
 
 -- each switch serves, and goes on to stamp with the first version
-serve_once_told : ServingHoldVersions open_net told
+serve_once_told : ControlServingHoldVersions open_net told
 serve_once_told = serving_hold open_net told told_rightly
 
 tables_once_told : ControlTablesArePlanned open_net told

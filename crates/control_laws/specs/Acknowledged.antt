@@ -20,10 +20,10 @@ ControlLetsStampAfterAck setting before (receiver.Switch s) (Stamp boot version 
 ControlLetsStampAfterAck setting before to body = ⊤
 
 -- a message that lets a switch stamp has this cause; other items need none
-abbrev pub IsAckedFirst : Setting → List Item → Item → Type 0
-IsAckedFirst setting before (item.Sent number message) =
+abbrev pub IsControlAckedFirst : Setting → List Item → Item → Type 0
+IsControlAckedFirst setting before (item.Sent number message) =
     ControlLetsStampAfterAck setting before message.to message.body
-IsAckedFirst setting before _ = ⊤
+IsControlAckedFirst setting before _ = ⊤
 
 -- a member of the network acknowledged each version from the one at which it was opened to the
 -- current one; the stamp of a switch that serves is at least the one that the controller knows

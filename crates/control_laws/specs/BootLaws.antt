@@ -6,27 +6,27 @@ use Rattle.ctrl_msg.specs.declared.message.Place.TheVariants as receiver
 
 -- a message to a switch carries at most the boot that the controller knows of it, and one from a
 -- switch at most that switch's own boot
-abbrev pub HasPastBoot : List Item → Place → Body → Type 0
-HasPastBoot journal (receiver.Switch s) body =
+abbrev pub ControlHasPastBoot : List Item → Place → Body → Type 0
+ControlHasPastBoot journal (receiver.Switch s) body =
     IfSome (body_boot body) (λ boot. boot ≤ journal_known_boot journal s)
-HasPastBoot journal receiver.Controller body =
+ControlHasPastBoot journal receiver.Controller body =
     IfSome (machine_speaking_in_body body) (λ of. of.1 ≤ journal_boot_of journal of.0)
 
 -- the known boot of a switch is at most its own, and no message carries a later boot
-pub record BootsAreKnown (journal : List Item) : Type 0 where
+pub record ControlBootsArePast (journal : List Item) : Type 0 where
   pub known : (s : ℕ) → journal_known_boot journal s ≤ journal_boot_of journal s
   pub sent : (n : ℕ) (message : Message) → journal_message_of journal n ≡ Some message →
-      HasPastBoot journal message.to message.body
+      ControlHasPastBoot journal message.to message.body
 
 -- all messages that open a switch in one of its boots carry the same version
-abbrev pub OpeningMessagesNameOneVersion : List Item → Type 0
-OpeningMessagesNameOneVersion journal = (s boot one other m n : ℕ)
+abbrev pub ControlOpeningMessagesNameOneVersion : List Item → Type 0
+ControlOpeningMessagesNameOneVersion journal = (s boot one other m n : ℕ)
     → journal_message_of journal m ≡ Some (machine_message_to_switch s (OpenAt boot one))
     → journal_message_of journal n ≡ Some (machine_message_to_switch s (OpenAt boot other)) → one ≡ other
 
 -- a switch that serves is up and a member, and the controller knows its boot; a switch that is up
 -- and whose boot is known isn't over
-pub record ServingIsKnown (journal : List Item) : Type 0 where
+pub record ControlServingIsKnown (journal : List Item) : Type 0 where
   pub up : (s : ℕ) → IsTrue (serves journal s) → IsTrue (is_up journal s)
   pub known : (s : ℕ) → IsTrue (serves journal s) → journal_known_boot journal s ≡ journal_boot_of journal s
   pub member : (s : ℕ) → IsTrue (serves journal s) → IsTrue (is_member journal s)

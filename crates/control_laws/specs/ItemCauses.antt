@@ -4,7 +4,7 @@
 -- Schlesinger and Walker, "Abstractions for Network Update"; boots and acknowledgements are ours.
 use Rattle.std.specs.Prelude.{◌+◌, ◌-◌, ◌<◌, ◌≡◌, ◌≢◌, ◌≤◌, ◌⊎◌, IsFalse, IsOk, IsTrue, List, None, Ok, Some, ℕ, ⊤}
 use Rattle.base.specs.Exports.{list_any}
-use Rattle.update_machine.specs.Exports.{Advertise, Body, CacheRule, Collect, Hello, Install, Installed, Item, MachineCurrentMayRise, OpenAt, Place, Row, Setting, Stamp, Stamped, Tables, journal_boot_of, journal_current_mark, has_acked, heard, installs_version, is_member, is_over, is_up, journal_known_boot, journal_message_of, most_live_journal_versions, most_journal_versions, journal_next_policy, journal_next_retired, journal_opened_at, journal_retired_mark, journal_stamp_of, journal_tables_at, machine_message_to_switch, machine_touched_by, journal_version_count}
+use Rattle.update_machine.specs.Exports.{Advertise, Body, CacheRule, Collect, Hello, Install, Installed, Item, MachineCurrentMayRise, OpenAt, Place, Row, Setting, Stamp, Stamped, Tables, journal_boot_of, journal_current_mark, has_acked, heard, machine_body_installs_version, is_member, is_over, is_up, journal_known_boot, journal_message_of, most_live_journal_versions, most_journal_versions, journal_next_policy, journal_next_retired, journal_opened_at, journal_retired_mark, journal_stamp_of, journal_tables_at, machine_message_to_switch, machine_touched_by, journal_version_count}
 use Rattle.ctrl_msg.specs.declared.message.Place.TheVariants as receiver
 use Rattle.ternary.specs.Exports.{WordValue}
 use Rattle.journal.specs.declared.item.Item.TheVariants as item
@@ -18,7 +18,7 @@ pub record IsControlForKnown (before : List Item) (s boot : ℕ) : Type 0 where
 
 -- the tables are those that a version's plan gives the switch; the version is the newest one, or
 -- the current one or a later one
-pub record IsRightInstallMessage (setting : Setting) (before : List Item) (s boot : ℕ)
+pub record IsRightControlInstall (setting : Setting) (before : List Item) (s boot : ℕ)
     (installed : Tables) : Type 0 where
   pub to : IsControlForKnown before s boot
   pub version : ℕ
@@ -27,7 +27,7 @@ pub record IsRightInstallMessage (setting : Setting) (before : List Item) (s boo
   pub planned : installed ≡ journal_tables_at setting before version s
 
 -- the switch wasn't opened before in this boot, acknowledged the current version, and opens at it
-pub record IsFirstOpeningMessage (before : List Item) (s version : ℕ) : Type 0 where
+pub record IsFirstControlOpening (before : List Item) (s version : ℕ) : Type 0 where
   pub closed : journal_opened_at before s ≡ None
   pub current : version ≡ journal_current_mark before
   pub acked : IsTrue (has_acked before s version)
@@ -35,10 +35,10 @@ pub record IsFirstOpeningMessage (before : List Item) (s version : ℕ) : Type 0
 -- the message opens the switch first at the current version; if sent again, at the same version
 pub record IsRightControlOpening (before : List Item) (s boot version : ℕ) : Type 0 where
   pub to : IsControlForKnown before s boot
-  pub opens : IsFirstOpeningMessage before s version ⊎ (journal_opened_at before s ≡ Some version)
+  pub opens : IsFirstControlOpening before s version ⊎ (journal_opened_at before s ≡ Some version)
 
 -- a member is told to stamp with the current version, and gets the words that its change touches
-pub record IsRightStamp (setting : Setting) (before : List Item) (s boot version : ℕ)
+pub record IsRightControlStamp (setting : Setting) (before : List Item) (s boot version : ℕ)
     (touched : List WordValue) : Type 0 where
   pub to : IsControlForKnown before s boot
   pub member : IsTrue (is_member before s)
@@ -46,18 +46,18 @@ pub record IsRightStamp (setting : Setting) (before : List Item) (s boot version
   pub says : touched ≡ machine_touched_by setting before version
 
 -- a member is told to drop the versions up to the retired mark
-pub record IsRightCollectMessage (before : List Item) (s boot version : ℕ) : Type 0 where
+pub record IsRightControlCollect (before : List Item) (s boot version : ℕ) : Type 0 where
   pub to : IsControlForKnown before s boot
   pub member : IsTrue (is_member before s)
   pub retired : version ≡ journal_retired_mark before
 
 -- what may be sent to a switch; cache rules and adverts carry no boot of it, so they always may be
 abbrev pub IsRightControlMessageTo : Setting → List Item → ℕ → Body → Type 0
-IsRightControlMessageTo setting before s (Install boot tables) = IsRightInstallMessage setting before s boot tables
+IsRightControlMessageTo setting before s (Install boot tables) = IsRightControlInstall setting before s boot tables
 IsRightControlMessageTo setting before s (OpenAt boot version) = IsRightControlOpening before s boot version
 IsRightControlMessageTo setting before s (Stamp boot version touched) =
-    IsRightStamp setting before s boot version touched
-IsRightControlMessageTo setting before s (Collect boot version) = IsRightCollectMessage before s boot version
+    IsRightControlStamp setting before s boot version touched
+IsRightControlMessageTo setting before s (Collect boot version) = IsRightControlCollect before s boot version
 IsRightControlMessageTo setting before s (CacheRule version word rule action) = ⊤
 IsRightControlMessageTo setting before s (Advertise advert) = ⊤
 IsRightControlMessageTo setting before s _ = ⊥
@@ -70,19 +70,19 @@ pub record IsControlSenderPresent (before : List Item) (s boot : ℕ) : Type 0 w
   pub own : boot ≡ journal_boot_of before s
 
 -- it acknowledges tables that it heard in its boot
-pub record IsRightInstalledAck (before : List Item) (s boot version : ℕ) : Type 0 where
+pub record IsRightControlInstalledAck (before : List Item) (s boot version : ℕ) : Type 0 where
   pub present : IsControlSenderPresent before s boot
-  pub heard : IsTrue (list_any (installs_version version) (heard before s))
+  pub heard : IsTrue (list_any (machine_body_installs_version version) (heard before s))
 
 -- it acknowledges a stamp that is at most its own
-pub record IsRightStampAck (before : List Item) (s boot version : ℕ) : Type 0 where
+pub record IsRightControlStampAck (before : List Item) (s boot version : ℕ) : Type 0 where
   pub present : IsControlSenderPresent before s boot
   pub stamps : version ≤ journal_stamp_of before s
 
 abbrev pub IsRightControlMessageFrom : List Item → Body → Type 0
 IsRightControlMessageFrom before (Hello s boot) = IsControlSenderPresent before s boot
-IsRightControlMessageFrom before (Installed s boot version) = IsRightInstalledAck before s boot version
-IsRightControlMessageFrom before (Stamped s boot version) = IsRightStampAck before s boot version
+IsRightControlMessageFrom before (Installed s boot version) = IsRightControlInstalledAck before s boot version
+IsRightControlMessageFrom before (Stamped s boot version) = IsRightControlStampAck before s boot version
 IsRightControlMessageFrom before _ = ⊥
 
 abbrev pub IsRightControlMessage : Setting → List Item → Place → Body → Type 0

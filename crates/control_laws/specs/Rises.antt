@@ -5,6 +5,6 @@ use Rattle.update_machine.specs.Exports.{Item, MachineCurrentMayRise, Setting}
 use Rattle.journal.specs.declared.item.Item.TheVariants as item
 
 -- the cause of a rise of the current mark
-abbrev pub CurrentMarkRiseHasCause : Setting → List Item → Item → Type 0
-CurrentMarkRiseHasCause setting before (item.Current version) = MachineCurrentMayRise setting before version
-CurrentMarkRiseHasCause setting before _ = ⊤
+abbrev pub ControlMarkRiseHasCause : Setting → List Item → Item → Type 0
+ControlMarkRiseHasCause setting before (item.Current version) = MachineCurrentMayRise setting before version
+ControlMarkRiseHasCause setting before _ = ⊤

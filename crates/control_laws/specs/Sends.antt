@@ -2,20 +2,20 @@
 -- them. OSPF has a rule for a router that used up its sequence numbers (RFC 2328, section 12.1.6);
 -- here they are never used up.
 use Rattle.std.specs.Prelude.{if◌then◌else◌, ◌*◌, ◌+◌, ◌-◌, ◌<◌, ◌==◌, ◌^◌, ◌≤◌, List, length, ℕ}
-use Rattle.update_machine.specs.Exports.{Item, Setting, Step, journal_boot_of, count_of, is_sending, near, journal_next_message, journal_own_seq, piece}
+use Rattle.update_machine.specs.Exports.{Item, Setting, Step, journal_boot_of, machine_count_of, is_machine_sending_item, near, journal_next_message, journal_own_seq, piece}
 
 -- how many messages were sent
 abbrev pub control_messages_sent_count : List Item → ℕ
-control_messages_sent_count items = count_of is_sending items
+control_messages_sent_count items = machine_count_of is_machine_sending_item items
 
 -- whatever step comes next, it sends at most this many messages
-abbrev pub StepsSendAtMost : ℕ → Setting → List Item → Type 0
-StepsSendAtMost most setting journal =
+abbrev pub ControlStepsSendAtMost : ℕ → Setting → List Item → Type 0
+ControlStepsSendAtMost most setting journal =
     (row : ℕ) (step : Step) → control_messages_sent_count (piece setting journal row step) ≤ most
 
 -- the next step sends at most 10,000 messages
-abbrev pub StepsSendFew : Setting → List Item → Type 0
-StepsSendFew setting journal = StepsSendAtMost 10_000 setting journal
+abbrev pub ControlStepsSendFew : Setting → List Item → Type 0
+ControlStepsSendFew setting journal = ControlStepsSendAtMost 10_000 setting journal
 
 -- each boot after the first begins with a message; and of two changes of a switch's links at least
 -- one is sent to a neighbour: the switch has none only after its last link failed

@@ -6,7 +6,7 @@ use Rattle.update_machine.specs.Exports.{Item, Setting, journal_current_mark, ho
 
 -- the switch has the version of its stamp, and each one from there up to the current version; the
 -- stamp isn't retired, and is at most the current version
-pub record HoldsStampedVersions (journal : List Item) (s : ℕ) : Type 0 where
+pub record ControlHoldsStampedVersions (journal : List Item) (s : ℕ) : Type 0 where
   pub stamp : IsTrue (holds_version journal s (journal_stamp_of journal s))
   pub held : (version : ℕ) → version ≤ journal_current_mark journal →
       IsTrue (holds_version journal s version) ⊎ (version < journal_stamp_of journal s)
@@ -14,6 +14,6 @@ pub record HoldsStampedVersions (journal : List Item) (s : ℕ) : Type 0 where
   pub current : journal_stamp_of journal s ≤ journal_current_mark journal
 
 -- this is true of each switch of the network that serves
-abbrev pub ServingHoldVersions : Setting → List Item → Type 0
-ServingHoldVersions setting journal = (s : ℕ) → s < length setting.net.switches
-    → IsTrue (serves journal s) → HoldsStampedVersions journal s
+abbrev pub ControlServingHoldVersions : Setting → List Item → Type 0
+ControlServingHoldVersions setting journal = (s : ℕ) → s < length setting.net.switches
+    → IsTrue (serves journal s) → ControlHoldsStampedVersions journal s

@@ -4,7 +4,7 @@ use Rattle.update_machine.specs.Exports.{Item, Message, Setting, Stamp, journal_
 use Rattle.ternary.specs.Exports.{WordValue}
 
 -- the version exists, and these are the words that its change touches
-pub record IsStampMessageTouched (setting : Setting) (journal : List Item) (version : ℕ)
+pub record AreControlTouchedWords (setting : Setting) (journal : List Item) (version : ℕ)
     (touched : List WordValue) : Type 0 where
   pub first : 1 ≤ version
   pub last : version ≤ journal_version_count journal
@@ -16,7 +16,7 @@ control_stamp_message_to s boot version touched = machine_message_to_switch s (S
 
 -- each message that tells a switch to stamp with a version, sent again or not, carries the words
 -- that the change of that version touches
-pub record StampsSayTouched (setting : Setting) (journal : List Item) : Type 0 where
+pub record ControlStampsSayTouched (setting : Setting) (journal : List Item) : Type 0 where
   pub sent : (n s boot version : ℕ) (touched : List WordValue)
       → journal_message_of journal n ≡ Some (control_stamp_message_to s boot version touched)
-      → IsStampMessageTouched setting journal version touched
+      → AreControlTouchedWords setting journal version touched

@@ -1,20 +1,20 @@
 //! Laws about adverts, and about how many messages, boots and sequence numbers there are.
 ghost use Rattle.std.specs.Prelude.{List, []};
 ghost use Rattle.net_file.specs.Net.{IsNet};
-ghost use Rattle.update_machine.specs.Exports.{HasRoom, MachineJournalsHaveRoom, Setting, StepOfRow, journal_after_steps};
+ghost use Rattle.update_machine.specs.Exports.{MachineJournalHasRoom, MachineJournalsHaveRoom, Setting, MachineStepOfRow, journal_after_steps};
 ghost use Rattle.control_laws.specs.Always.{ControlLawHoldsBehindItems, ControlLawHoldsAlways, ControlLawHoldsAtEnds};
-ghost use Rattle.control_laws.specs.Adverts.{ControlAdvertsAreOfSwitches, AdvertisedLinksAreThere, OwnAdvertsAreNewest};
-ghost use Rattle.control_laws.specs.Sends.{ControlNumbersAreFew, ControlNumbersFit, StepsSendFew};
+ghost use Rattle.control_laws.specs.Adverts.{ControlAdvertsAreOfSwitches, ControlAdvertisedLinksAreThere, ControlOwnAdvertsAreNewest};
+ghost use Rattle.control_laws.specs.Sends.{ControlNumbersAreFew, ControlNumbersFit, ControlStepsSendFew};
 
 /// Each advert that is sent, heard or kept names only links of the network; the links that a
 /// switch knows, and its routes, are of the network too.
 pub fn adverts_name_links()
-    ensures { ControlLawHoldsBehindItems AdvertisedLinksAreThere }
+    ensures { ControlLawHoldsBehindItems ControlAdvertisedLinksAreThere }
 {}
 
 /// No advert that is sent, heard or kept is newer than its origin's own.
 pub fn own_adverts_are_newest()
-    ensures { ControlLawHoldsBehindItems OwnAdvertsAreNewest }
+    ensures { ControlLawHoldsBehindItems ControlOwnAdvertsAreNewest }
 {}
 
 /// In a network each advert that is sent, heard, or kept by one of its switches has one of them as
@@ -27,7 +27,7 @@ pub fn adverts_are_of_switches()
 /// On a network of at most 64 switches and 256 links, each step sends at most 10,000 messages.
 pub fn steps_send_few_control_messages()
     ensures { ControlLawHoldsAlways (λ setting journal. IsNet setting.net
-        → StepsSendFew setting journal) }
+        → ControlStepsSendFew setting journal) }
 {}
 
 /// After each step the number of messages sent bounds the boots and the numbers of own adverts.
@@ -39,9 +39,9 @@ pub fn control_numbers_are_few()
 /// If the journal has room for a step, or each of its steps began with room, the numbers of
 /// messages, boots and own adverts fit in 32 bits, and the next ones do too.
 pub fn control_numbers_fit()
-    ensures before { (setting : Setting) (steps : List StepOfRow) → IsNet setting.net
-        → HasRoom (journal_after_steps setting [] steps)
+    ensures before { (setting : Setting) (steps : List MachineStepOfRow) → IsNet setting.net
+        → MachineJournalHasRoom (journal_after_steps setting [] steps)
         → ControlNumbersFit setting (journal_after_steps setting [] steps) }
-    ensures behind { (setting : Setting) (steps : List StepOfRow) → IsNet setting.net
+    ensures behind { (setting : Setting) (steps : List MachineStepOfRow) → IsNet setting.net
         → MachineJournalsHaveRoom setting [] steps → ControlNumbersFit setting (journal_after_steps setting [] steps) }
 {}

@@ -2,7 +2,7 @@
 ghost use Rattle.std.specs.Prelude.{[], ℕ, ◌++◌, ◌≤◌, List, IsFalse};
 ghost use Rattle.net_file.specs.Net.{IsNet};
 ghost use Rattle.update_machine.specs.Exports.{AreMachineMarksSettled, JournalControllerKeeps, JournalItemsHaveCauses, Item, Setting, Step, JournalVersionsAreNumbered, journal_next_retired, piece, journal_retired_mark};
-ghost use Rattle.control_laws.specs.Exports.{AcksHold, ControlBodiesNameThere, BootsAreKnown, HasControlItemCause, ControlLawHoldsAlways, ControlLawHoldsAtEnds, ControlLawHoldsReached, InstallsArePlanned, IsAckedFirst, ControlMarksAreBounded, ControlMembersAcknowledged, OpeningMessagesNameOneVersion, CurrentMarkRiseHasCause, ServingHoldVersions, ServingIsKnown, StampsSayTouched, ControlTablesArePlanned, ControlVersionsArePlanned, control_asks_controller};
+ghost use Rattle.control_laws.specs.Exports.{ControlAcksHold, ControlBodiesNameThere, ControlBootsArePast, HasControlItemCause, ControlLawHoldsAlways, ControlLawHoldsAtEnds, ControlLawHoldsReached, ControlInstallsArePlanned, IsControlAckedFirst, ControlMarksAreBounded, ControlMembersAcknowledged, ControlOpeningMessagesNameOneVersion, ControlMarkRiseHasCause, ControlServingHoldVersions, ControlServingIsKnown, ControlStampsSayTouched, ControlTablesArePlanned, ControlVersionsArePlanned, control_asks_controller};
 
 /// Each item of switches and their controller has its cause in the journal before it.
 pub fn control_items_have_causes()
@@ -17,35 +17,35 @@ pub fn versions_are_numbered()
 /// The boot that the controller knows of a switch is at most its own. A message to the switch
 /// carries at most the known boot, and one from it at most its own.
 pub fn boots_are_known()
-    ensures { ControlLawHoldsAlways (λ setting journal. BootsAreKnown journal) }
+    ensures { ControlLawHoldsAlways (λ setting journal. ControlBootsArePast journal) }
 {}
 
 /// All messages that open a switch in one of its boots carry the same version.
 pub fn switches_open_once()
-    ensures { ControlLawHoldsAlways (λ setting journal. OpeningMessagesNameOneVersion journal) }
+    ensures { ControlLawHoldsAlways (λ setting journal. ControlOpeningMessagesNameOneVersion journal) }
 {}
 
 /// A switch that serves is up and a member, and the controller knows its boot; a switch that is up
 /// and whose boot is known isn't over.
 pub fn control_knows_serving_switches()
-    ensures { ControlLawHoldsAlways (λ setting journal. ServingIsKnown journal) }
+    ensures { ControlLawHoldsAlways (λ setting journal. ControlServingIsKnown journal) }
 {}
 
 /// While a switch is up, it heard in its boot all tables that it acknowledged in that boot, and
 /// its stamp is at least each one that it acknowledged in that boot.
 pub fn acknowledgements_hold()
-    ensures { ControlLawHoldsAlways (λ setting journal. (s : ℕ) → AcksHold journal s) }
+    ensures { ControlLawHoldsAlways (λ setting journal. (s : ℕ) → ControlAcksHold journal s) }
 {}
 
 /// The tables that are sent to a switch are those that a version's plan gives it.
 pub fn installs_are_planned()
-    ensures { ControlLawHoldsAlways (λ setting journal. InstallsArePlanned setting journal) }
+    ensures { ControlLawHoldsAlways (λ setting journal. ControlInstallsArePlanned setting journal) }
 {}
 
 /// A switch is told to stamp with a version only after it acknowledged that version's tables in
 /// its boot, and only if the version is at most the current one.
 pub fn stamps_are_acked_first()
-    ensures { ControlLawHoldsAlways (λ setting journal. JournalItemsHaveCauses (IsAckedFirst setting) [] journal) }
+    ensures { ControlLawHoldsAlways (λ setting journal. JournalItemsHaveCauses (IsControlAckedFirst setting) [] journal) }
 {}
 
 /// A member acknowledged each version from the one at which it was opened to the current one, and
@@ -57,7 +57,7 @@ pub fn members_have_acknowledged()
 /// A switch that is told to stamp with a version also gets what that version's change touches: the
 /// words of the rows that it removes and adds, as the journal has them.
 pub fn control_stamps_say_touched()
-    ensures { ControlLawHoldsAlways (λ setting journal. StampsSayTouched setting journal) }
+    ensures { ControlLawHoldsAlways (λ setting journal. ControlStampsSayTouched setting journal) }
 {}
 
 /// The current version exists; retired versions are below it and below each member's acknowledged
@@ -69,7 +69,7 @@ pub fn marks_are_bounded()
 /// A switch that serves has the version with which it stamps, and each version up to the current
 /// one that isn't below its stamp; its stamp is above all that is retired, and at most current.
 pub fn control_serving_holds_versions()
-    ensures { ControlLawHoldsAlways (λ setting journal. ServingHoldVersions setting journal) }
+    ensures { ControlLawHoldsAlways (λ setting journal. ControlServingHoldVersions setting journal) }
 {}
 
 /// At most 64 versions exist, at most eight of them not retired; each has a plan if version 1 has.
@@ -93,7 +93,7 @@ pub fn control_bodies_name_what_exists()
 /// The current mark rises only to a version that exists, and only when each member has
 /// acknowledged every version above the old mark up to it.
 pub fn control_current_rises_rightly()
-    ensures { ControlLawHoldsAlways (λ setting journal. JournalItemsHaveCauses (CurrentMarkRiseHasCause setting) [] journal) }
+    ensures { ControlLawHoldsAlways (λ setting journal. JournalItemsHaveCauses (ControlMarkRiseHasCause setting) [] journal) }
 {}
 
 /// The retired mark is never above what the members' acknowledged stamps allow, not even in the

@@ -2,7 +2,7 @@
 use Rattle.std.proofs.Common.{[], ◌<◌, ◌∙◌, ◌∷◌, ◌≡◌, Bool, List, ap, arith, eqb, false, filter, get_or, length, refl, slice_get, suc, true, zero, ℕ}
 use Rattle.base.proofs.Exports.{from_bool, option_map_or, range_with_len}
 use Rattle.version_update.specs.declared.record.SwitchRecord.{SwitchRecord}
-use Rattle.version_update.specs.Exports.{Names}
+use Rattle.version_update.specs.Exports.{MaskNamesUpdateSwitches}
 use Rattle.controller.specs.Exports.{controller_switches_in_mask, controller_switches_by_record}
 
 -- tests that agree pick the same
@@ -18,7 +18,7 @@ those_below passes switches n = filter (λ s. option_map_or passes (slice_get sw
 
 -- a mask's bits give those that it names
 pub those_named : (mask n : ℕ) (passes : SwitchRecord → Bool) (switches : List SwitchRecord)
-    → n ≡ length switches → Names mask passes switches → controller_switches_in_mask mask n
+    → n ≡ length switches → MaskNamesUpdateSwitches mask passes switches → controller_switches_in_mask mask n
     ≡ controller_switches_by_record passes switches
 those_named mask n passes switches all names = ap (controller_switches_in_mask mask) all ∙ picked_same _ _
     (λ s. ap (λ b. eqb b 1) (names s) ∙ bit_of (option_map_or passes (slice_get switches s) false))

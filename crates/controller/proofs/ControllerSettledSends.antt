@@ -5,14 +5,14 @@ use Rattle.ctrl_msg.specs.declared.message.Body.{Body}
 use Rattle.ctrl_msg.specs.declared.message.Body.TheVariants.{OpenAt}
 use Rattle.version_update.specs.declared.record.SwitchRecord.{SwitchRecord}
 use Rattle.version_update.specs.declared.marks.Settled.{Settled}
-use Rattle.version_update.specs.Exports.{MarksValue, Names, Settles, is_member, update_joining_opens_at, mark_rises_to}
+use Rattle.version_update.specs.Exports.{MarksValue, MaskNamesUpdateSwitches, SettlesVersionMarks, is_member, update_joining_opens_at, mark_rises_to}
 use Rattle.controller.specs.Exports.{controller_collect_acts, controller_open_acts, controller_posts_to, controller_mark_rising_acts, controller_settling_acts, controller_stamp_acts, controller_switches_in_mask, controller_switches_by_record}
 use Rattle.controller.specs.declared.sends.Act.{Act}
 use Rattle.controller.proofs.ControllerPickedSwitches.{those_named}
 use Rattle.ternary.specs.Exports.{WordValue}
 
 -- no switch comes or goes
-pub same_number : (before after : MarksValue) (answer : Settled) → Settles before after answer
+pub same_number : (before after : MarksValue) (answer : Settled) → SettlesVersionMarks before after answer
     → length after.switches ≡ length before.switches
 same_number before after answer is = ap length is.switches ∙ length-map before.switches _
 
@@ -31,7 +31,7 @@ stays old new is = by_test (ltb old new) refl is where
   by_test false test is = test
 
 and_first : (test : Bool) (passes : SwitchRecord → Bool) (mask : ℕ) (switches : List SwitchRecord)
-    → test ≡ true → Names mask (λ known. test && passes known) switches → Names mask passes switches
+    → test ≡ true → MaskNamesUpdateSwitches mask (λ known. test && passes known) switches → MaskNamesUpdateSwitches mask passes switches
 and_first true passes mask switches e names = names
 and_first false passes mask switches e names = cc
 
@@ -43,7 +43,7 @@ headed head old rest mid acts begun made = cc (made, begun, append_assoc old (he
 pub rising_told : (old new number mask n : ℕ) (answered : Option ℕ) (says : ℕ → Act)
     (body : ℕ → ℕ → Body) (after : MarksValue) (switches : List SwitchRecord)
     (base mid acts : List Act) → answered ≡ mark_rises_to old new
-    → Names mask (λ known. ltb old new && is_member known.phase) switches → n ≡ length switches
+    → MaskNamesUpdateSwitches mask (λ known. ltb old new && is_member known.phase) switches → n ≡ length switches
     → answered ≡ Some number → mid ≡ base ++ says number ∷ []
     → acts ≡ mid ++ controller_posts_to after (λ boot. body boot number) (controller_switches_in_mask mask n)
     → acts ≡ base ++ controller_mark_rising_acts old new says body after switches
@@ -68,7 +68,7 @@ rising_none old new answered says body after switches base is none =
 pub opens_told : (before after : MarksValue) (answer : Settled) (n current : ℕ)
     (old acts : List Act) → n ≡ length after.switches → current ≡ after.current
     → acts ≡ old ++ controller_posts_to after (λ boot. OpenAt boot current) (controller_switches_in_mask answer.opens n)
-    → Settles before after answer → acts ≡ old ++ controller_open_acts before after
+    → SettlesVersionMarks before after answer → acts ≡ old ++ controller_open_acts before after
 opens_told before after answer n current old acts all is_current made is =
     made ∙ ap (λ l. old ++ controller_posts_to after (λ boot. OpenAt boot current) l) (those_named answer.opens
     n _ before.switches (all ∙ same_number before after answer is) is.tells.opens)

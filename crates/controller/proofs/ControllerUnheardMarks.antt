@@ -4,8 +4,8 @@ use Rattle.base.proofs.Exports.{nat_tests, option_map_or, range_with_len, slice_
 use Rattle.ctrl_msg.specs.declared.message.Body.{Body}
 use Rattle.ctrl_msg.specs.declared.message.Body.TheVariants.{Hello, Installed, Stamped}
 use Rattle.version_update.specs.declared.record.SwitchRecord.{SwitchRecord}
-use Rattle.version_update.specs.Exports.{AreVersionMarksSettled, MarksValue, is_member, update_joining_opens_at, unknown_switch_record}
-use Rattle.controller.specs.Exports.{ControllerValue, KeptPlan, controller_collect_acts, current_plan_touched, controller_hear_acts, controller_marks_after, controller_open_acts, kept_plans_from, controller_posts_to, controller_settling_acts, controller_switches_by_record}
+use Rattle.version_update.specs.Exports.{AreVersionMarksSettled, MarksValue, is_member, update_joining_opens_at, unknown_update_record}
+use Rattle.controller.specs.Exports.{ControllerValue, ControllerKeptPlan, controller_collect_acts, controller_current_plan_touched, controller_hear_acts, controller_marks_after, controller_open_acts, controller_kept_plans_from, controller_posts_to, controller_settling_acts, controller_switches_by_record}
 use Rattle.controller.specs.declared.sends.Act.TheVariants.{Current, Retired}
 use Rattle.ctrl_msg.specs.declared.message.Body.TheVariants as body
 use Rattle.controller.proofs.ControllerPickedSwitches.{picked_same, passes_there}
@@ -29,7 +29,7 @@ those_none passes switches fail = picked_same _ (λ _. false) fails
       by_test : (b : Bool) → ltb s (length switches) ≡ b
           → option_map_or passes (slice_get switches s) false ≡ false
       by_test true is = let within : s < length switches = grind (arith, nat_tests) in
-          passes_there passes switches s unknown_switch_record within ∙ fail s unknown_switch_record within
+          passes_there passes switches s unknown_update_record within ∙ fail s unknown_update_record within
       by_test false is = let past : length switches ≤ s = grind (arith, nat_tests) in
           ap (λ o. option_map_or passes o false) (slice_get_past switches s past)
 
@@ -49,21 +49,21 @@ nothing_sent touched marks is =
     ∙ ap (λ l. l ++ controller_collect_acts marks marks) two ∙ three
 
 -- the plans from the current version on are all
-pub all_kept : (to from n : ℕ) (plans : List KeptPlan) → to ≤ from
-    → map (λ kept. kept.version) plans ≡ range_with_len from n → kept_plans_from to plans ≡ plans
+pub all_kept : (to from n : ℕ) (plans : List ControllerKeptPlan) → to ≤ from
+    → map (λ kept. kept.version) plans ≡ range_with_len from n → controller_kept_plans_from to plans ≡ plans
 all_kept to from n [] low versions = refl
 all_kept to from zero (kept ∷ plans) low versions = cc
 all_kept to from (suc n) (kept ∷ plans) low versions =
     let first : kept.version ≡ from = cc in
     let passes : leb to kept.version ≡ true = grind (arith, nat_tests) in
-    ap (λ b. cond b (kept ∷ kept_plans_from to plans) (kept_plans_from to plans)) passes
+    ap (λ b. cond b (kept ∷ controller_kept_plans_from to plans) (controller_kept_plans_from to plans)) passes
     ∙ ap (λ l. kept ∷ l) (all_kept to (from + 1) n plans (omega arith) cc)
 
 -- a body that isn't for the controller
 pub record IsUnheard (body : Body) (controller : ControllerValue) : Type 0 where
   pub same : controller_marks_after body controller.marks ≡ controller.marks
   pub sent : controller_hear_acts body controller.marks controller
-      ≡ controller_settling_acts (current_plan_touched controller) controller.marks controller.marks ++ []
+      ≡ controller_settling_acts (controller_current_plan_touched controller) controller.marks controller.marks ++ []
 
 pub is_unheard : (body : Body) (controller : ControllerValue)
     → ((switch boot : ℕ) → body ≡ Hello switch boot → ⊥)

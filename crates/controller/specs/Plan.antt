@@ -1,23 +1,23 @@
 -- Plans: a policy with its partitions, each with its targets.
 use Rattle.std.specs.Prelude.{◌<◌, ◌^◌, ◌≡◌, All, Err, List, length, map, ⊤}
 use Rattle.net_file.specs.declared.net.Net.{Net}
-use Rattle.partition.specs.Plan.{Hosted, partition_plan_of}
+use Rattle.partition.specs.Plan.{HostedPolicyPartition, partition_plan_of}
 use Rattle.policy_rules.specs.Hosted as no_plan
-use Rattle.policy_rules.specs.Exports.{AreSoundPolicyPartitions, LastRuleCovers}
+use Rattle.policy_rules.specs.Exports.{AreSoundPolicyPartitions, LastPolicyRuleCovers}
 use Rattle.policy_rules.specs.declared.policy.Row.{Row}
-use Rattle.switch_table.specs.Exports.{part_of}
+use Rattle.switch_table.specs.Exports.{switch_table_part_of}
 use Rattle.controller.specs.declared.plan_error.PlanError.{PlanError}
 use Rattle.controller.specs.declared.plan_error.PlanError.TheVariants.{TooManyWords, TooManyLeaves, NoRoom, NoMemory}
 
-pub record PlanValue : Type 0 where
+pub record ControllerPlanValue : Type 0 where
   pub policy : List Row
-  pub hosted : List Hosted
+  pub hosted : List HostedPolicyPartition
 
 -- the partitions are sound for the policy, the last rule of each covers its region, and their
 -- numbers and places have 32 bits
-pub record IsSoundPlan (plan : PlanValue) : Type 0 where
+pub record IsSoundControllerPlan (plan : ControllerPlanValue) : Type 0 where
   pub sound : AreSoundPolicyPartitions plan.policy (map (λ hosted. hosted.0) plan.hosted)
-  pub covers : All LastRuleCovers (map part_of plan.hosted)
+  pub covers : All LastPolicyRuleCovers (map switch_table_part_of plan.hosted)
   pub few : length plan.hosted < 2 ^ 32
   pub few_rules : All (λ hosted. length hosted.0.rules < 2 ^ 32) plan.hosted
 

@@ -7,8 +7,8 @@ use Rattle.switch_table.specs.Exports.{cache_few_touched}
 use Rattle.ternary.specs.Exports.{WordValue}
 
 -- the words of the policy's rows that it removes, and of those that it adds, if they are few
-abbrev pub touched_few : List Row → List Edit → List WordValue
-touched_few rows change = cache_few_touched (touched_policy_words rows change)
+abbrev pub controller_touched_few : List Row → List Edit → List WordValue
+controller_touched_few rows change = cache_few_touched (touched_policy_words rows change)
 
 -- the words that were listed are all of them, or both are too many to send
 abbrev pub ControllerListsTouched : List WordValue → List WordValue → Type 0

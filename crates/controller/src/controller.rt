@@ -1,14 +1,14 @@
 ghost use Rattle.std.specs.Prelude.{◌≡◌, ◌≢◌, ◌+◌, ◌-◌, ◌<◌, ◌≤◌, ◌↔◌, ◌++◌, [], map, length, not, Err, Some, IsTrue, IsFalse, IfOk, IfErr, OnOk, OnErr, if◌then◌else◌};
 ghost use Rattle.net_file.specs.Net.{IsNet};
-ghost use Rattle.ctrl_msg.specs.Kinds.{is_for_controller};
+ghost use Rattle.ctrl_msg.specs.Kinds.{is_body_for_controller};
 ghost use Rattle.ctrl_msg.specs.declared.message.Body.TheVariants.{Hello};
 ghost use Rattle.switch_table.specs.Tables.{AreSoundSwitchTables};
-ghost use Rattle.version_update.specs.Marks.{VersionMarksStaySettled, at_switch, record_of, with_version, MarksValue};
+ghost use Rattle.version_update.specs.Marks.{VersionMarksStaySettled, version_marks_with_switch_changed, update_record_of, version_marks_with_version, MarksValue};
 ghost use Rattle.version_update.specs.Record.{is_member, is_over, mark_record_after_over};
-ghost use Rattle.version_update.specs.Settling.{Settles};
+ghost use Rattle.version_update.specs.Settling.{SettlesVersionMarks};
 ghost use Rattle.version_update.specs.declared.marks.SubmitError.TheVariants.{TooManyLive, TooManyVersions};
 ghost use Rattle.version_update.specs.declared.record.Phase.TheVariants.{Joining, Member};
-ghost use Rattle.controller.specs.Exports.{IsSoundController, IsControllerLeftByRefusal, NamesWithinControllerMarks, ControllerReplyNamesExist, ControllerSettlesWith, ControllerStaysSound, ControllerSubmitsPlan, controller_record_after_reply, controller_recorded_boot, current_plan, current_plan_touched, controller_at_start, controller_hear_acts, controller_install_act, kept_plan_tables, controller_kept_plan_touched, controller_marks_after, controller_newest_policy, next_kept_plan, kept_plans_from, resend_acts, resend_acts_to, controller_settling_acts, controller_submit_acts, controller_switches_by_record};
+ghost use Rattle.controller.specs.Exports.{IsSoundController, IsControllerLeftByRefusal, NamesWithinControllerMarks, ControllerReplyNamesExist, ControllerSettlesWith, ControllerStaysSound, ControllerSubmitsPlan, controller_record_after_reply, controller_recorded_boot, controller_current_plan, controller_current_plan_touched, controller_at_start, controller_hear_acts, controller_install_act, controller_kept_plan_tables, controller_kept_plan_touched, controller_marks_after, controller_newest_policy, controller_next_kept_plan, controller_kept_plans_from, controller_resend_acts, controller_resend_acts_to, controller_settling_acts, controller_submit_acts, controller_switches_by_record};
 ghost use Rattle.base.specs.declared.error.Failure.TheVariants.{Refused, NoMemory};
 
 use crate::plan::Plan;
@@ -96,7 +96,7 @@ impl Controller {
     pub fn tables(&self, version: u32, s: u32) -> Result<SharedTables, AllocError>
         requires first { self.now.marks.current ≤ version }
         requires last { version ≤ self.now.marks.count }
-        ensures tables { IfOk result (λ tables. kept_plan_tables self.now version s ≡ Some tables) }
+        ensures tables { IfOk result (λ tables. controller_kept_plan_tables self.now version s ≡ Some tables) }
         ensures sound { IfOk result AreSoundSwitchTables }
     {
         let alloc = *self.versions.allocator();
@@ -107,7 +107,7 @@ impl Controller {
 
     /// The plan of the current version.
     pub fn current_plan(&self) -> &Plan
-        ensures { current_plan self.now ≡ Some result.now }
+        ensures { controller_current_plan self.now ≡ Some result.now }
     {
         self.versions[0].plan()
     }
@@ -121,16 +121,16 @@ impl Controller {
     /// but what it causes is lost.
     pub fn submit(&mut self, plan: Plan, touched: Touched) -> Result<Sends, Failure<SubmitError>>
         ensures after { OnOk result
-            (ControllerSubmitsPlan self.old (next_kept_plan self.old plan touched) self.new) }
+            (ControllerSubmitsPlan self.old (controller_next_kept_plan self.old plan touched) self.new) }
         ensures newest { OnOk result (controller_newest_policy self.new ≡ Some plan.policy) }
         ensures sends { IfOk result (λ sends.
-            sends ≡ controller_submit_acts self.old.marks (next_kept_plan self.old plan touched) self.new) }
+            sends ≡ controller_submit_acts self.old.marks (controller_next_kept_plan self.old plan touched) self.new) }
         ensures live { (result ≡ Err (Refused TooManyLive))
             ↔ (self.old.marks.count - self.old.marks.retired ≡ 8) }
         ensures versions { (result ≡ Err (Refused TooManyVersions))
             ↔ ((self.old.marks.count - self.old.marks.retired ≢ 8) × (self.old.marks.count ≡ 64)) }
         ensures refused { IfErr result
-            (IsControllerLeftByRefusal self.old (next_kept_plan self.old plan touched) self.new) }
+            (IsControllerLeftByRefusal self.old (controller_next_kept_plan self.old plan touched) self.new) }
         ensures rule { ControllerStaysSound self.old self.new }
     {
         let alloc = *self.versions.allocator();
@@ -153,8 +153,8 @@ impl Controller {
             (controller_marks_after body.now self.old.marks) self.old.plans self.new }
         ensures newest { controller_newest_policy self.new ≡ controller_newest_policy self.old }
         ensures sends { IfOk result (λ sends. sends ≡ controller_hear_acts body.now self.old.marks self.new) }
-        ensures others { IsFalse (is_for_controller body.now) → self.new ≡ self.old }
-        ensures silent { IsFalse (is_for_controller body.now)
+        ensures others { IsFalse (is_body_for_controller body.now) → self.new ≡ self.old }
+        ensures silent { IsFalse (is_body_for_controller body.now)
             → IfOk result (λ sends. sends ≡ []) }
         ensures rule { ControllerStaysSound self.old self.new }
     {
@@ -182,11 +182,11 @@ impl Controller {
     pub fn over(&mut self, s: u32) -> Result<Sends, AllocError>
         requires { s < length self.old.marks.switches }
         ensures after { ControllerSettlesWith
-            (at_switch s mark_record_after_over self.old.marks) self.old.plans self.new }
+            (version_marks_with_switch_changed s mark_record_after_over self.old.marks) self.old.plans self.new }
         ensures newest { controller_newest_policy self.new ≡ controller_newest_policy self.old }
         ensures sends { IfOk result (λ sends.
-            sends ≡ controller_settling_acts (current_plan_touched self.new)
-            (at_switch s mark_record_after_over self.old.marks) self.new.marks) }
+            sends ≡ controller_settling_acts (controller_current_plan_touched self.new)
+            (version_marks_with_switch_changed s mark_record_after_over self.old.marks) self.new.marks) }
         ensures rule { ControllerStaysSound self.old self.new }
     {
         let alloc = *self.versions.allocator();
@@ -200,7 +200,7 @@ impl Controller {
     /// Only out of memory.
     pub fn resend(&self, s: u32) -> Result<Sends, AllocError>
         requires { s < length self.now.marks.switches }
-        ensures { IfOk result (λ sends. sends ≡ resend_acts self.now s) }
+        ensures { IfOk result (λ sends. sends ≡ controller_resend_acts self.now s) }
     {
         let alloc = *self.versions.allocator();
         match self.marks.phase(s) {
@@ -212,7 +212,7 @@ impl Controller {
 
     fn resend_to_joining(&self, alloc: Global, s: u32) -> Result<Sends, AllocError>
         requires { s < length self.now.marks.switches }
-        ensures { IfOk result (λ sends. sends ≡ resend_acts_to Joining self.now s) }
+        ensures { IfOk result (λ sends. sends ≡ controller_resend_acts_to Joining self.now s) }
     {
         let mut acts = Vec::new(alloc);
         let current = self.marks.current();
@@ -222,8 +222,8 @@ impl Controller {
 
     fn resend_to_member(&self, alloc: Global, s: u32) -> Result<Sends, AllocError>
         requires switch { s < length self.now.marks.switches }
-        requires member { IsTrue (is_member (record_of self.now.marks s).phase) }
-        ensures { IfOk result (λ sends. sends ≡ resend_acts_to Member self.now s) }
+        requires member { IsTrue (is_member (update_record_of self.now.marks s).phase) }
+        ensures { IfOk result (λ sends. sends ≡ controller_resend_acts_to Member self.now s) }
     {
         let mut acts = Vec::new(alloc);
         let next = self.marks.current() + 1;
@@ -241,12 +241,12 @@ impl Controller {
         requires live { self.old.marks.count - self.old.marks.retired ≢ 8 }
         requires versions { self.old.marks.count ≢ 64 }
         ensures after { OnOk result
-            (ControllerSubmitsPlan self.old (next_kept_plan self.old plan touched) self.new) }
+            (ControllerSubmitsPlan self.old (controller_next_kept_plan self.old plan touched) self.new) }
         ensures newest { OnOk result (controller_newest_policy self.new ≡ Some plan.policy) }
         ensures sends { IfOk result (λ sends.
-            sends ≡ controller_submit_acts self.old.marks (next_kept_plan self.old plan touched) self.new) }
+            sends ≡ controller_submit_acts self.old.marks (controller_next_kept_plan self.old plan touched) self.new) }
         ensures left { OnErr result
-            (IsControllerLeftByRefusal self.old (next_kept_plan self.old plan touched) self.new NoMemory) }
+            (IsControllerLeftByRefusal self.old (controller_next_kept_plan self.old plan touched) self.new NoMemory) }
         ensures rule { ControllerStaysSound self.old self.new }
     {
         // For the proof: the contract of `hosted` says that the plan is sound.
@@ -263,7 +263,7 @@ impl Controller {
     // A body that isn't for the controller causes nothing: settled marks stay unchanged.
     fn unheard(&self, alloc: Global) -> Sends
         ensures none { result ≡ [] }
-        ensures idle { controller_settling_acts (current_plan_touched self.now) self.now.marks self.now.marks ≡ [] }
+        ensures idle { controller_settling_acts (controller_current_plan_touched self.now) self.now.marks self.now.marks ≡ [] }
         ensures after { ControllerSettlesWith self.now.marks self.now.plans self.now }
         ensures rule { IsSoundController self.now }
     {
@@ -295,11 +295,11 @@ impl Controller {
         version: u32,
     ) -> Result<Sends, AllocError>
         requires { NamesWithinControllerMarks s version self.old.marks }
-        ensures after { ControllerSettlesWith (at_switch s (controller_record_after_reply reply boot version) self.old.marks)
+        ensures after { ControllerSettlesWith (version_marks_with_switch_changed s (controller_record_after_reply reply boot version) self.old.marks)
             self.old.plans self.new }
         ensures sends { IfOk result (λ sends. sends
-            ≡ controller_settling_acts (current_plan_touched self.new)
-            (at_switch s (controller_record_after_reply reply boot version) self.old.marks) self.new.marks) }
+            ≡ controller_settling_acts (controller_current_plan_touched self.new)
+            (version_marks_with_switch_changed s (controller_record_after_reply reply boot version) self.old.marks) self.new.marks) }
         ensures rule { ControllerStaysSound self.old self.new }
     {
         let settled = reply.take_in(&mut self.marks, s, boot, version);
@@ -311,7 +311,7 @@ impl Controller {
 fn add_version(marks: &mut Marks) -> Settled
     requires live { marks.old.count - marks.old.retired ≢ 8 }
     requires versions { marks.old.count ≢ 64 }
-    ensures settled { Settles (with_version marks.old) marks.new result }
+    ensures settled { SettlesVersionMarks (version_marks_with_version marks.old) marks.new result }
     ensures rule { VersionMarksStaySettled marks.old marks.new }
 {
     match marks.submit() {
@@ -352,11 +352,11 @@ fn controller_hello_sends(
     s: u32,
     boot: u32,
 ) -> Result<Sends, AllocError>
-    ensures sends { (before : MarksValue) → Settles before marks.now settled.now
+    ensures sends { (before : MarksValue) → SettlesVersionMarks before marks.now settled.now
         → IfOk result (λ sends. sends
         ≡ controller_settling_acts (controller_kept_plan_touched versions.new.items marks.now.current) before marks.now
         ++ (if settled.now.taken then map (controller_install_act s boot) versions.new.items else [])) }
-    ensures versions { versions.new.items ≡ kept_plans_from marks.now.current versions.old.items }
+    ensures versions { versions.new.items ≡ controller_kept_plans_from marks.now.current versions.old.items }
 {
     let mut acts = Vec::new(alloc);
     settle_controller_versions(&mut acts, versions, marks, settled)?;

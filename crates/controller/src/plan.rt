@@ -1,8 +1,8 @@
 ghost use Rattle.std.specs.Prelude.{◌≡◌, ◌<◌, length, map, All, IfOk};
 ghost use Rattle.std.specs.List.{zip};
-ghost use Rattle.switch_table.specs.Tables.{part_of, row_of};
-ghost use Rattle.controller.specs.Leads.{PlanLeadsEveryHeader};
-ghost use Rattle.controller.specs.Plan.{IsSoundPlan};
+ghost use Rattle.switch_table.specs.Tables.{switch_table_part_of, switch_table_row_of_hosted};
+ghost use Rattle.controller.specs.Leads.{ControllerPlanLeadsEveryHeader};
+ghost use Rattle.controller.specs.Plan.{IsSoundControllerPlan};
 
 use policy_rules::{Partition, Policy, Targets};
 use std::alloc::{AllocError, Global};
@@ -28,20 +28,20 @@ struct PlanParts {
 
 impl Model for Plan {
     ghost use Rattle.std.specs.Prelude.{◌≡◌, map};
-    ghost use Rattle.switch_table.specs.Tables.{row_of};
-    ghost use Rattle.controller.specs.Plan.{PlanValue, IsSoundPlan};
+    ghost use Rattle.switch_table.specs.Tables.{switch_table_row_of_hosted};
+    ghost use Rattle.controller.specs.Plan.{ControllerPlanValue, IsSoundControllerPlan};
 
-    ghost Value = { PlanValue };
+    ghost Value = { ControllerPlanValue };
 
     ghost view = { λ p. record {
       policy = p.shared.value.policy;
       hosted = p.shared.value.hosted.items;
     } };
 
-    ghost invariant = { λ p. IsSoundPlan (record {
+    ghost invariant = { λ p. IsSoundControllerPlan (record {
       policy = p.shared.value.policy;
       hosted = p.shared.value.hosted.items;
-    }) × (p.shared.value.rows ≡ map row_of p.shared.value.hosted.items) };
+    }) × (p.shared.value.rows ≡ map switch_table_row_of_hosted p.shared.value.hosted.items) };
 }
 
 impl Plan {
@@ -56,7 +56,7 @@ impl Plan {
         targets: &[Targets],
     ) -> Result<Plan, AllocError>
         requires each { length targets.now ≡ length parts.items }
-        requires sound { IsSoundPlan (record {
+        requires sound { IsSoundControllerPlan (record {
           policy = policy;
           hosted = zip parts.items targets.now;
         }) }
@@ -85,9 +85,9 @@ impl Plan {
         requires { length targets.items ≡ length self.hosted }
         ensures policy { IfOk result (λ plan. plan.policy ≡ self.policy) }
         ensures hosted { IfOk result (λ plan.
-            plan.hosted ≡ zip (map part_of self.hosted) targets.items) }
+            plan.hosted ≡ zip (map switch_table_part_of self.hosted) targets.items) }
         ensures leads { All (λ switches. 0 < length switches) targets.items
-            → IfOk result (λ plan. PlanLeadsEveryHeader self.policy plan.hosted) }
+            → IfOk result (λ plan. ControllerPlanLeadsEveryHeader self.policy plan.hosted) }
     {
         let parts = parts_of(alloc, self.hosted())?;
         let policy = self.policy().clone()?;
@@ -105,14 +105,14 @@ impl Plan {
     /// The partitions, by their numbers, each with its targets.
     pub fn hosted(&self) -> &[(Partition, Targets)]
         ensures hosted { result.now ≡ self.now.hosted }
-        ensures sound { IsSoundPlan self.now }
+        ensures sound { IsSoundControllerPlan self.now }
     {
         &self.shared.hosted
     }
 
     /// The regions with their targets, by the numbers of the partitions.
     pub fn rows(&self) -> &PartRows
-        ensures { result.now ≡ map row_of self.now.hosted }
+        ensures { result.now ≡ map switch_table_row_of_hosted self.now.hosted }
     {
         &self.shared.rows
     }
@@ -147,7 +147,7 @@ pub fn parts_of(
     alloc: Global,
     hosted: &[(Partition, Targets)],
 ) -> Result<Vec<Partition>, AllocError>
-    ensures { IfOk result (λ parts. parts.items ≡ map part_of hosted.now) }
+    ensures { IfOk result (λ parts. parts.items ≡ map switch_table_part_of hosted.now) }
 {
     let mut parts = Vec::with_capacity(alloc, hosted.len())?;
     for (part, _) in hosted {
@@ -161,7 +161,7 @@ fn controller_plan_rows_of(
     alloc: Global,
     hosted: &[(Partition, Targets)],
 ) -> Result<PartRows, AllocError>
-    ensures { IfOk result (λ rows. rows ≡ map row_of hosted.now) }
+    ensures { IfOk result (λ rows. rows ≡ map switch_table_row_of_hosted hosted.now) }
 {
     let mut rows = Vec::with_capacity(alloc, hosted.len())?;
     for (part, targets) in hosted {

@@ -1,7 +1,7 @@
 ghost use Rattle.std.specs.Prelude.{◌≡◌, ◌^◌, ◌<◌, length, All, Ok, IfOk, IfErr};
 ghost use Rattle.net_file.specs.Net.{IsNet};
-ghost use Rattle.partition.specs.Plan.{IsPartitionPlan, partition_plan_of, rooms_of, sizes_of};
-ghost use Rattle.controller.specs.Leads.{PlanLeadsEveryHeader};
+ghost use Rattle.partition.specs.Plan.{IsPartitionPlan, partition_plan_of, partition_switch_rooms_of, partition_sizes_of};
+ghost use Rattle.controller.specs.Leads.{ControllerPlanLeadsEveryHeader};
 ghost use Rattle.controller.specs.Plan.{ControllerRefusesPlan};
 
 use crate::plan::Plan;
@@ -25,7 +25,7 @@ pub fn compile(alloc: Global, policy: &Policy, net: &Net) -> Result<Plan, PlanEr
     requires { IsNet net.now }
     ensures plan { IfOk result (λ plan. partition_plan_of policy.now net.now ≡ Ok plan.hosted) }
     ensures parts { IfOk result (λ plan. IsPartitionPlan policy.now net.now plan.hosted) }
-    ensures leads { IfOk result (λ plan. PlanLeadsEveryHeader policy.now plan.hosted) }
+    ensures leads { IfOk result (λ plan. ControllerPlanLeadsEveryHeader policy.now plan.hosted) }
     ensures policy { IfOk result (λ plan. plan.policy ≡ policy.now) }
     ensures refused { IfErr result (ControllerRefusesPlan policy.now net.now) }
 {
@@ -47,7 +47,7 @@ pub fn compile(alloc: Global, policy: &Policy, net: &Net) -> Result<Plan, PlanEr
 /// Only out of memory.
 pub fn sizes_of(alloc: Global, parts: &[Partition]) -> Result<Vec<u32>, AllocError>
     requires { All (λ part. length part.rules < 2 ^ 32) parts.now }
-    ensures { IfOk result (λ sizes. sizes.items ≡ sizes_of parts.now) }
+    ensures { IfOk result (λ sizes. sizes.items ≡ partition_sizes_of parts.now) }
 {
     let mut sizes = Vec::with_capacity(alloc, parts.len())?;
     for part in parts {
@@ -61,7 +61,7 @@ pub fn sizes_of(alloc: Global, parts: &[Partition]) -> Result<Vec<u32>, AllocErr
 /// # Errors
 /// Only out of memory.
 pub fn rooms_of(alloc: Global, net: &Net) -> Result<Vec<u32>, AllocError>
-    ensures { IfOk result (λ rooms. rooms.items ≡ rooms_of net.now) }
+    ensures { IfOk result (λ rooms. rooms.items ≡ partition_switch_rooms_of net.now) }
 {
     let rows = net.switches.items();
     rows.iter().map(|row| row.room).collect(alloc)

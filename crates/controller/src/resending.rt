@@ -1,9 +1,9 @@
 //! Sends a switch again what it may lack.
 ghost use Rattle.std.specs.Prelude.{◌≡◌, ◌++◌, ◌+◌, ◌<◌, ◌≤◌, ◌&&◌, length, All, IsTrue, OnOk};
 ghost use Rattle.version_update.specs.Record.{is_member};
-ghost use Rattle.version_update.specs.Marks.{record_of};
+ghost use Rattle.version_update.specs.Marks.{update_record_of};
 ghost use Rattle.controller.specs.Controller.{controller_kept_plan_touched};
-ghost use Rattle.controller.specs.Sends.{is_missing, controller_missing_installs, controller_stamp_again, controller_resend_collects};
+ghost use Rattle.controller.specs.Sends.{is_missing_controller_install, controller_missing_installs, controller_stamp_again, controller_resend_collects};
 
 use crate::sends::Act;
 use crate::settling::controller_touched_by_version;
@@ -44,7 +44,7 @@ fn is_controller_install_missing(marks: &Marks, version: u32, s: u32, first: u32
     requires switch { s < length marks.now.switches }
     requires one { 1 ≤ version }
     requires last { version ≤ marks.now.count }
-    ensures { result ≡ is_missing (record_of marks.now s) first version }
+    ensures { result ≡ is_missing_controller_install (update_record_of marks.now s) first version }
 {
     first <= version && !marks.has_acked(s, version)
 }
@@ -60,7 +60,7 @@ pub fn controller_stamp_again(
     s: u32,
 ) -> Result<(), AllocError>
     requires switch { s < length marks.now.switches }
-    requires member { IsTrue (is_member (record_of marks.now s).phase) }
+    requires member { IsTrue (is_member (update_record_of marks.now s).phase) }
     ensures { OnOk result (acts.new.items ≡ acts.old.items
         ++ controller_stamp_again (controller_kept_plan_touched versions.now marks.now.current) marks.now s) }
 {

@@ -2,8 +2,8 @@
 ghost use Rattle.std.specs.Prelude.{◌≡◌, ◌==◌, ◌∷◌, ◌++◌, ◌<◌, [], length, find, IfOk, OnOk};
 ghost use Rattle.std.specs.Option.{option_copied};
 ghost use Rattle.version_update.specs.Marks.{MarksValue};
-ghost use Rattle.version_update.specs.Settling.{Settles};
-ghost use Rattle.controller.specs.Exports.{controller_news_body, controller_kept_plan_touched, kept_plans_from, controller_settling_acts, controller_switches_in_mask, controller_posts_to};
+ghost use Rattle.version_update.specs.Settling.{SettlesVersionMarks};
+ghost use Rattle.controller.specs.Exports.{controller_news_body, controller_kept_plan_touched, controller_kept_plans_from, controller_settling_acts, controller_switches_in_mask, controller_posts_to};
 
 use crate::sends::{Act, Sends};
 use crate::version::Version;
@@ -50,10 +50,10 @@ pub fn settle_controller_versions(
     marks: &Marks,
     settled: &Settled,
 ) -> Result<(), AllocError>
-    ensures acts { OnOk result ((before : MarksValue) → Settles before marks.now settled.now
+    ensures acts { OnOk result ((before : MarksValue) → SettlesVersionMarks before marks.now settled.now
         → acts.new.items ≡ acts.old.items
         ++ controller_settling_acts (controller_kept_plan_touched versions.new.items marks.now.current) before marks.now) }
-    ensures versions { versions.new.items ≡ kept_plans_from marks.now.current versions.old.items }
+    ensures versions { versions.new.items ≡ controller_kept_plans_from marks.now.current versions.old.items }
 {
     drop_old_plans(versions, marks.current());
     if let Some(current) = settled.current {
@@ -96,10 +96,10 @@ pub fn controller_settled_sends(
     marks: &Marks,
     settled: &Settled,
 ) -> Result<Sends, AllocError>
-    ensures sends { (before : MarksValue) → Settles before marks.now settled.now
+    ensures sends { (before : MarksValue) → SettlesVersionMarks before marks.now settled.now
         → IfOk result (λ sends. sends
         ≡ controller_settling_acts (controller_kept_plan_touched versions.new.items marks.now.current) before marks.now) }
-    ensures versions { versions.new.items ≡ kept_plans_from marks.now.current versions.old.items }
+    ensures versions { versions.new.items ≡ controller_kept_plans_from marks.now.current versions.old.items }
 {
     let mut acts = Vec::new(alloc);
     settle_controller_versions(&mut acts, versions, marks, settled)?;
@@ -108,7 +108,7 @@ pub fn controller_settled_sends(
 
 // Drops the versions before the current one: no later call names them.
 fn drop_old_plans(versions: &mut Vec<Version>, current: u32)
-    ensures { versions.new.items ≡ kept_plans_from current versions.old.items }
+    ensures { versions.new.items ≡ controller_kept_plans_from current versions.old.items }
 {
     versions.retain(|kept| current <= kept.version());
 }

@@ -1,6 +1,6 @@
 ghost use Rattle.std.specs.Prelude.{◌≡◌, map, filter, nat_eq, IfOk};
 ghost use Rattle.std.specs.List.{list_any};
-ghost use Rattle.switch_table.specs.Tables.{AreSoundSwitchTables, has_target, part_of, tables_of};
+ghost use Rattle.switch_table.specs.Tables.{AreSoundSwitchTables, switch_table_part_has_target, switch_table_part_of, tables_of};
 
 use crate::plan::Plan;
 use policy_rules::{Partition, Targets};
@@ -33,7 +33,7 @@ fn parts_of(
     s: u32,
 ) -> Result<Vec<Partition>, AllocError>
     ensures { IfOk result (λ parts.
-        parts.items ≡ map part_of (filter (has_target s) hosted.now)) }
+        parts.items ≡ map switch_table_part_of (filter (switch_table_part_has_target s) hosted.now)) }
 {
     let mut parts = Vec::new(alloc);
     for (part, targets) in hosted {

@@ -3,9 +3,9 @@ ghost use Rattle.std.specs.Prelude.{◌≡◌, ◌==◌, [], IfOk, OnOk, All, fi
 ghost use Rattle.std.specs.List.{flat_map};
 ghost use Rattle.std.specs.Option.{option_copied, option_map_or};
 ghost use Rattle.policy_rules.specs.Exports.{IsSoundPolicyRow};
-ghost use Rattle.policy_rules.specs.Words.{words_of_row};
+ghost use Rattle.policy_rules.specs.Words.{words_of_policy_row};
 ghost use Rattle.switch_table.specs.Carried.{cache_few_touched};
-ghost use Rattle.controller.specs.Exports.{ControllerListsMoreTouched, touched_few};
+ghost use Rattle.controller.specs.Exports.{ControllerListsMoreTouched, controller_touched_few};
 
 use policy_rules::{Amendment, Policy, Row, push_policy_row_words};
 use std::alloc::{AllocError, Global};
@@ -22,7 +22,7 @@ const MAX_TOLD: usize = 16;
 /// # Errors
 /// Only out of memory.
 pub fn touched(alloc: Global, policy: &Policy, change: &Amendment) -> Result<Touched, AllocError>
-    ensures { IfOk result (λ touched. touched ≡ touched_few policy.now change.now) }
+    ensures { IfOk result (λ touched. touched ≡ controller_touched_few policy.now change.now) }
 {
     let mut words = Vec::new(alloc);
     controller_touch_removed_rows(&mut words, policy.rows(), change.removed())?;
@@ -47,7 +47,7 @@ fn controller_touch_removed_rows(
     removed: &[u32],
 ) -> Result<(), AllocError>
     requires { All IsSoundPolicyRow rows.now }
-    ensures { OnOk result (ControllerListsMoreTouched words.old.items words.new.items (flat_map words_of_row
+    ensures { OnOk result (ControllerListsMoreTouched words.old.items words.new.items (flat_map words_of_policy_row
         (filter_map (λ priority. find (λ row. row.priority == priority) rows.now) removed.now))) }
 {
     for priority in removed {
@@ -60,7 +60,7 @@ fn controller_touch_removed_rows(
 fn controller_touch_added_rows(words: &mut Vec<Word>, rows: &[Row]) -> Result<(), AllocError>
     requires { All IsSoundPolicyRow rows.now }
     ensures { OnOk result (ControllerListsMoreTouched words.old.items words.new.items
-        (flat_map words_of_row rows.now)) }
+        (flat_map words_of_policy_row rows.now)) }
 {
     for row in rows {
         controller_touch_row(words, row)?;
@@ -77,7 +77,7 @@ fn controller_touch_row_of(
 ) -> Result<(), AllocError>
     requires { All IsSoundPolicyRow rows.now }
     ensures { OnOk result (ControllerListsMoreTouched words.old.items words.new.items
-        (option_map_or words_of_row (find (λ row. row.priority == priority) rows.now) [])) }
+        (option_map_or words_of_policy_row (find (λ row. row.priority == priority) rows.now) [])) }
 {
     if words.len() > MAX_TOLD {
         return Ok(());
@@ -97,7 +97,7 @@ fn controller_row_of_priority(rows: &[Row], priority: u32) -> Option<&Row>
 // Adds the words of a row, unless there are already more than may be sent.
 fn controller_touch_row(words: &mut Vec<Word>, row: &Row) -> Result<(), AllocError>
     requires { IsSoundPolicyRow row.now }
-    ensures { OnOk result (ControllerListsMoreTouched words.old.items words.new.items (words_of_row row.now)) }
+    ensures { OnOk result (ControllerListsMoreTouched words.old.items words.new.items (words_of_policy_row row.now)) }
 {
     if words.len() > MAX_TOLD {
         return Ok(());

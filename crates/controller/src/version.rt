@@ -26,9 +26,9 @@ pub struct Version {
 
 impl Model for Version {
     ghost use Rattle.std.specs.Prelude.{◌≡◌, length};
-    ghost use Rattle.controller.specs.Controller.{KeptPlan, tables_by_switch};
+    ghost use Rattle.controller.specs.Controller.{ControllerKeptPlan, controller_tables_by_switch};
 
-    ghost Value = { KeptPlan };
+    ghost Value = { ControllerKeptPlan };
 
     ghost view = { λ v. record {
       version = v.version;
@@ -36,7 +36,7 @@ impl Model for Version {
       touched = v.touched;
     } };
 
-    ghost invariant = { λ v. v.made.items ≡ tables_by_switch
+    ghost invariant = { λ v. v.made.items ≡ controller_tables_by_switch
         (record { version = v.version; plan = v.plan; touched = v.touched })
         (length v.made.items) };
 }

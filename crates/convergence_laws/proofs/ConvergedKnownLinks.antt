@@ -1,14 +1,14 @@
 -- So of the links that end where it reaches, a switch knows exactly the usable ones.
 use Rattle.std.proofs.Common.{[], ◌&&◌, ◌++◌, ◌<◌, ◌==◌, ◌∙◌, ◌∷◌, ◌≡◌, ◌≢◌, ◌⊎◌, All, Bool, IsTrue, List, None, Some, ap, arith, false, get_or, get_or-set_other, get_or-set_same, inl, inr, length, map, not, refl, set, slice_index, subst, sym, true, ℕ, rules}
 use Rattle.base.proofs.Exports.{All-from_recursion, cases_eq, length-map, nat_tests}
-use Rattle.failover.specs.Exports.{AreJoinedByLinks, LinksLeadTo, has_route_link, is_route_link, neighbours_by_adverts, neighbours_named_by_advert}
+use Rattle.failover.specs.Exports.{AreJoinedByFailoverLinks, FailoverLinksLeadTo, link_set_has, is_known_route_link, neighbours_by_adverts, neighbours_named_by_advert}
 use Rattle.update_machine.specs.Exports.{Advert, Item, Setting, journal_advert_known, journal_adverts_known, journal_adverts_of_others, is_up, journal_links_known, near, own_advert, journal_route_from, serves}
 use Rattle.base.specs.Exports.{has}
 use Rattle.net_file.specs.Exports.{IsNet, are_linked_in_net}
-use Rattle.steps.specs.Exports.{HasSwitch}
-use Rattle.control_laws.specs.Exports.{OwnAdvertsAreNewest}
+use Rattle.steps.specs.Exports.{StepSwitchExists}
+use Rattle.control_laws.specs.Exports.{ControlOwnAdvertsAreNewest}
 use Rattle.control_laws.proofs.Exports.{claimed_mask, ends_serve, near_linked, own_origin, second}
-use Rattle.convergence_laws.specs.Exports.{AreConvergenceUnusableLinks, HasConverged, IsConvergenceAdvertAsNew, ConvergenceLeadsOverUsableNeighbours, NeighboursAgree, Reaches}
+use Rattle.convergence_laws.specs.Exports.{AreConvergenceUnusableLinks, HasConverged, IsConvergenceAdvertAsNew, ConvergenceLeadsOverUsableNeighbours, ConvergenceNeighboursAgree, ConvergenceReaches}
 use Rattle.convergence_laws.proofs.ConvergenceAgreement.{TellsOwn}
 use Rattle.convergence_laws.proofs.ConvergenceLinkChanges.{AreEnds, ends_there, near_back, near_both, own_held}
 use Rattle.policy_rules.proofs.PolicyRulesCallerLemmas.{each_weaker}
@@ -23,8 +23,8 @@ use Rattle.update_machine.proofs.Exports.{has_known_link, known_places, unreache
 
 pub record AreAgreed (setting : Setting) (journal : List Item) : Type 0 where
   pub net : IsNet setting.net
-  pub agree : NeighboursAgree setting journal
-  pub newest : OwnAdvertsAreNewest setting journal
+  pub agree : ConvergenceNeighboursAgree setting journal
+  pub newest : ControlOwnAdvertsAreNewest setting journal
   pub tells : TellsOwn setting journal
 
 abbrev pub HoldsOwn : Setting → List Item → ℕ → ℕ → Type 0
@@ -82,7 +82,7 @@ leads_hold setting journal are origin at (next ∷ rest) small up leads =
 
 -- where links lead is a switch of the network that is up
 pub record IsThere (setting : Setting) (journal : List Item) (s : ℕ) : Type 0 where
-  pub there : HasSwitch setting.net s
+  pub there : StepSwitchExists setting.net s
   pub up : IsTrue (is_up journal s)
 
 leads_there : (setting : Setting) (journal : List Item) → AreAgreed setting journal
@@ -95,17 +95,17 @@ leads_there setting journal are target at (next ∷ rest) is leads =
       up = serving_up setting journal are next (ends_serve setting journal at next leads.0).1;
     }) leads.1
 
-pub small_of : (setting : Setting) → IsNet setting.net → (s : ℕ) → HasSwitch setting.net s → s < 64
+pub small_of : (setting : Setting) → IsNet setting.net → (s : ℕ) → StepSwitchExists setting.net s → s < 64
 small_of setting net s there = omega (arith, there, net.few_switches)
 
 pub reached_holds : (setting : Setting) (journal : List Item) → AreAgreed setting journal
-    → (s origin : ℕ) → IsThere setting journal s → Reaches setting journal s origin
+    → (s origin : ℕ) → IsThere setting journal s → ConvergenceReaches setting journal s origin
     → HoldsOwn setting journal s origin
 reached_holds setting journal are s origin is reaches =
     search (rules, leads_there, leads_hold, small_of)
 
 pub adverts_reach : (setting : Setting) (journal : List Item) → AreAgreed setting journal
-    → (s origin : ℕ) → s ≢ origin → Reaches setting journal s origin
+    → (s origin : ℕ) → s ≢ origin → ConvergenceReaches setting journal s origin
     → journal_advert_known setting journal s origin ≡ Some (own_advert setting journal origin)
 adverts_reach setting journal are s origin apart reaches = by_holds (reached_holds setting journal
     are s origin (begins reaches.rest reaches.leads) reaches)
@@ -153,8 +153,8 @@ mask_known setting journal s z small holds = by_place (cases_eq z s) holds where
 -- ---- known links
 
 pub reach_more : (setting : Setting) (journal : List Item) (from at next : ℕ)
-    → Reaches setting journal from at → IsTrue (has (near setting journal at) next)
-    → Reaches setting journal from next
+    → ConvergenceReaches setting journal from at → IsTrue (has (near setting journal at) next)
+    → ConvergenceReaches setting journal from next
 reach_more setting journal from at next reaches linked = record {
   rest = reaches.rest ++ next ∷ [];
   leads = longer from reaches.rest reaches.leads;
@@ -169,10 +169,10 @@ four : (w x y z : Bool) → w ≡ false → x ≡ true → y ≡ true → z ≡ 
 four w x y z p q r t = rw (p, q, r, t) refl
 
 known_usable : (setting : Setting) (journal : List Item) → AreAgreed setting journal
-    → (s one other : ℕ) (down : List ℕ) → IsThere setting journal s → Reaches setting journal s one
-    → one < 64 → other < 64 → AreJoinedByLinks (journal_links_known setting journal s down) one other
+    → (s one other : ℕ) (down : List ℕ) → IsThere setting journal s → ConvergenceReaches setting journal s one
+    → one < 64 → other < 64 → AreJoinedByFailoverLinks (journal_links_known setting journal s down) one other
     → IsTrue (has (near setting journal one) other)
-unfolding is_route_link
+unfolding is_known_route_link
 known_usable setting journal are s one other down is reaches small fits joined =
     let rows = neighbours_by_adverts (journal_adverts_known setting journal s) s (near setting journal s) in
     subst (λ mask. IsTrue (has mask other))
@@ -181,10 +181,10 @@ known_usable setting journal are s one other down is reaches small fits joined =
     (second _ _ _ _ (sym (has_known_link setting journal s down one other small fits) ∙ joined))
 
 usable_known : (setting : Setting) (journal : List Item) → AreAgreed setting journal
-    → (s one other : ℕ) (down : List ℕ) → IsThere setting journal s → Reaches setting journal s one
+    → (s one other : ℕ) (down : List ℕ) → IsThere setting journal s → ConvergenceReaches setting journal s one
     → AreConvergenceUnusableLinks setting journal down → IsTrue (has (near setting journal one) other)
-    → AreJoinedByLinks (journal_links_known setting journal s down) one other
-unfolding is_route_link
+    → AreJoinedByFailoverLinks (journal_links_known setting journal s down) one other
+unfolding is_known_route_link
 usable_known setting journal are s one other down is reaches unusable linked =
     let rows : List ℕ = neighbours_by_adverts (journal_adverts_known setting journal s) s (near setting journal s) in
     let s_small : s < 64 = small_of setting are.net s is.there in
@@ -201,7 +201,7 @@ usable_known setting journal are s one other down is reaches unusable linked =
     ∙ near_both setting journal one other small linked in
     has_known_link setting journal s down one other small fits
     ∙ four (one == other) (has (slice_index rows one) other) (has (slice_index rows other) one)
-    (has_route_link down one other) apart named back (unusable one other linked)
+    (link_set_has down one other) apart named back (unusable one other linked)
   where
     apart : (one == other) ≡ false
     apart = by_test (one == other) refl where
@@ -213,7 +213,7 @@ usable_known setting journal are s one other down is reaches unusable linked =
 
 -- where links lead is a switch with a number below 64
 reached_small : (setting : Setting) (journal : List Item) → AreAgreed setting journal
-    → (s target : ℕ) → HasSwitch setting.net s → (rest : List ℕ)
+    → (s target : ℕ) → StepSwitchExists setting.net s → (rest : List ℕ)
     → ConvergenceLeadsOverUsableNeighbours setting journal target s rest → target < 64
 reached_small setting journal are s target there [] leads = omega (arith, small_of)
 reached_small setting journal are s target there (next ∷ rest) leads = reached_small setting journal
@@ -223,9 +223,9 @@ reached_small setting journal are s target there (next ∷ rest) leads = reached
 
 leads_known : (setting : Setting) (journal : List Item) → AreAgreed setting journal
     → (s target : ℕ) (down : List ℕ) → IsThere setting journal s
-    → AreConvergenceUnusableLinks setting journal down → (at : ℕ) (rest : List ℕ) → Reaches setting journal s at
+    → AreConvergenceUnusableLinks setting journal down → (at : ℕ) (rest : List ℕ) → ConvergenceReaches setting journal s at
     → ConvergenceLeadsOverUsableNeighbours setting journal target at rest
-    → LinksLeadTo (journal_links_known setting journal s down) target at rest
+    → FailoverLinksLeadTo (journal_links_known setting journal s down) target at rest
 leads_known setting journal are s target down is unusable at [] reaches leads = leads
 leads_known setting journal are s target down is unusable at (next ∷ rest) reaches leads = (
   small_of setting are.net next (ends_there setting journal at next are.net leads.0).other,
@@ -237,7 +237,7 @@ leads_known setting journal are s target down is unusable at (next ∷ rest) rea
 way_known : (setting : Setting) (journal : List Item) → AreAgreed setting journal
     → (s target : ℕ) (down : List ℕ) → AreConvergenceUnusableLinks setting journal down → (rest : List ℕ)
     → ConvergenceLeadsOverUsableNeighbours setting journal target s rest
-    → LinksLeadTo (journal_links_known setting journal s down) target s rest
+    → FailoverLinksLeadTo (journal_links_known setting journal s down) target s rest
 way_known setting journal are s target down unusable [] leads = leads
 way_known setting journal are s target down unusable (next ∷ rest) leads =
     leads_known setting journal are s target down (record {
@@ -246,12 +246,12 @@ way_known setting journal are s target down unusable (next ∷ rest) leads =
     }) unusable s (next ∷ rest) (record { rest = []; leads = refl }) leads
 
 stuck_apart : (setting : Setting) (journal : List Item) → AreAgreed setting journal
-    → (s : ℕ) (targets down : List ℕ) → HasSwitch setting.net s
+    → (s : ℕ) (targets down : List ℕ) → StepSwitchExists setting.net s
     → AreConvergenceUnusableLinks setting journal down → journal_route_from setting journal s targets down ≡ None
-    → All (λ target. Reaches setting journal s target → ⊥) targets
+    → All (λ target. ConvergenceReaches setting journal s target → ⊥) targets
 stuck_apart setting journal are s targets down there unusable none =
-    All-from_recursion (λ target. Reaches setting journal s target → ⊥) targets
-    (each_weaker _ (λ target. Reaches setting journal s target → ⊥) (λ target unreached reaches.
+    All-from_recursion (λ target. ConvergenceReaches setting journal s target → ⊥) targets
+    (each_weaker _ (λ target. ConvergenceReaches setting journal s target → ⊥) (λ target unreached reaches.
     unreached (straight_path (journal_links_known setting journal s down) s target reaches.rest
     (length-known_links (journal_adverts_of_others setting journal s) s (near setting journal s) down)
     (small_of setting are.net s there) (way_known setting journal are s target down unusable

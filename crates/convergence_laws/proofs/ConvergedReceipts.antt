@@ -1,9 +1,9 @@
 -- In a quiet journal what matters was heard, or what replaces it.
 use Rattle.std.proofs.Common.{[], ◌&&◌, ◌++◌, ◌<◌, ◌==◌, ◌||◌, ◌∙◌, ◌∷◌, ◌≡◌, ◌≤◌, ◌⊎◌, Bool, IsFalse, IsTrue, List, Some, ap, append-nil, append_assoc, arith, eq-eqb, eqb-true, false, inl, inr, refl, subst, sym, true, ℕ, rules}
 use Rattle.base.proofs.Exports.{list_any, nat_tests, ⊤}
-use Rattle.ctrl_msg.specs.Exports.{body_boot, to_controller}
-use Rattle.update_machine.specs.Exports.{AreMachineMessagesReceived, Body, JournalItemsHaveCauses, IsQuietMachineJournal, IsJournalMessageReceived, IsJournalMessageReplaced, Item, Message, Place, MachineMessageReplaces, Sending, Setting, are_machine_tables_old, item_begins_boot, journal_receiver_boot_at, journal_boot_of, changes_journal_sendings, journal_controller_heard, journal_current_mark, folded_journal_from, heard, is_journal_body_for_boot, is_machine_later_body, is_machine_ack_below_version, is_up, matters, sendings, machine_speaking_in_body, machine_message_to_switch, was_delivered}
-use Rattle.steps.specs.Exports.{HasSwitch}
+use Rattle.ctrl_msg.specs.Exports.{body_boot, message_to_controller}
+use Rattle.update_machine.specs.Exports.{AreMachineMessagesReceived, Body, JournalItemsHaveCauses, IsQuietMachineJournal, IsJournalMessageReceived, IsJournalMessageReplaced, Item, Message, Place, MachineMessageReplaces, MachineSending, Setting, are_machine_tables_old, machine_item_begins_boot, journal_receiver_boot_at, journal_boot_of, changes_journal_sendings, journal_controller_heard, journal_current_mark, folded_journal_from, heard, is_journal_body_for_boot, is_machine_later_body, is_machine_ack_below_version, is_up, machine_message_matters, machine_sendings, machine_speaking_in_body, machine_message_to_switch, was_delivered_in_journal}
+use Rattle.steps.specs.Exports.{StepSwitchExists}
 use Rattle.update_machine.proofs.Exports.{count_of_append}
 use Rattle.control_laws.specs.Exports.{HasControlItemCause}
 use Rattle.control_laws.proofs.Exports.{boot_more, boot_rises, have_weaker}
@@ -16,57 +16,57 @@ use Rattle.convergence_laws.proofs.ConvergenceMessages.{AreTraced, IsInOrder, Is
 pub record IsSentAs (journal : List Item) (message : Message) : Type 0 where
   pub number : ℕ
   pub boot : ℕ
-  pub is : IsIn (record { number = number; message = message; boot = boot }) (sendings journal)
+  pub is : IsIn (record { number = number; message = message; boot = boot }) (machine_sendings journal)
 
 pub sent_as : (journal : List Item) (message : Message) → IsSent journal message
     → IsSentAs journal message
-sent_as journal message sent = let x : Sending = sent.sending in record {
+sent_as journal message sent = let x : MachineSending = sent.sending in record {
   number = x.number;
   boot = x.boot;
-  is = subst (λ y. IsIn y (sendings journal))
+  is = subst (λ y. IsIn y (machine_sendings journal))
       (ap (λ m. record { number = x.number; message = m; boot = x.boot }) sent.of) sent.is;
 }
 
-pub sendings_on : (journal items : List Item) (x : Sending) → IsIn x (sendings journal)
-    → IsIn x (sendings (journal ++ items))
-sendings_on journal [] x is = subst (λ now. IsIn x (sendings now)) (sym (append-nil journal)) is
+pub sendings_on : (journal items : List Item) (x : MachineSending) → IsIn x (machine_sendings journal)
+    → IsIn x (machine_sendings (journal ++ items))
+sendings_on journal [] x is = subst (λ now. IsIn x (machine_sendings now)) (sym (append-nil journal)) is
 sendings_on journal (next ∷ items) x is = rw (append_assoc journal (next ∷ []) items) at
     (sendings_on (journal ++ next ∷ []) items x
-    (rw (sendings_more journal next) (in_left x (sendings journal) (sent_by journal next) is)))
+    (rw (sendings_more journal next) (in_left x (machine_sendings journal) (sent_by journal next) is)))
 
 -- what an item of a journal sends
 pub in_sendings : (journal front : List Item) (number : ℕ) (message : Message) (rest : List Item)
     → journal ≡ front ++ Item.Sent number message ∷ rest
     → IsIn (record { number = number; message = message; boot = journal_receiver_boot_at front message.to })
-    (sendings journal)
+    (machine_sendings journal)
 in_sendings journal front number message rest is =
     let next : Item = Item.Sent number message in
-    let x : Sending = record {
+    let x : MachineSending = record {
       number = number;
       message = message;
       boot = journal_receiver_boot_at front message.to;
     } in
-    subst (λ now. IsIn x (sendings now)) (append_assoc front (next ∷ []) rest ∙ sym is)
+    subst (λ now. IsIn x (machine_sendings now)) (append_assoc front (next ∷ []) rest ∙ sym is)
     (sendings_on (front ++ next ∷ []) rest x
-    (rw (sendings_more front next) (in_right x (sendings front) (sent_by front next) (inl refl))))
+    (rw (sendings_more front next) (in_right x (machine_sendings front) (sent_by front next) (inl refl))))
 
 -- where a message was sent: by one of these items after a journal; if it matters, it was received
-record IsSentBehind (setting : Setting) (journal before items : List Item) (x : Sending)
+record IsSentBehind (setting : Setting) (journal before items : List Item) (x : MachineSending)
     : Type 0 where
   between : List Item
   after : List Item
   is : items ≡ between ++ Item.Sent x.number x.message ∷ after
   boot : x.boot ≡ journal_receiver_boot_at (before ++ between) x.message.to
-  received : (s : ℕ) → HasSwitch setting.net s → IsTrue (matters journal s x.message after)
+  received : (s : ℕ) → StepSwitchExists setting.net s → IsTrue (machine_message_matters journal s x.message after)
       → IsJournalMessageReceived x.number x.message after
 
 behind_one : (setting : Setting) (journal before : List Item) (next : Item) (items : List Item)
-    (x : Sending) → IsSentBehind setting journal (before ++ next ∷ []) items x
+    (x : MachineSending) → IsSentBehind setting journal (before ++ next ∷ []) items x
     → IsSentBehind setting journal before (next ∷ items) x
 behind_one setting journal before next items x sent = search (rules, append_assoc)
 
-sent_behind : (setting : Setting) (journal before : List Item) (value : List Sending)
-    (items : List Item) (x : Sending) → AreMachineMessagesReceived setting journal items
+sent_behind : (setting : Setting) (journal before : List Item) (value : List MachineSending)
+    (items : List Item) (x : MachineSending) → AreMachineMessagesReceived setting journal items
     → IsIn x (folded_journal_from changes_journal_sendings before value items)
     → IsIn x value ⊎ IsSentBehind setting journal before items x
 sent_behind setting journal before value [] x received is = inl is
@@ -85,7 +85,7 @@ sent_behind setting journal before value (Item.Sent number message ∷ items) x 
     next : Item
     next = Item.Sent number message
 
-    own : Sending
+    own : MachineSending
     own = record { number = number; message = message; boot = journal_receiver_boot_at before message.to }
 
     first : IsSentBehind setting journal before (next ∷ items) own
@@ -99,9 +99,9 @@ sent_behind setting journal before value (Item.Sent number message ∷ items) x 
 sent_behind setting journal before value (next ∷ items) x received is = search
     (rules, behind_one, sent_behind setting journal (before ++ next ∷ []) value items x received is)
 
-sent_at : (setting : Setting) (journal : List Item) (x : Sending) → AreMachineMessagesReceived setting journal
-    journal → IsIn x (sendings journal) → IsSentBehind setting journal [] journal x
-unfolding sendings
+sent_at : (setting : Setting) (journal : List Item) (x : MachineSending) → AreMachineMessagesReceived setting journal
+    journal → IsIn x (machine_sendings journal) → IsSentBehind setting journal [] journal x
+unfolding machine_sendings
 sent_at setting journal x received is = elim (sent_behind _ journal [] [] journal x received is) [
   | inl none ↦ absurd none
   | inr sent ↦ sent
@@ -110,13 +110,13 @@ sent_at setting journal x received is = elim (sent_behind _ journal [] [] journa
 -- ---- deliveries
 
 pub delivered_append : (before after : List Item) (n : ℕ)
-    → was_delivered (before ++ after) n ≡ (was_delivered before n || was_delivered after n)
-unfolding was_delivered
+    → was_delivered_in_journal (before ++ after) n ≡ (was_delivered_in_journal before n || was_delivered_in_journal after n)
+unfolding was_delivered_in_journal
 delivered_append before after n = search (rules, nat_tests, count_of_append)
 
 -- what was delivered at the end of a journal was delivered
 delivered_behind : (journal front after : List Item) (n : ℕ) → journal ≡ front ++ after
-    → IsTrue (was_delivered after n) → IsTrue (was_delivered journal n)
+    → IsTrue (was_delivered_in_journal after n) → IsTrue (was_delivered_in_journal journal n)
 delivered_behind journal front after n is delivered = search (rules, delivered_append)
 
 -- ---- boots
@@ -143,17 +143,17 @@ boots_rise setting before (next ∷ items) s have = omega (
 )
 
 boot_begun : (setting : Setting) (before : List Item) (next : Item) (s : ℕ)
-    → HasControlItemCause setting before next → item_begins_boot s next ≡ true
+    → HasControlItemCause setting before next → machine_item_begins_boot s next ≡ true
     → journal_boot_of before s < journal_boot_of (before ++ next ∷ []) s
 boot_begun setting before next s cause is = search (rules, eqb-true, boot_more)
 
 -- items behind which a switch is in the same boot begin none of it
 no_boot : (setting : Setting) (before items : List Item) (s : ℕ)
     → JournalItemsHaveCauses (HasControlItemCause setting) before items
-    → journal_boot_of (before ++ items) s ≡ journal_boot_of before s → list_any (item_begins_boot s) items ≡ false
+    → journal_boot_of (before ++ items) s ≡ journal_boot_of before s → list_any (machine_item_begins_boot s) items ≡ false
 no_boot setting before [] s have same = refl
 no_boot setting before (next ∷ items) s have same =
-    by_test (item_begins_boot s next) refl (no_boot setting (before ++ next ∷ []) items s have.1)
+    by_test (machine_item_begins_boot s next) refl (no_boot setting (before ++ next ∷ []) items s have.1)
   where
     on : journal_boot_of ((before ++ next ∷ []) ++ items) s ≡ journal_boot_of (before ++ next ∷ items) s
     on = ap (λ js. journal_boot_of js s) (append_assoc before (next ∷ []) items)
@@ -161,9 +161,9 @@ no_boot setting before (next ∷ items) s have same =
     rises : journal_boot_of (before ++ next ∷ []) s ≤ journal_boot_of ((before ++ next ∷ []) ++ items) s
     rises = boots_rise setting (before ++ next ∷ []) items s have.1
 
-    by_test : (b : Bool) → item_begins_boot s next ≡ b
+    by_test : (b : Bool) → machine_item_begins_boot s next ≡ b
         → (journal_boot_of ((before ++ next ∷ []) ++ items) s ≡ journal_boot_of (before ++ next ∷ []) s
-        → list_any (item_begins_boot s) items ≡ false) → (b || list_any (item_begins_boot s) items) ≡ false
+        → list_any (machine_item_begins_boot s) items ≡ false) → (b || list_any (machine_item_begins_boot s) items) ≡ false
     by_test true e rest = absurd (omega (arith, on, rises, same, boot_begun _ _ next s have.0 e))
     by_test false e rest = rest (omega (arith, on, rises, same, boot_rises _ before next s have.0))
 
@@ -176,7 +176,7 @@ record IsReplacedBy (message : Message) (after : List Item) : Type 0 where
   behind : List Item
   is : after ≡ between ++ Item.Sent number later ∷ behind
   replaces : MachineMessageReplaces later message
-  delivered : IsTrue (was_delivered behind number)
+  delivered : IsTrue (was_delivered_in_journal behind number)
 
 replaced_on : (message : Message) (next : Item) (after : List Item) → IsReplacedBy message after
     → IsReplacedBy message (next ∷ after)
@@ -216,7 +216,7 @@ IsOwn journal Place.Controller boot = ⊤
 
 -- these items begin no boot of the receiver
 abbrev IsSince : Place → List Item → Type 0
-IsSince (Place.Switch s) after = IsFalse (list_any (item_begins_boot s) after)
+IsSince (Place.Switch s) after = IsFalse (list_any (machine_item_begins_boot s) after)
 IsSince Place.Controller after = ⊤
 
 -- a message that was delivered, and says the same or more to the same receiver in its boot
@@ -228,21 +228,21 @@ pub record IsGot (journal : List Item) (to : Place) (of : Body) : Type 0 where
     number = number;
     message = record { to = to; body = body };
     boot = boot;
-  }) (sendings journal)
+  }) (machine_sendings journal)
   pub says : (body ≡ of) ⊎ IsTrue (is_machine_later_body body of)
-  pub delivered : IsTrue (was_delivered journal number)
+  pub delivered : IsTrue (was_delivered_in_journal journal number)
   pub own : IsOwn journal to boot
 
 pub got : (setting : Setting) (journal : List Item) (s number boot : ℕ) (to : Place) (body : Body)
-    → IsQuietMachineJournal setting journal → JournalItemsHaveCauses (IsInOrder setting) [] journal → HasSwitch setting.net s
+    → IsQuietMachineJournal setting journal → JournalItemsHaveCauses (IsInOrder setting) [] journal → StepSwitchExists setting.net s
     → IsIn (record {
       number = number;
       message = record { to = to; body = body };
       boot = boot;
-    }) (sendings journal)
+    }) (machine_sendings journal)
     → IsOwn journal to boot
     → ((after : List Item) → IsSince to after
-    → IsTrue (matters journal s (record { to = to; body = body }) after))
+    → IsTrue (machine_message_matters journal s (record { to = to; body = body }) after))
     → IsGot journal to body
 got setting journal s number boot to body quiet have there is own matter =
     by_received (at.received s there (matter at.after (since to at.boot own)))
@@ -282,7 +282,7 @@ got setting journal s number boot to body quiet have there is own matter =
         number = found.number;
         message = record { to = of; body = found.later.body };
         boot = journal_receiver_boot_at front of;
-      }) (sendings journal)) found.replaces.receiver
+      }) (machine_sendings journal)) found.replaces.receiver
           (in_sendings journal front found.number found.later found.behind split);
       says = found.replaces.says;
       delivered = delivered_behind journal (front ++ later ∷ []) found.behind found.number
@@ -346,22 +346,22 @@ pub record WasHeard (bodies : List Body) (of : Body) : Type 0 where
   pub says : (body ≡ of) ⊎ IsTrue (is_machine_later_body body of)
 
 -- a message to a switch that carries its boot was sent in that boot
-pub own_boot : (journal : List Item) (s boot : ℕ) (x : Sending) → SwitchCourse journal s x
+pub own_boot : (journal : List Item) (s boot : ℕ) (x : MachineSending) → SwitchCourse journal s x
     → body_boot x.message.body ≡ Some boot → boot ≡ journal_boot_of journal s → x.boot ≡ boot
 own_boot journal s boot x course of own = omega (arith, rw of at course.past, own, course.own)
 
 pub heard_in_boot : (journal : List Item) (s number boot : ℕ) (body : Body) → AreTraced journal
-    → IsIn (record { number = number; message = machine_message_to_switch s body; boot = boot }) (sendings journal)
+    → IsIn (record { number = number; message = machine_message_to_switch s body; boot = boot }) (machine_sendings journal)
     → IsTrue (is_up journal s) → boot ≡ journal_boot_of journal s → IsTrue (is_journal_body_for_boot boot body)
-    → IsTrue (was_delivered journal number) → IsIn body (heard journal s)
+    → IsTrue (was_delivered_in_journal journal number) → IsIn body (heard journal s)
 heard_in_boot journal s number boot body traced is up own for delivered =
-    let x : Sending = record { number = number; message = machine_message_to_switch s body; boot = boot } in
-    (each_in (IsTraced journal) x (sendings journal) traced.each is).course.heard up own for
+    let x : MachineSending = record { number = number; message = machine_message_to_switch s body; boot = boot } in
+    (each_in (IsTraced journal) x (machine_sendings journal) traced.each is).course.heard up own for
     delivered
 
 pub heard_of : (setting : Setting) (journal : List Item) (s : ℕ) (body : Body)
     → IsQuietMachineJournal setting journal → JournalItemsHaveCauses (IsInOrder setting) [] journal
-    → HasSwitch setting.net s → IsSent journal (machine_message_to_switch s body)
+    → StepSwitchExists setting.net s → IsSent journal (machine_message_to_switch s body)
     → IsTrue (is_up journal s) → body_boot body ≡ Some (journal_boot_of journal s)
     → IsFalse (are_machine_tables_old (journal_current_mark journal) body) → WasHeard (heard journal s) body
 heard_of setting journal s body quiet causes there sent up of new =
@@ -376,16 +376,16 @@ heard_of setting journal s body quiet causes there sent up of new =
     its : IsSentAs journal (machine_message_to_switch s body)
     its = sent_as journal (machine_message_to_switch s body) sent
 
-    x : Sending
+    x : MachineSending
     x = record { number = its.number; message = machine_message_to_switch s body; boot = its.boot }
 
     boot : its.boot ≡ own
     boot = own_boot journal s own x (each_in _ x _ traced.each its.is).course of refl
 
-    matter : (after : List Item) → IsFalse (list_any (item_begins_boot s) after)
-        → IsTrue (matters journal s (machine_message_to_switch s body) after)
+    matter : (after : List Item) → IsFalse (list_any (machine_item_begins_boot s) after)
+        → IsTrue (machine_message_matters journal s (machine_message_to_switch s body) after)
     matter after since =
-        let none : list_any (item_begins_boot s) after ≡ false = since in
+        let none : list_any (machine_item_begins_boot s) after ≡ false = since in
         let mine : (own == own) ≡ true = eq-eqb own own refl in
         let fresh : are_machine_tables_old (journal_current_mark journal) body ≡ false = new in
         rw (up, eq-eqb s s refl, none, of, mine, fresh) (by_advert _)
@@ -405,8 +405,8 @@ heard_of setting journal s body quiet causes there sent up of new =
 -- ---- at the controller
 
 pub told_of : (setting : Setting) (journal : List Item) (s : ℕ) (body : Body)
-    → IsQuietMachineJournal setting journal → JournalItemsHaveCauses (IsInOrder setting) [] journal → HasSwitch setting.net s
-    → IsSent journal (to_controller body) → IsTrue (is_up journal s)
+    → IsQuietMachineJournal setting journal → JournalItemsHaveCauses (IsInOrder setting) [] journal → StepSwitchExists setting.net s
+    → IsSent journal (message_to_controller body) → IsTrue (is_up journal s)
     → machine_speaking_in_body body ≡ Some (s, journal_boot_of journal s)
     → IsFalse (is_machine_ack_below_version (journal_current_mark journal) body) → WasHeard (journal_controller_heard journal) body
 told_of setting journal s body quiet causes there sent up speaks new = record {
@@ -417,10 +417,10 @@ told_of setting journal s body quiet causes there sent up speaks new = record {
   own : ℕ
   own = journal_boot_of journal s
 
-  its : IsSentAs journal (to_controller body)
-  its = sent_as journal (to_controller body) sent
+  its : IsSentAs journal (message_to_controller body)
+  its = sent_as journal (message_to_controller body) sent
 
-  matter : (after : List Item) → IsTrue (matters journal s (to_controller body) after)
+  matter : (after : List Item) → IsTrue (machine_message_matters journal s (message_to_controller body) after)
   matter after =
       let mine : (own == own) ≡ true = eq-eqb own own refl in
       let fresh : is_machine_ack_below_version (journal_current_mark journal) body ≡ false = new in
@@ -429,5 +429,5 @@ told_of setting journal s body quiet causes there sent up speaks new = record {
   later : IsGot journal Place.Controller body
   later = got _ journal s _ _ _ body quiet causes there its.is tt (λ after since. matter after)
 
-  y : Sending
-  y = record { number = later.number; message = to_controller later.body; boot = later.boot }
+  y : MachineSending
+  y = record { number = later.number; message = message_to_controller later.body; boot = later.boot }

@@ -2,14 +2,14 @@
 use Rattle.std.proofs.Common.{[], ◌++◌, ◌<◌, ◌^◌, ◌||◌, ◌∙◌, ◌∷◌, ◌≡◌, ◌≢◌, ◌≤◌, ◌⊎◌, All, Bool, IsFalse, IsTrue, List, ap, arith, bit_or, false, get_or, get_or-set_other, get_or-set_same, inl, inr, length, length-set, max, min, refl, set, subst, sym, true, ℕ, rules}
 use Rattle.base.proofs.Exports.{⊤, cases_eq, cases_lt, get_or_past, has-or, has-pow_other, has-zero}
 use Rattle.base.specs.Exports.{has}
-use Rattle.update_machine.specs.Exports.{Cause, Exit, JournalItemsHaveCauses, Header, Hop, Item, Leg, MachineLinksKeep, Packet, Seek, Setting, Step, journal_adverts_known, journal_boot_of, item_changes_found, concerns_links, item_concerns_policies, journal_found_down, heard, machine_hop_items, is_up, near, machine_packet_items, piece, journal_plan_at, journal_route_from, machine_step_items, setting_targets_in, journal_leg_targets}
+use Rattle.update_machine.specs.Exports.{Cause, Exit, JournalItemsHaveCauses, Header, Hop, Item, Leg, MachineLinksKeep, Packet, Seek, Setting, Step, journal_adverts_known, journal_boot_of, machine_item_changes_found, machine_item_concerns_links, machine_item_concerns_policies, journal_found_down, heard, machine_hop_items, is_up, near, machine_packet_items, piece, journal_plan_at, journal_route_from, machine_step_items, machine_targets_in, journal_leg_targets}
 use Rattle.control_laws.proofs.Exports.{AreKept, IsWork, KnowsNoRoute, boot_more, fact_on, have_front, have_rest, have_weaker, heard_more, hop_work, packet_works, up_more}
-use Rattle.failover.specs.Exports.{has_route_link, no_links, with_link}
-use Rattle.failover.proofs.FailoverLinkSets.{has_route_link-none}
+use Rattle.failover.specs.Exports.{link_set_has, no_failover_links, with_failover_link}
+use Rattle.failover.proofs.FailoverLinkSets.{link_set_has-none}
 use Rattle.net_file.specs.Exports.{IsNet}
-use Rattle.steps.specs.Exports.{HasSwitch}
+use Rattle.steps.specs.Exports.{StepSwitchExists}
 use Rattle.update_machine.proofs.Exports.{folded_append, have_first, links_keep, policies_keep}
-use Rattle.convergence_laws.specs.Exports.{AreConvergenceUnusableLinks, ConvergedGetStuckApart, Reaches}
+use Rattle.convergence_laws.specs.Exports.{AreConvergenceUnusableLinks, ConvergedGetStuckApart, ConvergenceReaches}
 use Rattle.convergence_laws.proofs.ConvergenceLinkChanges.{near_back}
 use Rattle.convergence_laws.proofs.ConvergedKnownLinks.{AreAgreed, agreed_converged}
 use Rattle.convergence_laws.proofs.ConvergencePlainItems.{HasOthers, others_have}
@@ -60,9 +60,9 @@ ends_none = search rules
 -- ---- a set of links that were found down
 
 -- a link of a set with one more is of the set, or that one
-more_links : (down : List ℕ) (x y a b : ℕ) → IsTrue (has_route_link (with_link down x y) a b)
-    → IsTrue (has_route_link down a b) ⊎ ((min a b ≡ min x y) × (max a b ≡ max x y))
-unfolding has_route_link with_link
+more_links : (down : List ℕ) (x y a b : ℕ) → IsTrue (link_set_has (with_failover_link down x y) a b)
+    → IsTrue (link_set_has down a b) ⊎ ((min a b ≡ min x y) × (max a b ≡ max x y))
+unfolding link_set_has with_failover_link
 more_links down x y a b is = by_row (cases_eq (min a b) low) where
   low : ℕ
   low = min x y
@@ -101,7 +101,7 @@ more_links down x y a b is = by_row (cases_eq (min a b) low) where
 
 unusable_more : (setting : Setting) (journal : List Item) → IsNet setting.net
     → (down : List ℕ) (x y : ℕ) → AreConvergenceUnusableLinks setting journal down
-    → IsFalse (has (near setting journal x) y) → AreConvergenceUnusableLinks setting journal (with_link down x y)
+    → IsFalse (has (near setting journal x) y) → AreConvergenceUnusableLinks setting journal (with_failover_link down x y)
 unusable_more setting journal net down x y unusable none a b linked =
     search (rules, cases_eq, near_back, more_links)
 
@@ -132,17 +132,17 @@ unfolding journal_route_from journal_adverts_known
 same_route setting before after s same links targets down = search rules
 
 walks_links : (setting : Setting) (before : List Item) (next : Item)
-    → Walks setting before next → IsFalse (concerns_links before next)
+    → Walks setting before next → IsFalse (machine_item_concerns_links before next)
 walks_links setting before next walks = search rules
 
 walks_policies : (setting : Setting) (before : List Item) (next : Item)
-    → Walks setting before next → IsFalse (item_concerns_policies before next)
+    → Walks setting before next → IsFalse (machine_item_concerns_policies before next)
 walks_policies setting before next walks = search rules
 
 found_more : (before : List Item) (next : Item) (i : ℕ)
-    → journal_found_down (before ++ next ∷ []) i ≡ item_changes_found i before (journal_found_down before i) next
+    → journal_found_down (before ++ next ∷ []) i ≡ machine_item_changes_found i before (journal_found_down before i) next
 unfolding journal_found_down
-found_more before next i = folded_append (item_changes_found i) no_links before (next ∷ [])
+found_more before next i = folded_append (machine_item_changes_found i) no_failover_links before (next ∷ [])
 
 found_on : (setting : Setting) (journal : List Item) → IsNet setting.net
     → (before : List Item) (next : Item) (i : ℕ) → Walks setting before next
@@ -166,16 +166,16 @@ stays_on setting journal net i before next walks stays =
     by_leg : (leg : Leg)
         → ((v : ℕ) → journal_plan_at setting (before ++ next ∷ []) v ≡ journal_plan_at setting before v)
         → journal_leg_targets setting (before ++ next ∷ []) leg ≡ journal_leg_targets setting before leg
-    by_leg (Seek version partition) same = ap (λ plan. setting_targets_in plan partition) (same version)
+    by_leg (Seek version partition) same = ap (λ plan. machine_targets_in plan partition) (same version)
     by_leg (Exit port) same = refl
 
 pub stays_itself : (setting : Setting) (journal : List Item) (i : ℕ)
-    → journal_found_down journal i ≡ no_links → StaysSo setting journal journal i
+    → journal_found_down journal i ≡ no_failover_links → StaysSo setting journal journal i
 stays_itself setting journal i none = record {
   links = λ t. refl;
   routes = λ t targets found. refl;
   targets = λ leg. refl;
-  found = λ one other linked. ap (λ links. has_route_link links one other) none ∙ has_route_link-none one other;
+  found = λ one other linked. ap (λ links. link_set_has links one other) none ∙ link_set_has-none one other;
 }
 
 -- ---- steps
@@ -183,8 +183,8 @@ stays_itself setting journal i none = record {
 walk_apart : (setting : Setting) (journal : List Item) → AreAgreed setting journal
     → (items front rest : List Item) (i s : ℕ) (cause : Cause) (leg : Leg) (down : List ℕ)
     → Walk setting journal items → items ≡ front ++ Item.Stuck i s cause leg down ∷ rest
-    → journal_found_down journal i ≡ no_links → HasSwitch setting.net s
-    → All (λ target. Reaches setting journal s target → ⊥) (journal_leg_targets setting journal leg)
+    → journal_found_down journal i ≡ no_failover_links → StepSwitchExists setting.net s
+    → All (λ target. ConvergenceReaches setting journal s target → ⊥) (journal_leg_targets setting journal leg)
 walk_apart setting journal are items front rest i s cause leg down walk is none there =
     let whole = subst (Walk setting journal) is walk in
     let stays = fact_on (Walks setting) _ (stays_on setting journal are.net i) journal front

@@ -2,8 +2,8 @@
 -- that were sent to them in their present boot, with no number below a bound.
 use Rattle.std.proofs.Common.{[], if◌then◌else◌, ◌++◌, ◌+◌, ◌<◌, ◌==◌, ◌∙◌, ◌∷◌, ◌≡◌, ◌≢◌, ◌≤◌, ◌⊎◌, Bool, IsTrue, List, None, Option, Some, ap, append-nil, append_assoc, arith, false, inl, inr, refl, subst, sym, true, ℕ, rules}
 use Rattle.base.proofs.Exports.{nat_tests, option_map_or, ⊤}
-use Rattle.update_machine.specs.Exports.{Advert, Advertise, Body, JournalItemsHaveCauses, Item, MachineLinksKeep, Message, Setting, machine_advert_to, journal_adverts_begun, journal_adverts_heard, journal_body_to_switch, journal_receiver_boot_at, journal_boot_of, heard, is_up, near, journal_next_message, machine_advert_of_other, own_advert, send_items, sendings, machine_sent_items_from}
-use Rattle.failover.specs.Exports.{held_advert, is_newer}
+use Rattle.update_machine.specs.Exports.{Advert, Advertise, Body, JournalItemsHaveCauses, Item, MachineLinksKeep, Message, Setting, machine_advert_to, journal_adverts_begun, journal_adverts_heard, journal_body_to_switch, journal_receiver_boot_at, journal_boot_of, heard, is_up, near, journal_next_message, machine_advert_of_other, own_advert, machine_send_items, machine_sendings, machine_sent_items_from}
+use Rattle.failover.specs.Exports.{held_advert, is_newer_advert}
 use Rattle.failover.proofs.FailoverNewestAdvert.{not_newer}
 use Rattle.base.specs.Exports.{has}
 use Rattle.update_machine.proofs.Exports.{links_keep}
@@ -17,7 +17,7 @@ use Rattle.convergence_laws.proofs.ConvergenceMessages.{delivered_grows, sending
 pub as_new_itself : (advert : Advert) → IsConvergenceAdvertAsNew advert advert
 as_new_itself advert = record { origin = refl; new = not_newer advert.boot advert.seq }
 
-new_through : (a b c : Advert) → is_newer b c ≡ false → is_newer a b ≡ false → is_newer a c ≡ false
+new_through : (a b c : Advert) → is_newer_advert b c ≡ false → is_newer_advert a b ≡ false → is_newer_advert a c ≡ false
 new_through a b c later first = grind (arith, nat_tests)
 
 pub as_new_through : (c b a : Advert) → IsConvergenceAdvertAsNew c b → IsConvergenceAdvertAsNew b a → IsConvergenceAdvertAsNew c a
@@ -37,7 +37,7 @@ pub record IsToldTo (since : ℕ) (journal : List Item) (s : ℕ) (advert : Adve
     number = number;
     message = machine_advert_to s advert;
     boot = journal_boot_of journal s;
-  }) (sendings journal)
+  }) (machine_sendings journal)
 
 pub record HasNews (setting : Setting) (since : ℕ) (journal : List Item) (s : ℕ) (than : Advert)
     : Type 0 where
@@ -90,8 +90,8 @@ told_on before next s advert boot told = record {
     number = told.number;
     message = machine_advert_to s advert;
     boot = b;
-  }) (sendings (before ++ next ∷ []))) (sym boot)
-      (rw (sendings_more before next) (in_left _ (sendings before) (sent_by before next) told.is));
+  }) (machine_sendings (before ++ next ∷ []))) (sym boot)
+      (rw (sendings_more before next) (in_left _ (machine_sendings before) (sent_by before next) told.is));
 }
 
 pub news_on : {since : ℕ} (setting : Setting) (before : List Item) (next : Item) (s : ℕ) (than : Advert)
@@ -313,7 +313,7 @@ told_now {since = since} journal n (message ∷ messages) s advert late is =
       | inl here ↦ told_items now (n + 1) messages s advert (record {
         number = n;
         late = late;
-        is = rw (sendings_more journal next) (in_right _ (sendings journal) (sent_by journal next)
+        is = rw (sendings_more journal next) (in_right _ (machine_sendings journal) (sent_by journal next)
             (inl (ap (λ (m : Message). record {
               number = n;
               message = m;
@@ -327,5 +327,5 @@ told_now {since = since} journal n (message ∷ messages) s advert late is =
 
 pub sends_tell : {since : ℕ} (journal : List Item) (messages : List Message) (s : ℕ)
     (advert : Advert) → since ≤ journal_next_message journal → IsIn (machine_advert_to s advert) messages
-    → IsToldTo since (journal ++ send_items journal messages) s advert
+    → IsToldTo since (journal ++ machine_send_items journal messages) s advert
 sends_tell journal messages s advert late is = search (rules, told_now)

@@ -1,20 +1,20 @@
 -- Where adverts have spread, and each switch was given what it was told, neighbours agree.
 use Rattle.std.proofs.Common.{[], ◌++◌, ◌<◌, ◌∙◌, ◌∷◌, ◌≡◌, ◌≢◌, ◌≤◌, ◌⊎◌, IsFalse, IsTrue, List, None, Some, ap, arith, false, inl, inr, not, refl, subst, sym, true, ℕ, rules}
 use Rattle.base.proofs.Exports.{All-from_recursion, cases_eq, nat_tests}
-use Rattle.failover.specs.Exports.{first_advert, has_route_link, is_newer, no_links, with_link}
-use Rattle.update_machine.specs.Exports.{Advert, JournalItemsHaveCauses, Hello, Item, Setting, journal_advert_known, journal_boot_of, journal_current_mark, is_deliverable, is_forgotten_in_journal, is_link_up_in_journal, is_up, journal_message_of, near, next_waiting, own_advert, journal_own_seq, serves, journal_version_count, was_delivered}
+use Rattle.failover.specs.Exports.{first_advert, link_set_has, is_newer_advert, no_failover_links, with_failover_link}
+use Rattle.update_machine.specs.Exports.{Advert, JournalItemsHaveCauses, Hello, Item, Setting, journal_advert_known, journal_boot_of, journal_current_mark, is_deliverable, is_forgotten_in_journal, is_link_up_in_journal, is_up, journal_message_of, near, next_waiting, own_advert, journal_own_seq, serves, journal_version_count, was_delivered_in_journal}
 use Rattle.base.specs.Exports.{has, small_number_mask, number_set_where, switches}
 use Rattle.net_file.specs.Exports.{IsNet}
-use Rattle.steps.specs.Exports.{HasSwitch}
+use Rattle.steps.specs.Exports.{StepSwitchExists}
 use Rattle.update_machine.proofs.Exports.{known_link_laws, open_net, ring, start_laws}
 use Rattle.control_laws.proofs.Exports.{AreKept, HasBothCauses, IsKnown, boot_more, ends_serve, fact_on, known_at_first, known_kept, own_on, own_origin, own_told, same_near, same_seq, turns}
-use Rattle.control_laws.specs.Exports.{OwnAdvertsAreNewest}
-use Rattle.convergence_laws.specs.Exports.{AreConvergenceUnusableLinks, HoldsConvergingNews, IsConvergenceAdvertAsNew, IsNetworkFinished, IsNetworkUpdateConverged, ConvergenceLeadsOverUsableNeighbours, NeighboursAgree, Reaches}
+use Rattle.control_laws.specs.Exports.{ControlOwnAdvertsAreNewest}
+use Rattle.convergence_laws.specs.Exports.{AreConvergenceUnusableLinks, HoldsConvergenceAdvertAsNew, IsConvergenceAdvertAsNew, IsConvergenceNetworkFinished, IsNetworkUpdated, ConvergenceLeadsOverUsableNeighbours, ConvergenceNeighboursAgree, ConvergenceReaches}
 use Rattle.convergence_laws.proofs.ConvergenceLinkChanges.{AreEnds, ends_there, near_both, newest_held, own_held, serving_turns}
 use Rattle.convergence_laws.proofs.ConvergenceFloods.{known_given}
 use Rattle.convergence_laws.proofs.ConvergenceAdverts.{HasNews, IsGiven, IsHad, IsToldTo, as_new_itself, as_new_through}
 use Rattle.convergence_laws.proofs.ConvergenceNews.{Spread}
-use Rattle.ctrl_msg.specs.Exports.{to_controller}
+use Rattle.ctrl_msg.specs.Exports.{message_to_controller}
 
 -- ---- a switch that has a link told its own advert
 
@@ -58,12 +58,12 @@ caused_tells setting journal have = fact_on _ _ (tells_kept setting) [] journal 
 
 -- ---- what a neighbour holds, or was told
 
-older_own : (own a : Advert) → (a ≡ own) ⊎ IsTrue (is_newer own a) → IsFalse (is_newer a own)
+older_own : (own a : Advert) → (a ≡ own) ⊎ IsTrue (is_newer_advert own a) → IsFalse (is_newer_advert a own)
 older_own own a h2 = search (rules, nat_tests, as_new_itself)
 
 -- of what it was given it holds what is as new
 given_held : (setting : Setting) (journal : List Item) (s : ℕ) (b a : Advert) → a.origin ≢ s
-    → a.origin < 64 → IsConvergenceAdvertAsNew b a → IsGiven setting journal s b → HoldsConvergingNews setting journal s a
+    → a.origin < 64 → IsConvergenceAdvertAsNew b a → IsGiven setting journal s b → HoldsConvergenceAdvertAsNew setting journal s a
 given_held setting journal s b a apart small as_new given =
     let of = as_new.origin in
     let best = newest_held setting journal s b (record {
@@ -80,7 +80,7 @@ given_held setting journal s b a apart small as_new given =
 pub record AreSpread (setting : Setting) (since : ℕ) (journal : List Item) : Type 0 where
   pub net : IsNet setting.net
   pub spread : Spread setting since journal
-  pub newest : OwnAdvertsAreNewest setting journal
+  pub newest : ControlOwnAdvertsAreNewest setting journal
   pub tells : TellsOwn setting journal
 
 -- an advert of another switch that is as new was told to the switch
@@ -94,7 +94,7 @@ pub record IsToldAsNew (since : ℕ) (journal : List Item) (s : ℕ) (than : Adv
 pub spread_cases : {since : ℕ} (setting : Setting) (journal : List Item)
     → AreSpread setting since journal → (s neighbour origin : ℕ) (a : Advert) → IsTrue (has (near setting journal s) neighbour)
     → origin < 64 → journal_advert_known setting journal s origin ≡ Some a
-    → HoldsConvergingNews setting journal neighbour a ⊎ IsToldAsNew since journal neighbour a
+    → HoldsConvergenceAdvertAsNew setting journal neighbour a ⊎ IsToldAsNew since journal neighbour a
 spread_cases {since = since} setting journal are s neighbour origin a linked small known =
     by_place (cases_eq a.origin neighbour)
   where
@@ -119,7 +119,7 @@ spread_cases {since = since} setting journal are s neighbour origin a linked sma
           })
 
     -- of itself a neighbour holds the newest
-    of_itself : a.origin ≡ neighbour → HoldsConvergingNews setting journal neighbour a
+    of_itself : a.origin ≡ neighbour → HoldsConvergenceAdvertAsNew setting journal neighbour a
     of_itself same =
         let fits : neighbour < 64 = omega (arith, ends.other, are.net.few_switches) in
         let back = near_both setting journal s neighbour s_small linked in
@@ -132,7 +132,7 @@ spread_cases {since = since} setting journal are s neighbour origin a linked sma
           as_new = record {
             origin = own_origin setting journal neighbour ∙ sym same;
             new = older_own _ a (subst (λ o. (a ≡ own_advert setting journal o)
-                ⊎ IsTrue (is_newer (own_advert setting journal o) a)) same ((are.newest.held s
+                ⊎ IsTrue (is_newer_advert (own_advert setting journal o) a)) same ((are.newest.held s
                 origin a small known).own (subst (λ o. IsTrue (is_up journal o)) (sym same) up)));
           };
         }
@@ -144,7 +144,7 @@ spread_cases {since = since} setting journal are s neighbour origin a linked sma
     by_had : a.origin ≢ neighbour → (news : HasNews setting since journal neighbour a)
         → IsGiven setting journal neighbour news.advert
         ⊎ IsToldTo since journal neighbour news.advert
-        → HoldsConvergingNews setting journal neighbour a ⊎ IsToldAsNew since journal neighbour a
+        → HoldsConvergenceAdvertAsNew setting journal neighbour a ⊎ IsToldAsNew since journal neighbour a
     by_had apart news (inl given) = inl (given_held _ _ _ _ a apart (a_small had) news.as_new given)
     by_had apart news (inr told) = inr (record {
       advert = news.advert;
@@ -155,7 +155,7 @@ spread_cases {since = since} setting journal are s neighbour origin a linked sma
     })
 
     by_place : (a.origin ≡ neighbour) ⊎ (a.origin ≢ neighbour)
-        → HoldsConvergingNews setting journal neighbour a ⊎ IsToldAsNew since journal neighbour a
+        → HoldsConvergenceAdvertAsNew setting journal neighbour a ⊎ IsToldAsNew since journal neighbour a
     by_place (inl same) = inl (of_itself same)
     by_place (inr apart) = elim (are.spread.each s neighbour a linked had apart) [
       | inl none ↦ absurd none
@@ -174,9 +174,9 @@ pub record IsGivenNew (setting : Setting) (journal : List Item) (s : ℕ) (than 
 -- where each switch was given what it was told, or what is as new, neighbours agree
 pub spread_agree : {since : ℕ} (setting : Setting) (journal : List Item)
     → AreSpread setting since journal
-    → ((s : ℕ) (b : Advert) → HasSwitch setting.net s → IsTrue (is_up journal s) → b.origin ≢ s
+    → ((s : ℕ) (b : Advert) → StepSwitchExists setting.net s → IsTrue (is_up journal s) → b.origin ≢ s
     → IsToldTo since journal s b → IsGivenNew setting journal s b)
-    → NeighboursAgree setting journal
+    → ConvergenceNeighboursAgree setting journal
 spread_agree setting journal are gets s neighbour origin a linked small known =
     elim (spread_cases setting journal are s neighbour origin a linked small known) [
       | inl held ↦ held
@@ -194,12 +194,12 @@ spread_agree setting journal are gets s neighbour origin a linked small known =
 -- ---- usable links
 
 -- in the ring a reaches d by b
-across_the_ring : Reaches ring [] 0 3
+across_the_ring : ConvergenceReaches ring [] 0 3
 unfolding near is_link_up_in_journal serves small_number_mask number_set_where switches has
 across_the_ring = record { rest = 1 ∷ 3 ∷ []; leads = (refl, (refl, refl)) }
 
 -- and by c where b is down
-around_b : Reaches ring (Item.Down 1 ∷ []) 0 3
+around_b : ConvergenceReaches ring (Item.Down 1 ∷ []) 0 3
 unfolding near is_link_up_in_journal serves small_number_mask number_set_where switches has
 around_b = record { rest = 2 ∷ 3 ∷ []; leads = (refl, (refl, refl)) }
 
@@ -208,8 +208,8 @@ unfolding near is_link_up_in_journal serves small_number_mask number_set_where s
 not_by_b leads = let no : false ≡ true = leads.0 in absurd cc
 
 -- a usable link isn't among those that aren't
-not_unusable : AreConvergenceUnusableLinks ring [] (with_link no_links 0 1) → ⊥
-unfolding near is_link_up_in_journal serves small_number_mask number_set_where switches has has_route_link with_link
+not_unusable : AreConvergenceUnusableLinks ring [] (with_failover_link no_failover_links 0 1) → ⊥
+unfolding near is_link_up_in_journal serves small_number_mask number_set_where switches has link_set_has with_failover_link
 not_unusable all = let no : true ≡ false = all 0 1 refl in absurd cc
 
 -- ---- adverts
@@ -229,26 +229,26 @@ not_as_another as_new = absurd (omega (arith, as_new.origin))
 
 -- ---- nothing is left to do
 
-finished_at_first : IsNetworkFinished open_net []
+finished_at_first : IsConvergenceNetworkFinished open_net []
 finished_at_first = search (rules, start_laws, All-from_recursion)
 
 some_none : (n : ℕ) → Some n ≡ None → ⊥
 some_none n clash = cc
 
-not_while_one_waits : IsNetworkFinished open_net (Item.Sent 1 (to_controller (Hello 0 1)) ∷ []) → ⊥
-unfolding next_waiting is_deliverable journal_message_of is_forgotten_in_journal was_delivered
+not_while_one_waits : IsConvergenceNetworkFinished open_net (Item.Sent 1 (message_to_controller (Hello 0 1)) ∷ []) → ⊥
+unfolding next_waiting is_deliverable journal_message_of is_forgotten_in_journal was_delivered_in_journal
 not_while_one_waits finished = absurd (some_none 1 finished.waiting)
 
-not_where_one_is_lost : IsNetworkFinished open_net
-    (Item.Sent 1 (to_controller (Hello 0 1)) ∷ Item.Forgotten 1 ∷ []) → ⊥
+not_where_one_is_lost : IsConvergenceNetworkFinished open_net
+    (Item.Sent 1 (message_to_controller (Hello 0 1)) ∷ Item.Forgotten 1 ∷ []) → ⊥
 unfolding is_forgotten_in_journal
 not_where_one_is_lost finished = let no : true ≡ false = finished.forgotten 1 in absurd cc
 
 -- ---- updates
 
-updated_at_first : IsNetworkUpdateConverged open_net []
+updated_at_first : IsNetworkUpdated open_net []
 updated_at_first = search (rules, All-from_recursion, start_laws)
 
-not_while_one_waits_for_it : IsNetworkUpdateConverged open_net (Item.Submitted 2 2 ∷ []) → ⊥
+not_while_one_waits_for_it : IsNetworkUpdated open_net (Item.Submitted 2 2 ∷ []) → ⊥
 unfolding journal_current_mark journal_version_count
 not_while_one_waits_for_it is = absurd (omega (arith, is.current))

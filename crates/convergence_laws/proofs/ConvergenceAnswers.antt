@@ -2,8 +2,8 @@
 -- controller of that boot.
 use Rattle.std.proofs.Common.{[], if◌then◌else◌, ◌++◌, ◌+◌, ◌==◌, ◌∙◌, ◌∷◌, ◌≡◌, ◌⊎◌, Bool, IfSome, IsFalse, IsTrue, List, None, Option, Some, ap, append-nil, append_assoc, arith, eq-eqb, eqb-true, false, inl, inr, refl, subst, sym, true, unwrap_or, ℕ, rules}
 use Rattle.base.proofs.Exports.{IfSome_then, nat_tests, option_map_or}
-use Rattle.update_machine.specs.Exports.{Body, Deliver, Hello, Install, Installed, Item, OpenAt, Restart, Setting, Stamp, Stamped, Step, journal_body_to_switch, journal_boot_of, deliver_items, machine_delivery_items, heard, machine_hello_of, is_up, journal_items_then, journal_link_changes, journal_message_of, nothing, piece, restart_items, send_items, serves, journal_stamp_of, machine_step_items, journal_switch_items, machine_message_to_switch}
-use Rattle.ctrl_msg.specs.Exports.{to_controller}
+use Rattle.update_machine.specs.Exports.{Body, Deliver, Hello, Install, Installed, Item, OpenAt, Restart, Setting, Stamp, Stamped, Step, journal_body_to_switch, journal_boot_of, machine_deliver_items, machine_delivery_items, heard, machine_hello_of, is_up, journal_items_then, journal_link_changes, journal_message_of, nothing, piece, machine_restart_items, machine_send_items, serves, journal_stamp_of, machine_step_items, journal_switch_items, machine_message_to_switch}
+use Rattle.ctrl_msg.specs.Exports.{message_to_controller}
 use Rattle.update_machine.proofs.Exports.{start_laws}
 use Rattle.control_laws.proofs.Exports.{AreKept, IsTraffic, behind_piece, boot_more, deliver_cases, fact_on, heard_more, is_delivered, links_traffic, restart_cases, said_parts, said_row, serving_more, up_more}
 use Rattle.convergence_laws.proofs.ConvergencePlainItems.{IsIn, IsPlain, Plain, delivery_plain, in_either, is_plain, sends_plain, step_plain}
@@ -21,7 +21,7 @@ answer_of s _ = None
 abbrev pub IsAnswered : List Item → ℕ → Body → Type 0
 IsAnswered journal s (OpenAt boot version) = IsTrue (serves journal s)
 IsAnswered journal s body =
-    IfSome (answer_of s body) (λ answer. IsSent journal (to_controller answer))
+    IfSome (answer_of s body) (λ answer. IsSent journal (message_to_controller answer))
 
 -- all that was heard is answered, but what is still owed
 pub record AreAnswered (Owed : ℕ → Body → Type 0) (journal : List Item) : Type 0 where
@@ -31,7 +31,7 @@ pub record AreAnswered (Owed : ℕ → Body → Type 0) (journal : List Item) : 
 -- the controller was told of the boot of each switch that is up, but of those that still owe it
 pub record AreGreeted (Owed : ℕ → Type 0) (journal : List Item) : Type 0 where
   pub each : (s : ℕ) → IsTrue (is_up journal s) → Owed s ⊎ ((journal_boot_of journal s ≡ 1)
-      ⊎ IsSent journal (to_controller (Hello s (journal_boot_of journal s))))
+      ⊎ IsSent journal (message_to_controller (Hello s (journal_boot_of journal s))))
 
 pub record HaveSpoken (journal : List Item) : Type 0 where
   pub answers : AreAnswered (λ s body. ⊥) journal
@@ -230,7 +230,7 @@ delivery_answers setting before number now s body said same =
 
 deliver_spoken : (setting : Setting) (before : List Item) (row number : ℕ)
     → let here = before ++ Item.Row row (Deliver number) ∷ [] in HaveSpoken here
-    → HaveSpoken (here ++ deliver_items setting before number here)
+    → HaveSpoken (here ++ machine_deliver_items setting before number here)
 deliver_spoken setting before row number spoken =
     let here : List Item = before ++ Item.Row row (Deliver number) ∷ [] in
     let now : List Item = here ++ Item.Delivered number ∷ [] in
@@ -265,10 +265,10 @@ booted_owed here s boot are = search (rules, eqb-true, boot_more, up_more, sent_
 
 -- and sends it
 restart_spoken : (s : ℕ) (here : List Item) → HaveSpoken here
-    → HaveSpoken (here ++ restart_items s here)
+    → HaveSpoken (here ++ machine_restart_items s here)
 restart_spoken s here spoken =
     let next : Item = Item.Booted s (journal_boot_of here s + 1) in
-    let hello : List Item → List Item = λ booted. send_items booted (machine_hello_of booted s ∷ []) in
+    let hello : List Item → List Item = λ booted. machine_send_items booted (machine_hello_of booted s ∷ []) in
     let now : List Item = here ++ next ∷ [] in
     let plain : Plain now (hello now) = sends_plain now (machine_hello_of now s ∷ []) in
     let same : journal_boot_of (now ++ hello now) s ≡ journal_boot_of now s = boot_stays now (hello now) plain s in

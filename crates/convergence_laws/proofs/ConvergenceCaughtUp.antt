@@ -1,10 +1,10 @@
 -- Where the controller knows of each switch that is up what it needs, every update has ended.
 use Rattle.std.proofs.Common.{[], ◌&&◌, ◌-◌, ◌<◌, ◌||◌, ◌∙◌, ◌∷◌, ◌≡◌, ◌≤◌, All, Bool, IsFalse, IsTrue, List, ap, arith, false, fold, inl, inr, is_some, length, min, not, refl, sym, true, unwrap_or, ℕ, rules}
 use Rattle.base.proofs.Exports.{All-from_recursion, AllByRecursion, each_map, list_all}
-use Rattle.update_machine.specs.Exports.{AreMachineMarksSettled, JournalItemsHaveCauses, Item, Setting, acked_stamp, journal_boot_of, journal_current_mark, has_acked, is_joining, is_member, is_over, is_up, is_waited_for, journal_known_boot, machine_least_number, members, journal_next_retired, journal_retired_mark, serves, journal_stamp_of, setting_switches_of, journal_version_count}
+use Rattle.update_machine.specs.Exports.{AreMachineMarksSettled, JournalItemsHaveCauses, Item, Setting, acked_stamp, journal_boot_of, journal_current_mark, has_acked, is_joining, is_member, is_over, is_up, is_waited_for_in_journal, journal_known_boot, machine_least_number, members, journal_next_retired, journal_retired_mark, serves, journal_stamp_of, machine_switches_of, journal_version_count}
 use Rattle.control_laws.specs.Exports.{HasControlItemCause, ControlMarksAreBounded, ControlMembersAcknowledged}
 use Rattle.control_laws.proofs.Exports.{acknowledged, each_range, have_weaker, member_parts}
-use Rattle.convergence_laws.specs.Exports.{IsNetworkUpdateConverged}
+use Rattle.convergence_laws.specs.Exports.{IsNetworkUpdated}
 use Rattle.convergence_laws.proofs.ConvergenceAnswers.{HaveSpoken}
 use Rattle.convergence_laws.proofs.ConvergenceDownSwitches.{AreRecorded}
 use Rattle.convergence_laws.proofs.ConvergenceTables.{AllInstalled}
@@ -49,8 +49,8 @@ items_caused setting journal have = search (rules, have_weaker)
 -- acknowledged every version from the current one to the last. Members serve, and are known to
 -- stamp with the current version
 pub record IsCaughtUp (setting : Setting) (journal : List Item) : Type 0 where
-  pub switches : All (λ s. IsTrue (is_up journal s || not (is_waited_for journal s)))
-      (setting_switches_of setting)
+  pub switches : All (λ s. IsTrue (is_up journal s || not (is_waited_for_in_journal journal s)))
+      (machine_switches_of setting)
   pub known : (s : ℕ) → s < length setting.net.switches → IsTrue (is_up journal s)
       → journal_known_boot journal s ≡ journal_boot_of journal s
   pub acked : (s version : ℕ) → s < length setting.net.switches → IsTrue (is_up journal s)
@@ -68,21 +68,21 @@ member_up : (setting : Setting) (journal : List Item) → AreReady setting journ
     → IsCaughtUp setting journal → (s : ℕ) → s < length setting.net.switches
     → IsTrue (is_member journal s) → IsTrue (is_up journal s)
 member_up setting journal are caught s there member = by_up (is_up journal s) refl
-    (all_in (λ t. IsTrue (is_up journal t || not (is_waited_for journal t))) s (setting_switches_of setting)
+    (all_in (λ t. IsTrue (is_up journal t || not (is_waited_for_in_journal journal t))) s (machine_switches_of setting)
     caught.switches (in_range s 0 (length setting.net.switches) (omega arith) (omega arith)))
   where
     not_true : (b : Bool) → IsTrue (not b) → IsFalse b
     not_true true is = absurd cc
     not_true false is = refl
 
-    by_up : (b : Bool) → is_up journal s ≡ b → IsTrue (b || not (is_waited_for journal s))
+    by_up : (b : Bool) → is_up journal s ≡ b → IsTrue (b || not (is_waited_for_in_journal journal s))
         → IsTrue (is_up journal s)
     by_up true e waits = e
     by_up false e waits =
         let parts = member_parts journal s member in
         let closed = are.recorded.closed s (record {
           down = e;
-          confirmed = not_true (is_waited_for journal s) waits;
+          confirmed = not_true (is_waited_for_in_journal journal s) waits;
           not_over = parts.0;
         }) in
         absurd (cc (sym (ap (λ o. is_some o) closed) ∙ parts.1))
@@ -106,7 +106,7 @@ up_member setting journal are caught s there up = by_member (is_member journal s
       let not_over : is_over journal s ≡ false =
       (are.recorded.known.serving s).not_over up (caught.known s there up) in
       let none = all_in (λ t. IsTrue (is_joining journal t)
-      → IsFalse (has_acked journal t (journal_current_mark journal))) s (setting_switches_of setting)
+      → IsFalse (has_acked journal t (journal_current_mark journal))) s (machine_switches_of setting)
       are.settled.joining (in_range s 0 (length setting.net.switches) (omega arith) (omega arith))
       (joins (is_over journal s) (is_member journal s) not_over e) in
       absurd (cc (sym none ∙ (caught.acked s (journal_current_mark journal) there up (omega arith)
@@ -120,9 +120,9 @@ unfolding journal_next_retired
 retired_is setting journal are caught = are.settled.retired ∙ ap (λ n. n - 1)
     (least_same (journal_current_mark journal) _ (each_map (λ x. x ≡ journal_current_mark journal)
     (acked_stamp journal) (members setting journal) (each_of_in _ (members setting journal)
-    (λ s is. of_member s (of_filter (is_member journal) s (setting_switches_of setting) is)))))
+    (λ s is. of_member s (of_filter (is_member journal) s (machine_switches_of setting) is)))))
   where
-    of_member : (s : ℕ) → IsIn s (setting_switches_of setting) × IsTrue (is_member journal s)
+    of_member : (s : ℕ) → IsIn s (machine_switches_of setting) × IsTrue (is_member journal s)
         → acked_stamp journal s ≡ journal_current_mark journal
     of_member s parts =
         let there : s < length setting.net.switches = omega (arith, (of_range s 0 _ parts.0).1) in
@@ -132,13 +132,13 @@ retired_is setting journal are caught = are.settled.retired ∙ ap (λ n. n - 1)
 -- ---- together
 
 pub caught_updated : (setting : Setting) (journal : List Item) → AreReady setting journal
-    → IsCaughtUp setting journal → IsNetworkUpdateConverged setting journal
+    → IsCaughtUp setting journal → IsNetworkUpdated setting journal
 caught_updated setting journal are caught = record {
   serving = All-from_recursion (λ s. IsTrue (is_up journal s) → IsTrue (serves journal s))
-      (setting_switches_of setting) (each_range (λ s. IsTrue (is_up journal s) → IsTrue (serves journal s))
+      (machine_switches_of setting) (each_range (λ s. IsTrue (is_up journal s) → IsTrue (serves journal s))
       0 (length setting.net.switches) (λ s above below. up_serves s (omega (arith, below))));
   stamps = All-from_recursion (λ s. IsTrue (is_up journal s)
-      → journal_stamp_of journal s ≡ journal_version_count journal) (setting_switches_of setting)
+      → journal_stamp_of journal s ≡ journal_version_count journal) (machine_switches_of setting)
       (each_range _ 0 (length setting.net.switches)
       (λ s above below up. let there : s < length setting.net.switches = omega (arith, below) in
       let known = caught.stamps s there up (up_member setting journal are caught s there up) in

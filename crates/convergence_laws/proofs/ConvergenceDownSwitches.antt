@@ -2,8 +2,8 @@
 -- over, nothing is known in its known boot; and where openings and acknowledgements come from.
 use Rattle.std.proofs.Common.{[], if◌then◌else◌, ◌++◌, ◌==◌, ◌∙◌, ◌∷◌, ◌≡◌, ◌≤◌, ◌⊎◌, Bool, IsFalse, IsTrue, List, None, Option, Some, ap, arith, eqb-true, false, filter_map, inl, inr, nat_eq, option_to_list, refl, subst, sym, true, unwrap_or, ℕ, rules}
 use Rattle.base.proofs.Exports.{list_any, option_or}
-use Rattle.update_machine.specs.Exports.{Body, Installed, Item, Message, OpenAt, Sending, Setting, journal_all_given, journal_body_to_controller, journal_boot_of, journal_controller_heard, machine_first_open, gives_journal_waited_for, has_acked, heard, machine_installed_version, installs_version, is_over, is_up, is_waited_for, journal_known_boot, journal_message_of, machine_open_sent, journal_opened_at, journal_raises_known_boot, serves, machine_message_to_switch}
-use Rattle.ctrl_msg.specs.Exports.{to_controller}
+use Rattle.update_machine.specs.Exports.{Body, Installed, Item, Message, OpenAt, MachineSending, Setting, journal_all_given, journal_body_to_controller, journal_boot_of, journal_controller_heard, machine_first_open, gives_journal_waited_for, has_acked, heard, machine_installed_version, machine_body_installs_version, is_over, is_up, is_waited_for_in_journal, journal_known_boot, journal_message_of, machine_open_sent, journal_opened_at, journal_raises_known_boot, serves, machine_message_to_switch}
+use Rattle.ctrl_msg.specs.Exports.{message_to_controller}
 use Rattle.update_machine.proofs.Exports.{start_laws}
 use Rattle.control_laws.specs.Exports.{HasControlItemCause}
 use Rattle.control_laws.proofs.Exports.{AreKept, FromCauses, IsKnown, StampsAreCurrent, boot_more, by_number, current_kept, from_causes, heard_known, installed_is, is_delivered, known_at_first, known_kept, known_more, known_rises, last_more, opened_at_more, opened_in, opened_more, opened_same, opens_by, over_more, raised_above, raised_none, said_sent, serving_more, told_more, unraised_same, up_more}
@@ -23,7 +23,7 @@ sent_either before next message sent = elim (in_either _ _ _ (rw (sendings_more 
   by_item : (next : Item) → IsIn sent.sending (sent_by before next)
       → (n : ℕ) × (next ≡ Item.Sent n message)
   by_item (Item.Sent n new) is = elim is [
-    | inl same ↦ (n, ap (Item.Sent n) (ap (λ (x : Sending). x.message) same ∙ sent.of))
+    | inl same ↦ (n, ap (Item.Sent n) (ap (λ (x : MachineSending). x.message) same ∙ sent.of))
     | inr none ↦ absurd none
   ]
   by_item _ is = absurd is
@@ -33,7 +33,7 @@ sent_either before next message sent = elim (in_either _ _ _ (rw (sendings_more 
 -- the switch is down, isn't waited for, and isn't over
 pub record IsIdle (journal : List Item) (s : ℕ) : Type 0 where
   pub down : IsFalse (is_up journal s)
-  pub confirmed : IsFalse (is_waited_for journal s)
+  pub confirmed : IsFalse (is_waited_for_in_journal journal s)
   pub not_over : IsFalse (is_over journal s)
 
 pub record AreRecorded (journal : List Item) : Type 0 where
@@ -43,14 +43,14 @@ pub record AreRecorded (journal : List Item) : Type 0 where
   pub messages : (n : ℕ) (message : Message) → journal_message_of journal n ≡ Some message
       → IsSent journal message
   pub told : (body : Body) → IsIn body (journal_controller_heard journal)
-      → IsSent journal (to_controller body)
+      → IsSent journal (message_to_controller body)
   -- a switch was opened by a message, except in its first boot
   pub openings : (s boot version : ℕ) → opened_in journal s boot ≡ Some version
       → (boot ≡ 1) ⊎ IsSent journal (machine_message_to_switch s (OpenAt boot version))
   -- it heard tables, and acknowledges them, in a boot that is known
-  pub heard : (s version : ℕ) → IsTrue (list_any (installs_version version) (heard journal s))
+  pub heard : (s version : ℕ) → IsTrue (list_any (machine_body_installs_version version) (heard journal s))
       → journal_boot_of journal s ≤ journal_known_boot journal s
-  pub acks : (s boot version : ℕ) → IsSent journal (to_controller (Installed s boot version))
+  pub acks : (s boot version : ℕ) → IsSent journal (message_to_controller (Installed s boot version))
       → boot ≤ journal_known_boot journal s
   -- in its first boot it serves
   pub first : (s : ℕ) → IsTrue (is_up journal s) → journal_boot_of journal s ≡ 1 → IsTrue (serves journal s)
@@ -58,7 +58,7 @@ pub record AreRecorded (journal : List Item) : Type 0 where
   -- an idle switch was neither opened in its known boot, nor has it acknowledged any tables
   pub closed : (s : ℕ) → IsIdle journal s → journal_opened_at journal s ≡ None
   pub silent : (s version : ℕ) → IsIdle journal s
-      → IsSent journal (to_controller (Installed s (journal_known_boot journal s) version)) → ⊥
+      → IsSent journal (message_to_controller (Installed s (journal_known_boot journal s) version)) → ⊥
 
 -- ---- items keep them
 
@@ -72,29 +72,29 @@ messages_on setting before next are n message is = elim (by_number before next n
 
 told_on : (setting : Setting) (before : List Item) (next : Item) → AreRecorded before
     → (body : Body) → IsIn body (journal_controller_heard (before ++ next ∷ []))
-    → IsSent (before ++ next ∷ []) (to_controller body)
+    → IsSent (before ++ next ∷ []) (message_to_controller body)
 told_on setting before (Item.Delivered number) are body is = by_said _ refl
     (rw (told_more before (Item.Delivered number)) at is)
   where
     next : Item
     next = Item.Delivered number
 
-    old : IsIn body (journal_controller_heard before) → IsSent (before ++ next ∷ []) (to_controller body)
-    old is = sent_stays before next (to_controller body) (are.told body is)
+    old : IsIn body (journal_controller_heard before) → IsSent (before ++ next ∷ []) (message_to_controller body)
+    old is = sent_stays before next (message_to_controller body) (are.told body is)
 
     by_said : (o : Option Body) → journal_body_to_controller before number ≡ o
         → IsIn body (journal_controller_heard before ++ option_to_list o)
-        → IsSent (before ++ next ∷ []) (to_controller body)
+        → IsSent (before ++ next ∷ []) (message_to_controller body)
     by_said o e is = elim (in_either body (journal_controller_heard before) (option_to_list o) is) [
       | inl earlier ↦ old earlier
       | inr now ↦ by_now o e now
     ] where
       by_now : (o : Option Body) → journal_body_to_controller before number ≡ o
-          → IsIn body (option_to_list o) → IsSent (before ++ next ∷ []) (to_controller body)
+          → IsIn body (option_to_list o) → IsSent (before ++ next ∷ []) (message_to_controller body)
       by_now None e is = absurd is
       by_now (Some said) e is = elim is [
-        | inl same ↦ sent_stays before next (to_controller body) (are.messages number
-            (to_controller body) (said_sent before number body (e ∙ ap Some same)))
+        | inl same ↦ sent_stays before next (message_to_controller body) (are.messages number
+            (message_to_controller body) (said_sent before number body (e ∙ ap Some same)))
         | inr none ↦ absurd none
       ]
 told_on setting before next are body is = search (rules, sent_stays, told_more)
@@ -117,7 +117,7 @@ openings_on before next are s boot version opened =
 
 acks_on : (setting : Setting) (before : List Item) (next : Item)
     → HasControlItemCause setting before next → AreRecorded before → (s boot version : ℕ)
-    → IsSent (before ++ next ∷ []) (to_controller (Installed s boot version))
+    → IsSent (before ++ next ∷ []) (message_to_controller (Installed s boot version))
     → boot ≤ journal_known_boot (before ++ next ∷ []) s
 acks_on setting before next cause are s boot version sent = elim (sent_either before next _ sent) [
   | inl earlier ↦ omega (arith, known_rises before next s, are.acks s boot version earlier)
@@ -138,8 +138,8 @@ first_on setting before next cause are s up first = search (rules, boot_more, se
 
 -- ---- idle switches
 
-pub waited_more : (before : List Item) (next : Item) (s : ℕ) → is_waited_for (before ++ next ∷ []) s
-    ≡ unwrap_or (gives_journal_waited_for s next) (is_waited_for before s)
+pub waited_more : (before : List Item) (next : Item) (s : ℕ) → is_waited_for_in_journal (before ++ next ∷ []) s
+    ≡ unwrap_or (gives_journal_waited_for s next) (is_waited_for_in_journal before s)
 waited_more before next s = last_more (gives_journal_waited_for s) before next false
 
 idle_was : (before : List Item) (next : Item) (s : ℕ) → IsFalse (is_delivered next)
@@ -175,9 +175,9 @@ any_told reads v (body ∷ bodies) any = search (rules, eqb-true, any_told reads
 
 -- an acknowledgement that is known was sent, but of the first boot
 acked_sent : (journal : List Item) (s version : ℕ)
-    → ((body : Body) → IsIn body (journal_controller_heard journal) → IsSent journal (to_controller body))
+    → ((body : Body) → IsIn body (journal_controller_heard journal) → IsSent journal (message_to_controller body))
     → journal_opened_at journal s ≡ None → IsTrue (has_acked journal s version)
-    → IsSent journal (to_controller (Installed s (journal_known_boot journal s) version))
+    → IsSent journal (message_to_controller (Installed s (journal_known_boot journal s) version))
 unfolding has_acked journal_opened_at
 acked_sent journal s version told closed any = by_first (journal_known_boot journal s == 1) closed any where
   boot : ℕ
@@ -187,11 +187,11 @@ acked_sent journal s version told closed any = by_first (journal_known_boot jour
       → (if b then Some 1 else machine_first_open (journal_all_given (machine_open_sent s boot) journal)) ≡ None
       → IsTrue (list_any (nat_eq version) ((if b then 1 ∷ [] else [])
       ++ filter_map (machine_installed_version s boot) (journal_controller_heard journal)))
-      → IsSent journal (to_controller (Installed s boot version))
+      → IsSent journal (message_to_controller (Installed s boot version))
   by_first true closed any = absurd cc
   by_first false closed any =
       let found = any_told (machine_installed_version s boot) version (journal_controller_heard journal) any in
-      subst (λ body. IsSent journal (to_controller body))
+      subst (λ body. IsSent journal (message_to_controller body))
       (installed_is s boot found.0 version found.2) (told found.0 found.1)
 
 closed_on : (setting : Setting) (before : List Item) (next : Item)
@@ -230,9 +230,9 @@ silent_now : (setting : Setting) (before : List Item) (next : Item)
     → HasControlItemCause setting before next → AreRecorded before → (s version : ℕ)
     → journal_known_boot (before ++ next ∷ []) s ≡ journal_known_boot before s → IsIdle before s
     → IsSent (before ++ next ∷ [])
-    (to_controller (Installed s (journal_known_boot (before ++ next ∷ []) s) version)) → ⊥
+    (message_to_controller (Installed s (journal_known_boot (before ++ next ∷ []) s) version)) → ⊥
 silent_now setting before next cause are s version known idle sent = elim (sent_either before next
-    (to_controller (Installed s (journal_known_boot before s) version)) (rw known at sent)) [
+    (message_to_controller (Installed s (journal_known_boot before s) version)) (rw known at sent)) [
       | inl earlier ↦ are.silent s version idle earlier
       | inr new ↦ let clash : false ≡ true = sym idle.down ∙ (rw new.1 at cause).present.up in
           absurd cc
@@ -240,7 +240,7 @@ silent_now setting before next cause are s version known idle sent = elim (sent_
 
 silent_on : (setting : Setting) (before : List Item) (next : Item) → HasControlItemCause setting before
     next → AreRecorded before → (s version : ℕ) → IsIdle (before ++ next ∷ []) s → IsSent
-    (before ++ next ∷ []) (to_controller (Installed s (journal_known_boot (before ++ next ∷ []) s) version))
+    (before ++ next ∷ []) (message_to_controller (Installed s (journal_known_boot (before ++ next ∷ []) s) version))
     → ⊥
 silent_on setting before (Item.Delivered number) cause are s version idle sent =
     by_raise (journal_raises_known_boot before s number) refl
@@ -248,7 +248,7 @@ silent_on setting before (Item.Delivered number) cause are s version idle sent =
     next : Item
     next = Item.Delivered number
 
-    no_delivery : (n : ℕ) → Item.Delivered number ≡ Item.Sent n (to_controller
+    no_delivery : (n : ℕ) → Item.Delivered number ≡ Item.Sent n (message_to_controller
         (Installed s (journal_known_boot (before ++ next ∷ []) s) version)) → ⊥
     no_delivery n is = absurd cc
 

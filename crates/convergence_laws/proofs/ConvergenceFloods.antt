@@ -2,8 +2,8 @@
 -- or the neighbour has it or what is as new.
 use Rattle.std.proofs.Common.{[], ◌&&◌, ◌++◌, ◌<◌, ◌==◌, ◌∙◌, ◌∷◌, ◌≡◌, ◌≢◌, ◌≤◌, ◌⊎◌, Bool, IsFalse, IsTrue, List, None, Option, Some, ap, append-nil, append_assoc, arith, false, inl, inr, length, map, not, option_to_list, refl, subst, sym, true, ℕ, rules}
 use Rattle.base.proofs.Exports.{get_or-map-range_with_len, nat_tests, option_map_or}
-use Rattle.update_machine.specs.Exports.{Advert, Advertise, Body, Confirm, Crash, Deliver, JournalItemsHaveCauses, Item, LinkDown, LinkUp, Message, OpenAt, Packet, Place, Resend, Restart, Setting, Step, StepOfRow, Update, journal_advert_known, machine_advert_to, journal_adverts_begun, journal_adverts_heard, journal_adverts_known, journal_after_steps, journal_body_to_switch, deliver_items, machine_delivery_items, is_journal_news_to, is_to_controller, journal_items_then, journal_link_changes, journal_message_of, near, journal_next_message, journal_next_packet, nothing, own_advert, machine_advert_passed_on, piece, send_items, serves, journal_stamp_of, machine_step_items, journal_switch_items, setting_switches_in, setting_switches_of, machine_message_to_switch}
-use Rattle.failover.specs.Exports.{IsNewestAdvert, first_adverts, held_advert, is_newer, is_news}
+use Rattle.update_machine.specs.Exports.{Advert, Advertise, Body, Confirm, Crash, Deliver, JournalItemsHaveCauses, Item, LinkDown, LinkUp, Message, OpenAt, Packet, Place, Resend, Restart, Setting, Step, MachineStepOfRow, Update, journal_advert_known, machine_advert_to, journal_adverts_begun, journal_adverts_heard, journal_adverts_known, journal_after_steps, journal_body_to_switch, machine_deliver_items, machine_delivery_items, is_journal_news_to, is_machine_receiver_controller, journal_items_then, journal_link_changes, journal_message_of, near, journal_next_message, journal_next_packet, nothing, own_advert, machine_advert_passed_on, piece, machine_send_items, serves, journal_stamp_of, machine_step_items, journal_switch_items, machine_switches_in, machine_switches_of, machine_message_to_switch}
+use Rattle.failover.specs.Exports.{IsNewestAdvert, first_adverts, held_advert, is_newer_advert, is_advert_news}
 use Rattle.failover.proofs.FailoverHeldAdverts.{held-first}
 use Rattle.base.specs.Exports.{has}
 use Rattle.net_file.specs.Exports.{IsNet, links_of}
@@ -64,9 +64,9 @@ unowed setting here number journal none have = owed_as setting _ (λ s neighbour
 
 -- what isn't news to a switch it held as new
 held_as_new : (setting : Setting) (before : List Item) (s : ℕ) (a : Advert) → a.origin < 64
-    → is_news (journal_adverts_known setting before s) a ≡ false
-    → (c : Advert) × (journal_advert_known setting before s a.origin ≡ Some c) × IsFalse (is_newer a c)
-unfolding is_news
+    → is_advert_news (journal_adverts_known setting before s) a ≡ false
+    → (c : Advert) × (journal_advert_known setting before s a.origin ≡ Some c) × IsFalse (is_newer_advert a c)
+unfolding is_advert_news
 held_as_new setting before s a small none = search (rules, nat_tests)
 
 -- an advert is passed on where it is news, and had been had as new where it isn't
@@ -92,9 +92,9 @@ advert_spread {since = since} setting before row number step t advert net late s
     messages = machine_advert_passed_on setting now t advert
 
     passed : (s neighbour : ℕ) (a : Advert)
-        → IsTrue (has (near setting (now ++ send_items now messages) s) neighbour)
+        → IsTrue (has (near setting (now ++ machine_send_items now messages) s) neighbour)
         → IsDelivered here number s a
-        → HasNews setting since (now ++ send_items now messages) neighbour a
+        → HasNews setting since (now ++ machine_send_items now messages) neighbour a
     passed s neighbour a linked owed =
         let is = alone s a owed.said in
         let near_now = subst (λ u. IsTrue (has (near setting now u) neighbour)) is.0
@@ -104,8 +104,8 @@ advert_spread {since = since} setting before row number step t advert net late s
           as_new = as_new_itself a;
           had = inr (sends_tell now messages neighbour a late
               (rw is.1 (in_map (λ k. machine_advert_to k advert) neighbour
-              (setting_switches_in setting (near setting now t)) (in_filter (has (near setting now t))
-              neighbour (setting_switches_of setting) (in_range neighbour 0 (length setting.net.switches)
+              (machine_switches_in setting (near setting now t)) (in_filter (has (near setting now t))
+              neighbour (machine_switches_of setting) (in_range neighbour 0 (length setting.net.switches)
               (omega arith) (omega (arith, there))) near_now))));
         }
 
@@ -117,7 +117,7 @@ advert_spread {since = since} setting before row number step t advert net late s
         let is = alone s a owed.said in
         let apart : a.origin ≢ t = subst (λ u. a.origin ≢ u) is.0 owed.other in
         let not_own : (a.origin == t) ≡ false = grind (arith, nat_tests) in
-        let no_news = sym (ap (λ b. not b && is_news (journal_adverts_known setting before t) a) not_own)
+        let no_news = sym (ap (λ b. not b && is_advert_news (journal_adverts_known setting before t) a) not_own)
         ∙ ap (is_journal_news_to setting before t) is.1 ∙ none in
         let best = held_as_new setting before t a owed.small no_news in
         let given = known_given setting before t a.origin best.0 apart owed.small best.1 in
@@ -148,12 +148,12 @@ advert_spread {since = since} setting before row number step t advert net late s
 
     by_news : (b : Bool) → is_journal_news_to setting before t advert ≡ b
         → Spread setting since (now ++ elim b [
-          | true ↦ send_items now (machine_advert_passed_on setting now t advert)
+          | true ↦ machine_send_items now (machine_advert_passed_on setting now t advert)
           | false ↦ []
         ])
     by_news true e = record {
       each = λ s neighbour a linked had other. elim
-          ((stills_news setting (λ u k b. IsDelivered here number u b) now (send_items now messages)
+          ((stills_news setting (λ u k b. IsDelivered here number u b) now (machine_send_items now messages)
           (sends_still now messages) have).each s neighbour a linked had other) [
             | inl owed ↦ inr (passed s neighbour a linked owed)
             | inr has ↦ inr has
@@ -256,7 +256,7 @@ receiver_or Place.Controller = 0
 deliver_spread : {since : ℕ} (setting : Setting) (before : List Item) (row number : ℕ) (step : Step)
     → IsNet setting.net → let here = before ++ Item.Row row step ∷ [] in
     since ≤ journal_next_message here → IsKnown here → Spread setting since here
-    → Spread setting since (here ++ deliver_items setting before number here)
+    → Spread setting since (here ++ machine_deliver_items setting before number here)
 deliver_spread {since = since} setting before row number step net late known spread =
     deliver_cases (Spread setting since) setting before number here
     (still_spread setting here nothing (tt, tt) spread) (by_message (journal_message_of before number) refl)
@@ -297,7 +297,7 @@ deliver_spread {since = since} setting before row number step net late known spr
     by_receiver Place.Controller body e = silent (rw (delivery_told _ before number body now e)
         (control_still now _ (controller_control setting before body now)))
         (λ s other said. let clash : false ≡ true = ap (λ (o : Option Message). option_map_or
-        (λ m. is_to_controller m.to) o false) (sym (sent_of s other said) ∙ e) in
+        (λ m. is_machine_receiver_controller m.to) o false) (sym (sent_of s other said) ∙ e) in
         absurd cc)
     by_receiver (Place.Switch t) body e = by_said (journal_body_to_switch here t number) refl where
       by_said : (o : Option Body) → journal_body_to_switch here t number ≡ o
@@ -354,7 +354,7 @@ piece_spread {since = since} setting before row step net late known have =
     (step_spread setting before row step net (omega (arith, next_grows)) (known_kept setting before
     next tt known) (still_spread setting before (next ∷ []) (tt, tt) have))
 
-pub steps_spread : {since : ℕ} (setting : Setting) (before : List Item) (steps : List StepOfRow)
+pub steps_spread : {since : ℕ} (setting : Setting) (before : List Item) (steps : List MachineStepOfRow)
     → IsNet setting.net → since ≤ journal_next_message before → JournalItemsHaveCauses (IsInOrder setting) [] before
     → Spread setting since before → Spread setting since (journal_after_steps setting before steps)
 steps_spread setting before [] net late causes have = have
@@ -367,7 +367,7 @@ steps_spread setting before (next ∷ steps) net late causes have = steps_spread
 -- ---- the beginning
 
 begun_first : (setting : Setting) (s : ℕ) → journal_adverts_begun setting [] s ≡ first_adverts
-    (map (links_of setting.net.links) (setting_switches_of setting)) (length setting.net.switches)
+    (map (links_of setting.net.links) (machine_switches_of setting)) (length setting.net.switches)
 begun_first setting s = rw (start_laws.up s, start_laws.boot s) refl
 
 -- each switch begins with the first advert of each one
@@ -399,7 +399,7 @@ first_spread {since = since} setting net = record {
         (begun_first setting neighbour ∙ sym (begun_first setting s)) ∙ begun))
     by_given (inr told) = absurd (rw (start_laws.heard s) at told)
 
-pub spread_at_ends : (setting : Setting) (steps : List StepOfRow) → IsNet setting.net
+pub spread_at_ends : (setting : Setting) (steps : List MachineStepOfRow) → IsNet setting.net
     → Spread setting 0 (journal_after_steps setting [] steps)
 spread_at_ends setting steps net =
     steps_spread setting [] steps net (omega arith) tt (first_spread setting net)

@@ -4,11 +4,11 @@ use Rattle.base.specs.Exports.{has, switches}
 use Rattle.net_file.specs.Exports.{IsNet}
 use Rattle.net_file.proofs.NetFilePortMasks.{in_mask_of}
 use Rattle.net_file.proofs.NetFileRowPlaces.{linked_turn, links}
-use Rattle.update_machine.specs.Exports.{Advert, JournalItemsHaveCauses, Item, Message, Setting, journal_advert_known, machine_advert_to, journal_adverts_begun, journal_adverts_heard, journal_adverts_known, journal_boot_of, journal_usable_links_changed, heard, journal_held_adverts, is_up, journal_link_changes, machine_messages_of, machine_messages_over_link, near, journal_next_message, own_advert, journal_own_seq, send_items, serves, setting_switches_in, setting_switches_of}
+use Rattle.update_machine.specs.Exports.{Advert, JournalItemsHaveCauses, Item, Message, Setting, journal_advert_known, machine_advert_to, journal_adverts_begun, journal_adverts_heard, journal_adverts_known, journal_boot_of, journal_usable_links_changed, heard, journal_held_adverts, is_up, journal_link_changes, machine_messages_of, machine_messages_over_link, near, journal_next_message, own_advert, journal_own_seq, machine_send_items, serves, machine_switches_in, machine_switches_of}
 use Rattle.control_laws.proofs.Exports.{AdvertGoesOn, HasBothCauses, IsKnown, boot_more, ends_serve, heard_more, is_delivered, known_kept, linked_by_mask, near_linked, own_on, same_near, sends_any, serving_more, turns, up_more}
 use Rattle.base.proofs.Exports.{nat_tests}
-use Rattle.failover.specs.Exports.{IsNewestAdvert, held_advert, is_newer}
-use Rattle.steps.specs.Exports.{HasSwitch}
+use Rattle.failover.specs.Exports.{IsNewestAdvert, held_advert, is_newer_advert}
+use Rattle.steps.specs.Exports.{StepSwitchExists}
 use Rattle.update_machine.proofs.Exports.{known_link_laws, near_stays}
 use Rattle.convergence_laws.specs.Exports.{IsConvergenceAdvertAsNew}
 use Rattle.convergence_laws.proofs.ConvergenceAdverts.{HasNews, HaveNews, IsHad, IsOther, IsStill, as_new_itself, given_grows, news_on, sends_tell, stills_news}
@@ -27,7 +27,7 @@ near_both setting journal s k small is = search (rules, in_mask_of, linked_turn,
 
 -- ---- the newest advert that a switch holds
 
-older : (a b : Advert) → is_newer b a ≡ true → is_newer a b ≡ false
+older : (a b : Advert) → is_newer_advert b a ≡ true → is_newer_advert a b ≡ false
 older a b newer = grind (arith, nat_tests)
 
 pub record IsHeldAsNew (setting : Setting) (journal : List Item) (s : ℕ) (than : Advert)
@@ -62,13 +62,13 @@ newest_held setting journal s a of = by_known (journal_advert_known setting jour
         new = by_place (in_either a newest.0 (best ∷ newest.1) (rw newest.2 at there));
       };
     } where
-      by_place : IsIn a newest.0 ⊎ IsIn a (best ∷ newest.1) → IsFalse (is_newer a best)
+      by_place : IsIn a newest.0 ⊎ IsIn a (best ∷ newest.1) → IsFalse (is_newer_advert a best)
       by_place (inl before) = older a best
-          (all_in (λ (b : Advert). b.origin ≡ a.origin → IsTrue (is_newer best b)) a newest.0
+          (all_in (λ (b : Advert). b.origin ≡ a.origin → IsTrue (is_newer_advert best b)) a newest.0
           newest.4 before refl)
       by_place (inr (inl same)) = rw same (as_new_itself a).new
       by_place (inr (inr after)) =
-          all_in (λ (b : Advert). b.origin ≡ a.origin → IsFalse (is_newer b best)) a newest.1
+          all_in (λ (b : Advert). b.origin ≡ a.origin → IsFalse (is_newer_advert b best)) a newest.1
           newest.5 after refl
 
 pub held_in : (setting : Setting) (journal : List Item) (s origin : ℕ) (advert : Advert)
@@ -235,17 +235,17 @@ link_news {since = since} setting before here next links_same both none known ha
 -- ---- the debt is paid
 
 pub sends_still : (journal : List Item) (messages : List Message)
-    → JournalItemsHaveCauses IsStill journal (send_items journal messages)
+    → JournalItemsHaveCauses IsStill journal (machine_send_items journal messages)
 sends_still = sends_any IsStill (λ before n message. tt)
 
 pub sends_near : (setting : Setting) (journal : List Item) (messages : List Message) (s : ℕ)
-    → near setting (journal ++ send_items journal messages) s ≡ near setting journal s
+    → near setting (journal ++ machine_send_items journal messages) s ≡ near setting journal s
 sends_near setting journal messages s = search (rules, near_stays, sends_any)
 
 -- both ends of a link are switches of the network
 pub record AreEnds (setting : Setting) (s neighbour : ℕ) : Type 0 where
-  pub one : HasSwitch setting.net s
-  pub other : HasSwitch setting.net neighbour
+  pub one : StepSwitchExists setting.net s
+  pub other : StepSwitchExists setting.net neighbour
 
 pub ends_there : (setting : Setting) (journal : List Item) (s neighbour : ℕ) → IsNet setting.net
     → IsTrue (has (near setting journal s) neighbour) → AreEnds setting s neighbour
@@ -310,13 +310,13 @@ pay_links {since = since} setting before now net late have = record {
 } where
   messages : List Message
   messages = flat_map (machine_messages_of setting before now)
-      (filter (journal_usable_links_changed setting before now) (setting_switches_of setting))
+      (filter (journal_usable_links_changed setting before now) (machine_switches_of setting))
 
   after : List Item
-  after = now ++ send_items now messages
+  after = now ++ machine_send_items now messages
 
   kept : HaveNews setting since (IsOwed setting before now) after
-  kept = stills_news setting (IsOwed setting before now) now (send_items now messages)
+  kept = stills_news setting (IsOwed setting before now) now (machine_send_items now messages)
       (sends_still now messages) have
 
   paid : (s neighbour : ℕ) (a : Advert) → IsTrue (has (near setting now s) neighbour)
@@ -329,11 +329,11 @@ pay_links {since = since} setting before now net late have = record {
         as_new = tells.as_new;
         had = inr (sends_tell now messages neighbour tells.advert late
             (in_flat_map (machine_messages_of setting before now) s (machine_advert_to neighbour tells.advert)
-            (filter (journal_usable_links_changed setting before now) (setting_switches_of setting))
-            (in_filter (journal_usable_links_changed setting before now) s (setting_switches_of setting) (in_range s 0
+            (filter (journal_usable_links_changed setting before now) (machine_switches_of setting))
+            (in_filter (journal_usable_links_changed setting before now) s (machine_switches_of setting) (in_range s 0
             (length setting.net.switches) (omega arith) (omega (arith, ends.one))) owed.changed)
             (in_flat_map (machine_messages_over_link setting before now s) neighbour
-            (machine_advert_to neighbour tells.advert) (setting_switches_in setting (near setting now s)) (in_filter
-            (has (near setting now s)) neighbour (setting_switches_of setting) (in_range neighbour 0 (length
+            (machine_advert_to neighbour tells.advert) (machine_switches_in setting (near setting now s)) (in_filter
+            (has (near setting now s)) neighbour (machine_switches_of setting) (in_range neighbour 0 (length
             setting.net.switches) (omega arith) (omega (arith, ends.other))) linked) tells.is)));
       }

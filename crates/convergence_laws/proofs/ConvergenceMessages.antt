@@ -2,8 +2,8 @@
 -- was delivered to a switch in the boot in which it was sent, or to the controller, it was heard.
 use Rattle.std.proofs.Common.{[], if◌then◌else◌, ◌++◌, ◌+◌, ◌<◌, ◌==◌, ◌||◌, ◌∙◌, ◌∷◌, ◌≡◌, ◌≤◌, ◌⊎◌, Bool, IfSome, IsFalse, IsTrue, List, None, Option, Some, ap, append-nil, append_assoc, arith, eq-eqb, eqb-true, false, inl, inr, refl, subst, sym, true, ℕ, rules}
 use Rattle.base.proofs.Exports.{AllByRecursion, IfSome_then, each_append, nat_tests, option_map_or, ⊤}
-use Rattle.ctrl_msg.specs.Exports.{body_boot, to_controller}
-use Rattle.update_machine.specs.Exports.{Body, JournalItemsHaveCauses, Item, Message, Place, Sending, Setting, MachineTakesNextNumber, journal_body_to_controller, journal_body_to_switch, journal_receiver_boot_at, journal_boot_of, journal_controller_heard, heard, is_deliverable, is_delivery_item, is_journal_body_for_boot, is_journal_forgetting, is_forgotten_in_journal, is_sending, is_up, journal_message_of, journal_next_message, send_items, sendings, machine_sent_items_from, machine_message_to_switch, was_delivered}
+use Rattle.ctrl_msg.specs.Exports.{body_boot, message_to_controller}
+use Rattle.update_machine.specs.Exports.{Body, JournalItemsHaveCauses, Item, Message, Place, MachineSending, Setting, MachineTakesNextNumber, journal_body_to_controller, journal_body_to_switch, journal_receiver_boot_at, journal_boot_of, journal_controller_heard, heard, is_deliverable, is_machine_delivery_item, is_journal_body_for_boot, is_journal_forgetting, is_forgotten_in_journal, is_machine_sending_item, is_up, journal_message_of, journal_next_message, machine_send_items, machine_sendings, machine_sent_items_from, machine_message_to_switch, was_delivered_in_journal}
 use Rattle.update_machine.proofs.Exports.{PiecesHave, count_of_append, folded_append, next_rises, piece_next, start_laws}
 use Rattle.control_laws.specs.Exports.{HasControlItemCause}
 use Rattle.control_laws.proofs.Exports.{AreKept, Both, GoesOn, IsKnown, boot_more, boot_rises, counted_more, each_weaker, fact_on, goes_on, have_both, heard_more, known_at_first, known_kept, message_more, some_more, told_more, turns}
@@ -14,29 +14,29 @@ use Rattle.convergence_laws.proofs.ConvergencePlainItems as plain
 -- ---- what one more item sends
 
 -- the sending of an item
-abbrev pub sent_by : List Item → Item → List Sending
+abbrev pub sent_by : List Item → Item → List MachineSending
 sent_by before (Item.Sent number message) =
     record { number = number; message = message; boot = journal_receiver_boot_at before message.to } ∷ []
 sent_by before _ = []
 
 pub sendings_more : (before : List Item) (next : Item)
-    → sendings (before ++ next ∷ []) ≡ sendings before ++ sent_by before next
-unfolding sendings
+    → machine_sendings (before ++ next ∷ []) ≡ machine_sendings before ++ sent_by before next
+unfolding machine_sendings
 sendings_more before next = search (rules, folded_append)
 
 -- ---- what was sent
 
 -- a message was sent
 pub record IsSent (journal : List Item) (message : Message) : Type 0 where
-  pub sending : Sending
-  pub is : IsIn sending (sendings journal)
+  pub sending : MachineSending
+  pub is : IsIn sending (machine_sendings journal)
   pub of : sending.message ≡ message
 
 pub sent_stays : (before : List Item) (next : Item) (message : Message) → IsSent before message
     → IsSent (before ++ next ∷ []) message
 sent_stays before next message sent = record {
   sending = sent.sending;
-  is = rw (sendings_more before next) (in_left sent.sending (sendings before) _ sent.is);
+  is = rw (sendings_more before next) (in_left sent.sending (machine_sendings before) _ sent.is);
   of = sent.of;
 }
 
@@ -50,7 +50,7 @@ pub sent_now : (before : List Item) (number : ℕ) (message : Message)
     → IsSent (before ++ Item.Sent number message ∷ []) message
 sent_now before number message = record {
   sending = record { number = number; message = message; boot = journal_receiver_boot_at before message.to };
-  is = rw (sendings_more before _) (in_right _ (sendings before) _ (inl refl));
+  is = rw (sendings_more before _) (in_right _ (machine_sendings before) _ (inl refl));
   of = refl;
 }
 
@@ -68,24 +68,24 @@ all_sent journal n (first ∷ messages) message is = let next : Item = Item.Sent
     ])
 
 pub sends_all : (journal : List Item) (messages : List Message) (message : Message)
-    → IsIn message messages → IsSent (journal ++ send_items journal messages) message
+    → IsIn message messages → IsSent (journal ++ machine_send_items journal messages) message
 sends_all journal messages message is = all_sent journal (journal_next_message journal) messages message is
 
 -- ---- what one more item makes of numbers and deliveries
 
 next_more : (before : List Item) (next : Item) → journal_next_message (before ++ next ∷ [])
-    ≡ (if is_sending next then journal_next_message before + 1 else journal_next_message before)
+    ≡ (if is_machine_sending_item next then journal_next_message before + 1 else journal_next_message before)
 unfolding journal_next_message
-next_more before next = counted_more is_sending before next
+next_more before next = counted_more is_machine_sending_item before next
 
 pub next_first : (journal : List Item) → 1 ≤ journal_next_message journal
 unfolding journal_next_message
 next_first journal = omega arith
 
 pub delivered_more : (before : List Item) (next : Item) (n : ℕ)
-    → was_delivered (before ++ next ∷ []) n ≡ (is_delivery_item n next || was_delivered before n)
-unfolding was_delivered
-delivered_more before next n = some_more (is_delivery_item n) before next
+    → was_delivered_in_journal (before ++ next ∷ []) n ≡ (is_machine_delivery_item n next || was_delivered_in_journal before n)
+unfolding was_delivered_in_journal
+delivered_more before next n = some_more (is_machine_delivery_item n) before next
 
 pub forgotten_more : (before : List Item) (next : Item) (n : ℕ)
     → is_forgotten_in_journal (before ++ next ∷ []) n ≡ (is_journal_forgetting n next || is_forgotten_in_journal before n)
@@ -95,25 +95,25 @@ forgotten_more before next n = some_more (is_journal_forgetting n) before next
 -- numbers of messages never fall
 pub next_grows : (journal items : List Item) → journal_next_message journal ≤ journal_next_message (journal ++ items)
 unfolding journal_next_message
-next_grows journal items = omega (arith, count_of_append is_sending journal items)
+next_grows journal items = omega (arith, count_of_append is_machine_sending_item journal items)
 
 -- ---- what becomes of a message
 
 -- the boot in which it was sent to the switch isn't above the switch's, nor is that of its body
 -- above it; delivered in that boot it was heard
-pub record SwitchCourse (journal : List Item) (s : ℕ) (x : Sending) : Type 0 where
+pub record SwitchCourse (journal : List Item) (s : ℕ) (x : MachineSending) : Type 0 where
   pub own : x.boot ≤ journal_boot_of journal s
   pub past : IfSome (body_boot x.message.body) (λ boot. boot ≤ x.boot)
   pub heard : IsTrue (is_up journal s) → x.boot ≡ journal_boot_of journal s
-      → IsTrue (is_journal_body_for_boot x.boot x.message.body) → IsTrue (was_delivered journal x.number)
+      → IsTrue (is_journal_body_for_boot x.boot x.message.body) → IsTrue (was_delivered_in_journal journal x.number)
       → IsIn x.message.body (heard journal s)
 
-abbrev pub Course : List Item → Place → Sending → Type 0
+abbrev pub Course : List Item → Place → MachineSending → Type 0
 Course journal (Place.Switch s) x = SwitchCourse journal s x
 Course journal Place.Controller x =
-    IsTrue (was_delivered journal x.number) → IsIn x.message.body (journal_controller_heard journal)
+    IsTrue (was_delivered_in_journal journal x.number) → IsIn x.message.body (journal_controller_heard journal)
 
-pub record IsTraced (journal : List Item) (x : Sending) : Type 0 where
+pub record IsTraced (journal : List Item) (x : MachineSending) : Type 0 where
   pub first : 1 ≤ x.number
   pub number : x.number < journal_next_message journal
   pub message : journal_message_of journal x.number ≡ Some x.message
@@ -124,9 +124,9 @@ pub record AreTraced (journal : List Item) : Type 0 where
   pub known : IsKnown journal
   pub sent : (n : ℕ) (message : Message) → journal_message_of journal n ≡ Some message
       → n < journal_next_message journal
-  pub delivered : (n : ℕ) → IsTrue (was_delivered journal n) → n < journal_next_message journal
+  pub delivered : (n : ℕ) → IsTrue (was_delivered_in_journal journal n) → n < journal_next_message journal
   pub forgotten : (n : ℕ) → IsTrue (is_forgotten_in_journal journal n) → n < journal_next_message journal
-  pub each : AllByRecursion (IsTraced journal) (sendings journal)
+  pub each : AllByRecursion (IsTraced journal) (machine_sendings journal)
 
 -- ---- causes
 
@@ -165,11 +165,11 @@ pieces_in_order setting journal row step = have_both (HasControlItemCause settin
 
 -- ---- items keep it
 
-number_on : (before : List Item) (next : Item) (x : Sending) → x.number < journal_next_message before
+number_on : (before : List Item) (next : Item) (x : MachineSending) → x.number < journal_next_message before
     → x.number < journal_next_message (before ++ next ∷ [])
 number_on before next x below = omega (arith, below, next_rises before next)
 
-message_on : (before : List Item) (next : Item) (x : Sending) → MachineTakesNextNumber before next
+message_on : (before : List Item) (next : Item) (x : MachineSending) → MachineTakesNextNumber before next
     → x.number < journal_next_message before → journal_message_of before x.number ≡ Some x.message
     → journal_message_of (before ++ next ∷ []) x.number ≡ Some x.message
 message_on before (Item.Sent number message) x takes below is =
@@ -205,7 +205,7 @@ delivery_heard before s number body sent up own =
     (in_right body (heard before s) (body ∷ []) (inl refl))
 
 delivery_told : (before : List Item) (number : ℕ) (body : Body)
-    → journal_message_of before number ≡ Some (to_controller body)
+    → journal_message_of before number ≡ Some (message_to_controller body)
     → IsIn body (journal_controller_heard (before ++ Item.Delivered number ∷ []))
 delivery_told before number body sent =
     let said : journal_body_to_controller before number ≡ Some body = rw (sent, journal_body_to_controller) refl in
@@ -214,15 +214,15 @@ delivery_told before number body sent =
 
 -- what was delivered behind a delivery is that, or was so before
 delivered_either : (before : List Item) (number n : ℕ)
-    → IsTrue (was_delivered (before ++ Item.Delivered number ∷ []) n)
-    → (number ≡ n) ⊎ IsTrue (was_delivered before n)
+    → IsTrue (was_delivered_in_journal (before ++ Item.Delivered number ∷ []) n)
+    → (number ≡ n) ⊎ IsTrue (was_delivered_in_journal before n)
 delivered_either before number n delivered = search (rules, delivered_more, eqb-true)
 
-switch_heard : (before : List Item) (next : Item) (s : ℕ) (x : Sending) (to : Message)
+switch_heard : (before : List Item) (next : Item) (s : ℕ) (x : MachineSending) (to : Message)
     → to ≡ machine_message_to_switch s x.message.body → journal_message_of before x.number ≡ Some to
     → GoesOn before next s x.boot → SwitchCourse before s x
     → IsTrue (is_journal_body_for_boot x.boot x.message.body)
-    → IsTrue (was_delivered (before ++ next ∷ []) x.number)
+    → IsTrue (was_delivered_in_journal (before ++ next ∷ []) x.number)
     → IsIn x.message.body (heard (before ++ next ∷ []) s)
 switch_heard before (Item.Delivered number) s x to is sent on course own delivered =
     elim (delivered_either before number x.number delivered) [
@@ -233,7 +233,7 @@ switch_heard before (Item.Delivered number) s x to is sent on course own deliver
 switch_heard before next s x to is sent on course own delivered = heard_grows before next s _
     on.same (course.heard on.up on.own own (rw (delivered_more before next x.number) at delivered))
 
-switch_on : (setting : Setting) (before : List Item) (next : Item) (s : ℕ) (x : Sending)
+switch_on : (setting : Setting) (before : List Item) (next : Item) (s : ℕ) (x : MachineSending)
     → HasControlItemCause setting before next
     → journal_message_of before x.number ≡ Some (machine_message_to_switch s x.message.body)
     → SwitchCourse before s x → SwitchCourse (before ++ next ∷ []) s x
@@ -244,8 +244,8 @@ switch_on setting before next s x cause sent course = record {
       sent (goes_on setting before next s x.boot cause course.own up own) course for delivered;
 }
 
-told_on : (before : List Item) (next : Item) (x : Sending)
-    → journal_message_of before x.number ≡ Some (to_controller x.message.body)
+told_on : (before : List Item) (next : Item) (x : MachineSending)
+    → journal_message_of before x.number ≡ Some (message_to_controller x.message.body)
     → Course before Place.Controller x → Course (before ++ next ∷ []) Place.Controller x
 told_on before (Item.Delivered number) x sent course delivered =
     elim (delivered_either before number x.number delivered) [
@@ -255,7 +255,7 @@ told_on before (Item.Delivered number) x sent course delivered =
 told_on before next x sent course delivered =
     rw (told_more before next) (course (rw (delivered_more before next x.number) at delivered))
 
-course_on : (setting : Setting) (before : List Item) (next : Item) (to : Place) (x : Sending)
+course_on : (setting : Setting) (before : List Item) (next : Item) (to : Place) (x : MachineSending)
     → HasControlItemCause setting before next
     → journal_message_of before x.number ≡ Some (record { to = to; body = x.message.body })
     → Course before to x → Course (before ++ next ∷ []) to x
@@ -263,7 +263,7 @@ course_on setting before next (Place.Switch s) x cause sent course =
     switch_on setting before next s x cause sent course
 course_on setting before next Place.Controller x cause sent course = told_on _ next x sent course
 
-traced_on : (setting : Setting) (before : List Item) (next : Item) (x : Sending)
+traced_on : (setting : Setting) (before : List Item) (next : Item) (x : MachineSending)
     → IsInOrder setting before next → IsTraced before x → IsTraced (before ++ next ∷ []) x
 traced_on setting before next x cause traced = record {
   first = traced.first;
@@ -276,7 +276,7 @@ traced_on setting before next x cause traced = record {
 
 new_course : (before : List Item) (number : ℕ) (to : Place) (body : Body)
     → IsKnown (before ++ Item.Sent number (record { to = to; body = body }) ∷ [])
-    → IsFalse (was_delivered before number)
+    → IsFalse (was_delivered_in_journal before number)
     → Course (before ++ Item.Sent number (record { to = to; body = body }) ∷ []) to (record {
       number = number;
       message = record { to = to; body = body };
@@ -294,7 +294,7 @@ new_course before number (Place.Switch s) body known fresh =
           let no = sym fresh ∙ (rw (delivered_more before next number) at delivered) in absurd cc;
     }
 new_course before number Place.Controller body known fresh = λ delivered. let next : Item =
-    Item.Sent number (to_controller body) in
+    Item.Sent number (message_to_controller body) in
     absurd (cc (sym fresh ∙ (rw (delivered_more before next number) at delivered)))
 
 new_traced : (setting : Setting) (before : List Item) (number : ℕ) (message : Message)
@@ -308,10 +308,10 @@ new_traced setting before number message cause are =
       number = rw (next_more before next) (omega (arith, takes));
       message = rw (message_more before next number, eq-eqb number number refl) refl;
       course = new_course before number _ _ (known_kept setting before next cause.first are.known)
-          (by_test (was_delivered before number) refl);
+          (by_test (was_delivered_in_journal before number) refl);
     }
   where
-    by_test : (b : Bool) → was_delivered before number ≡ b → IsFalse (was_delivered before number)
+    by_test : (b : Bool) → was_delivered_in_journal before number ≡ b → IsFalse (was_delivered_in_journal before number)
     by_test false e = e
     by_test true e = absurd (omega (arith, are.delivered number e, cause.second.first))
 
@@ -340,7 +340,7 @@ sent_below setting before next n message cause are is =
 
 delivered_below : (setting : Setting) (before : List Item) (next : Item) (n : ℕ)
     → IsInOrder setting before next → AreTraced before
-    → IsTrue (was_delivered (before ++ next ∷ []) n) → n < journal_next_message (before ++ next ∷ [])
+    → IsTrue (was_delivered_in_journal (before ++ next ∷ []) n) → n < journal_next_message (before ++ next ∷ [])
 delivered_below setting before next n cause are is =
     search (rules, delivered_more, eqb-true, next_rises)
 
@@ -357,13 +357,13 @@ traced_kept setting before next cause are = record {
   delivered = λ n is. delivered_below setting before next n cause are is;
   forgotten = λ n is. forgotten_below setting before next n cause are is;
   each = rw (sendings_more before next)
-      (each_append _ (sendings before) (sent_by before next) (each_weaker (IsTraced before)
+      (each_append _ (machine_sendings before) (sent_by before next) (each_weaker (IsTraced before)
       (IsTraced (before ++ next ∷ [])) (λ x traced. traced_on setting before next x cause traced)
-      (sendings before) are.each) (sent_traced setting before next cause are));
+      (machine_sendings before) are.each) (sent_traced setting before next cause are));
 }
 
 pub traced_at_first : AreTraced []
-unfolding was_delivered is_forgotten_in_journal
+unfolding was_delivered_in_journal is_forgotten_in_journal
 traced_at_first = search (rules, known_at_first, start_laws)
 
 pub caused_traced : (setting : Setting) (journal : List Item)

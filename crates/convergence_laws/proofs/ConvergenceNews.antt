@@ -1,7 +1,7 @@
 -- At the end of each step what a switch has each neighbour has as new, or was sent.
 use Rattle.std.proofs.Common.{[], ◌&&◌, ◌++◌, ◌+◌, ◌==◌, ◌∙◌, ◌∷◌, ◌≡◌, ◌≤◌, ◌⊎◌, Bool, IsFalse, IsTrue, List, ap, append_assoc, arith, eq-eqb, eqb-true, false, inl, inr, map, max, min, not, refl, subst, sym, true, ℕ, rules}
 use Rattle.base.proofs.Exports.{beq}
-use Rattle.update_machine.specs.Exports.{Advert, JournalItemsHaveCauses, Item, MachineLinksKeep, Setting, Step, journal_boot_of, journal_crash_items, journal_usable_links_changed, heard, machine_hello_of, is_link_up_in_journal, is_up, journal_items_then, journal_link_changes, machine_link_items, near, journal_next_message, nothing, own_advert, journal_packets_at, restart_items, serves}
+use Rattle.update_machine.specs.Exports.{Advert, JournalItemsHaveCauses, Item, MachineLinksKeep, Setting, Step, journal_boot_of, journal_crash_items, journal_usable_links_changed, heard, machine_hello_of, is_link_up_in_journal, is_up, journal_items_then, journal_link_changes, machine_link_items, near, journal_next_message, nothing, own_advert, journal_packets_at, machine_restart_items, serves}
 use Rattle.base.specs.Exports.{has}
 use Rattle.net_file.specs.Exports.{IsNet}
 use Rattle.update_machine.proofs.Exports.{last_given_append, links_keep, near_same, near_stays}
@@ -178,7 +178,7 @@ booted_link here s boot one other = search (rules, last_given_append)
 pub restart_spread : {since : ℕ} (setting : Setting) (before : List Item) (row : ℕ)
     (step : Step) (s : ℕ) → let here = before ++ Item.Row row step ∷ [] in
     IsKnown here → Spread setting since here
-    → Spread setting since (here ++ restart_items s here)
+    → Spread setting since (here ++ machine_restart_items s here)
 restart_spread {since = since} setting before row step s known have =
     restart_cases (Spread setting since) s here (still_spread setting here nothing (tt, tt) have)
     (λ down. still_spread setting now _ (sends_still now (machine_hello_of now s ∷ [])) (booted down))

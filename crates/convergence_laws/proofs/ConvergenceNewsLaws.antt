@@ -1,15 +1,15 @@
 -- The laws on news and on known links, behind any steps.
 use Rattle.std.proofs.Common.{[], ◌&&◌, ◌++◌, ◌+◌, ◌<◌, ◌==◌, ◌||◌, ◌∙◌, ◌∷◌, ◌≡◌, ◌≢◌, ◌≤◌, ◌⊎◌, Bool, Contains, IsFalse, IsTrue, List, None, Option, Some, ap, append-nil, append_assoc, arith, eq-eqb, eqb-true, false, find, if◌then◌else◌, inl, inr, not, refl, subst, suc, sym, true, zero, ℕ, rules}
 use Rattle.base.proofs.Exports.{nat_tests}
-use Rattle.update_machine.specs.Exports.{Advert, Advertise, AreAllMachineEventSteps, AreMachineMessagesReceived, AreMachineSteps, AreMachineStepsOf, Body, Event, Flush, JournalItemsHaveCauses, IsQuietMachineJournal, Item, Message, Place, Sending, Setting, Step, StepOfRow, journal_after_steps, journal_receiver_boot_at, journal_boot_of, count_of, heard, is_deliverable, is_journal_body_for_boot, is_forgotten_in_journal, is_machine_later_body, is_sending, is_up, is_waiting, journal_message_of, journal_next_delivery, journal_next_message, next_waiting, machine_advert_of_other, piece, sendings, was_delivered}
-use Rattle.control_laws.specs.Exports.{ControlLawHoldsAtEnds, ControlLawHoldsBehindItems, OwnAdvertsAreNewest}
+use Rattle.update_machine.specs.Exports.{Advert, Advertise, AreAllMachineEventSteps, AreMachineMessagesReceived, AreMachineSteps, AreMachineStepsOf, Body, Event, Flush, JournalItemsHaveCauses, IsQuietMachineJournal, Item, Message, Place, MachineSending, Setting, Step, MachineStepOfRow, journal_after_steps, journal_receiver_boot_at, journal_boot_of, machine_count_of, heard, is_deliverable, is_journal_body_for_boot, is_forgotten_in_journal, is_machine_later_body, is_machine_sending_item, is_up, is_waiting, journal_message_of, journal_next_delivery, journal_next_message, next_waiting, machine_advert_of_other, piece, machine_sendings, was_delivered_in_journal}
+use Rattle.control_laws.specs.Exports.{ControlLawHoldsAtEnds, ControlLawHoldsBehindItems, ControlOwnAdvertsAreNewest}
 use Rattle.control_laws.proofs.Exports.{at_ends, behind_both, behind_items, own_newest, steps_have}
-use Rattle.convergence_laws.specs.Exports.{EndsInFinishedNetwork, ConvergedGetStuckApart, HasConverged, IsConvergenceAdvertAsNew, IsNetworkFinished, IsNetworkUpdateConverged, NeighboursAgree, NewsConvergesToNeighbours}
+use Rattle.convergence_laws.specs.Exports.{EndsInFinishedConvergenceNetwork, ConvergedGetStuckApart, HasConverged, IsConvergenceAdvertAsNew, IsConvergenceNetworkFinished, IsNetworkUpdated, ConvergenceNeighboursAgree, ConvergenceNewsSpreads}
 use Rattle.convergence_laws.proofs.ConvergencePlainItems.{IsIn, each_in, in_filter_map, in_range}
 use Rattle.convergence_laws.proofs.ConvergedReceipts.{IsGot, delivered_append, got, heard_in_boot, in_sendings}
 use Rattle.convergence_laws.proofs.ConvergenceMessages.{AreTraced, IsInOrder, IsTraced, caused_traced, pieces_in_order, traced_at_first, traced_kept}
 use Rattle.net_file.specs.Exports.{IsNet}
-use Rattle.steps.specs.Exports.{HasSwitch}
+use Rattle.steps.specs.Exports.{StepSwitchExists}
 use Rattle.convergence_laws.proofs.ConvergenceAgreement.{AreSpread, IsGivenNew, TellsOwn, caused_tells, spread_agree, spread_cases}
 use Rattle.convergence_laws.proofs.ConvergedKnownLinks.{AreAgreed, agreed_converged}
 use Rattle.convergence_laws.proofs.ConvergedStuckPackets.{stuck_reaches_none}
@@ -32,11 +32,11 @@ not_waiting : (journal : List Item) (number : ℕ) → next_waiting journal ≡ 
     → number < journal_next_message journal → IsFalse (is_waiting journal number)
 unfolding next_waiting journal_next_message
 not_waiting journal number none first below = none_found (is_waiting journal) number _ none
-    (in_range number 1 (count_of is_sending journal) first (omega (arith, below)))
+    (in_range number 1 (machine_count_of is_machine_sending_item journal) first (omega (arith, below)))
 
 pub sent_delivered : (journal : List Item) (number : ℕ) (message : Message) → next_waiting journal
     ≡ None → IsFalse (is_forgotten_in_journal journal number) → journal_message_of journal number ≡ Some message
-    → 1 ≤ number → number < journal_next_message journal → IsTrue (was_delivered journal number)
+    → 1 ≤ number → number < journal_next_message journal → IsTrue (was_delivered_in_journal journal number)
 unfolding is_deliverable
 sent_delivered journal number message waiting forgotten sent first below = by_delivered _ refl
     (not_waiting journal number waiting first below)
@@ -44,45 +44,45 @@ sent_delivered journal number message waiting forgotten sent first below = by_de
     deliverable : is_deliverable journal number ≡ true
     deliverable = rw (sent, forgotten) refl
 
-    by_delivered : (b : Bool) → was_delivered journal number ≡ b
-        → IsFalse (is_deliverable journal number && not b) → IsTrue (was_delivered journal number)
+    by_delivered : (b : Bool) → was_delivered_in_journal journal number ≡ b
+        → IsFalse (is_deliverable journal number && not b) → IsTrue (was_delivered_in_journal journal number)
     by_delivered true e waits = e
     by_delivered false e waits = absurd (cc (sym (ap (λ b. b && true) deliverable) ∙ waits))
 
-pub one_delivered : (journal : List Item) (x : Sending) → next_waiting journal ≡ None
+pub one_delivered : (journal : List Item) (x : MachineSending) → next_waiting journal ≡ None
     → IsFalse (is_forgotten_in_journal journal x.number) → IsTraced journal x
-    → IsTrue (was_delivered journal x.number)
+    → IsTrue (was_delivered_in_journal journal x.number)
 one_delivered journal x waiting forgotten traced = search (rules, sent_delivered)
 
 -- an item that sends a message delivers none
 sent_alone : (number n : ℕ) (message : Message)
-    → was_delivered (Item.Sent number message ∷ []) n ≡ false
-unfolding was_delivered
+    → was_delivered_in_journal (Item.Sent number message ∷ []) n ≡ false
+unfolding was_delivered_in_journal
 sent_alone number n message = refl
 
 -- where each message was delivered, it was behind its sending
 each_received : (setting : Setting) (journal front items : List Item) → journal ≡ front ++ items
-    → ((x : Sending) → IsIn x (sendings journal) → IsTrue (was_delivered journal x.number))
+    → ((x : MachineSending) → IsIn x (machine_sendings journal) → IsTrue (was_delivered_in_journal journal x.number))
     → AreTraced front → JournalItemsHaveCauses (IsInOrder setting) front items
     → AreMachineMessagesReceived setting journal items
 each_received setting journal front [] is all traced have = tt
 each_received setting journal front (Item.Sent number message ∷ items) is all traced have = (
-  λ s there matter. inl (by_test (was_delivered front number) refl),
+  λ s there matter. inl (by_test (was_delivered_in_journal front number) refl),
   each_received setting journal _ items (is ∙ sym (append_assoc front (next ∷ []) items)) all
       (traced_kept setting front next have.0 traced) have.1,
 ) where
   next : Item
   next = Item.Sent number message
 
-  whole : (was_delivered front number
-      || (was_delivered (next ∷ []) number || was_delivered items number)) ≡ true
+  whole : (was_delivered_in_journal front number
+      || (was_delivered_in_journal (next ∷ []) number || was_delivered_in_journal items number)) ≡ true
   whole =
-      ap (λ b. was_delivered front number || b) (sym (delivered_append (next ∷ []) items number))
-      ∙ sym (delivered_append front _ number) ∙ ap (λ js. was_delivered js number) (sym is)
+      ap (λ b. was_delivered_in_journal front number || b) (sym (delivered_append (next ∷ []) items number))
+      ∙ sym (delivered_append front _ number) ∙ ap (λ js. was_delivered_in_journal js number) (sym is)
       ∙ all (record { number = number; message = message; boot = journal_receiver_boot_at front message.to })
       (in_sendings journal front number message items is)
 
-  by_test : (b : Bool) → was_delivered front number ≡ b → IsTrue (was_delivered items number)
+  by_test : (b : Bool) → was_delivered_in_journal front number ≡ b → IsTrue (was_delivered_in_journal items number)
   by_test true e = absurd (omega (arith, traced.delivered number e, have.0.second.first))
   by_test false e = rw (e, sent_alone number number message) at whole
 each_received setting journal front (next ∷ items) is all traced have = each_received setting
@@ -90,19 +90,19 @@ each_received setting journal front (next ∷ items) is all traced have = each_r
     (traced_kept setting front next have.0 traced) have.1
 
 finished_quiet : (setting : Setting) (journal : List Item)
-    → JournalItemsHaveCauses (IsInOrder setting) [] journal → IsNetworkFinished setting journal
+    → JournalItemsHaveCauses (IsInOrder setting) [] journal → IsConvergenceNetworkFinished setting journal
     → IsQuietMachineJournal setting journal
 finished_quiet setting journal have finished = record {
   switches = finished.switches;
   messages = each_received setting journal [] journal refl (λ x is. one_delivered journal x
       finished.waiting (finished.forgotten x.number) (each_in (IsTraced journal) x
-      (sendings journal) (caused_traced setting journal have).each is)) traced_at_first have;
+      (machine_sendings journal) (caused_traced setting journal have).each is)) traced_at_first have;
 }
 
 pub finished_behind :
-    ControlLawHoldsBehindItems (λ setting journal. IsNetworkFinished setting journal → IsQuietMachineJournal setting journal)
+    ControlLawHoldsBehindItems (λ setting journal. IsConvergenceNetworkFinished setting journal → IsQuietMachineJournal setting journal)
 finished_behind =
-    behind_items (λ setting journal. IsNetworkFinished setting journal → IsQuietMachineJournal setting journal)
+    behind_items (λ setting journal. IsConvergenceNetworkFinished setting journal → IsQuietMachineJournal setting journal)
     IsInOrder pieces_in_order finished_quiet
 
 -- ---- news laws
@@ -116,14 +116,14 @@ contains_in x (y ∷ xs) (inr later) =
     let found = contains_in x xs later in (suc found.0, omega (arith, found.1), found.2)
 
 news_spread : (setting : Setting) (journal : List Item) → AreSpread setting 0 journal
-    → NewsConvergesToNeighbours setting journal
+    → ConvergenceNewsSpreads setting journal
 news_spread setting journal are s neighbour origin a linked small known =
     elim (spread_cases setting journal are s neighbour origin a linked small known) [
       | inl held ↦ inl held
       | inr news ↦ inr (record {
         number = news.told.number;
         advert = news.advert;
-        sent = contains_in _ (sendings journal) news.told.is;
+        sent = contains_in _ (machine_sendings journal) news.told.is;
         as_new = news.as_new;
       })
     ]
@@ -136,7 +136,7 @@ later_advert body b h2 = search (rules, nat_tests, as_new_itself, eqb-true)
 
 told_given : (setting : Setting) (journal : List Item) (s : ℕ) (b : Advert)
     → IsQuietMachineJournal setting journal → JournalItemsHaveCauses (IsInOrder setting) [] journal
-    → HasSwitch setting.net s → IsTrue (is_up journal s) → b.origin ≢ s
+    → StepSwitchExists setting.net s → IsTrue (is_up journal s) → b.origin ≢ s
     → IsToldTo 0 journal s b → IsGivenNew setting journal s b
 told_given setting journal s b quiet causes there up other told = record {
   advert = says.0;
@@ -168,16 +168,16 @@ told_given setting journal s b quiet causes there up other told = record {
 
 -- ---- behind any steps
 
-newest_stepped : (setting : Setting) (steps : List StepOfRow)
-    → OwnAdvertsAreNewest setting (journal_after_steps setting [] steps)
-newest_stepped = (behind_both OwnAdvertsAreNewest own_newest).ends.stepped
+newest_stepped : (setting : Setting) (steps : List MachineStepOfRow)
+    → ControlOwnAdvertsAreNewest setting (journal_after_steps setting [] steps)
+newest_stepped = (behind_both ControlOwnAdvertsAreNewest own_newest).ends.stepped
 
-pub ends_tell : (setting : Setting) (steps : List StepOfRow)
+pub ends_tell : (setting : Setting) (steps : List MachineStepOfRow)
     → TellsOwn setting (journal_after_steps setting [] steps)
 ends_tell = (behind_both TellsOwn caused_tells).ends.stepped
 
 -- what is true of adverts, except whom they reach
-pub ends_spread : {since : ℕ} (setting : Setting) (steps : List StepOfRow) → IsNet setting.net
+pub ends_spread : {since : ℕ} (setting : Setting) (steps : List MachineStepOfRow) → IsNet setting.net
     → Spread setting since (journal_after_steps setting [] steps)
     → AreSpread setting since (journal_after_steps setting [] steps)
 ends_spread setting steps net spread = record {
@@ -187,17 +187,17 @@ ends_spread setting steps net spread = record {
   tells = ends_tell setting steps;
 }
 
-all_spread : (setting : Setting) (steps : List StepOfRow) → IsNet setting.net
+all_spread : (setting : Setting) (steps : List MachineStepOfRow) → IsNet setting.net
     → AreSpread setting 0 (journal_after_steps setting [] steps)
 all_spread setting steps net = ends_spread setting steps net (spread_at_ends setting steps net)
 
-pub news_at_ends : ControlLawHoldsAtEnds (λ setting journal. IsNet setting.net → NewsConvergesToNeighbours setting journal)
+pub news_at_ends : ControlLawHoldsAtEnds (λ setting journal. IsNet setting.net → ConvergenceNewsSpreads setting journal)
 news_at_ends = search (rules, at_ends, news_spread, all_spread)
 
 -- ---- neighbours that agree
 
 pub quiet_at_ends : ControlLawHoldsAtEnds (λ setting journal.
-    IsNet setting.net → IsQuietMachineJournal setting journal → NeighboursAgree setting journal)
+    IsNet setting.net → IsQuietMachineJournal setting journal → ConvergenceNeighboursAgree setting journal)
 quiet_at_ends = at_ends _ (λ setting steps net quiet. spread_agree setting
     (journal_after_steps setting [] steps) (all_spread setting steps net) (λ s b there up other told.
     told_given setting (journal_after_steps setting [] steps) s b quiet (steps_have (IsInOrder setting)
@@ -206,7 +206,7 @@ quiet_at_ends = at_ends _ (λ setting steps net quiet. spread_agree setting
 agreed_at_ends : (Holds : Setting → List Item → Type 0)
     → ((setting : Setting) (journal : List Item) → AreAgreed setting journal → Holds setting journal)
     → ControlLawHoldsAtEnds (λ setting journal.
-    IsNet setting.net → NeighboursAgree setting journal → Holds setting journal)
+    IsNet setting.net → ConvergenceNeighboursAgree setting journal → Holds setting journal)
 agreed_at_ends Holds holds = at_ends _
     (λ setting steps net agree. holds setting (journal_after_steps setting [] steps) (record {
       net = net;
@@ -216,16 +216,16 @@ agreed_at_ends Holds holds = at_ends _
     }))
 
 pub converged_at_ends : ControlLawHoldsAtEnds (λ setting journal.
-    IsNet setting.net → NeighboursAgree setting journal → HasConverged setting journal)
+    IsNet setting.net → ConvergenceNeighboursAgree setting journal → HasConverged setting journal)
 converged_at_ends = agreed_at_ends HasConverged agreed_converged
 
 pub apart_at_ends : ControlLawHoldsAtEnds (λ setting journal.
-    IsNet setting.net → NeighboursAgree setting journal → ConvergedGetStuckApart setting journal)
+    IsNet setting.net → ConvergenceNeighboursAgree setting journal → ConvergedGetStuckApart setting journal)
 apart_at_ends = agreed_at_ends ConvergedGetStuckApart stuck_reaches_none
 
 -- so the same is true of quiet networks
 quiet_ends : (Holds : Setting → List Item → Type 0) → ControlLawHoldsAtEnds (λ setting journal.
-    IsNet setting.net → NeighboursAgree setting journal → Holds setting journal)
+    IsNet setting.net → ConvergenceNeighboursAgree setting journal → Holds setting journal)
     → ControlLawHoldsAtEnds (λ setting journal.
     IsNet setting.net → IsQuietMachineJournal setting journal → Holds setting journal)
 quiet_ends Holds law = search (rules, at_ends, quiet_at_ends)
@@ -242,7 +242,7 @@ quiet_apart = quiet_ends ConvergedGetStuckApart apart_at_ends
 
 -- behind all of them there is no next one
 pub all_end : (setting : Setting) (next : List Item → Option Step) (row : ℕ) (before : List Item)
-    (steps : List StepOfRow) → AreAllMachineEventSteps setting next row before steps
+    (steps : List MachineStepOfRow) → AreAllMachineEventSteps setting next row before steps
     → next (journal_after_steps setting before steps) ≡ None
 all_end setting next row before [] are = are
 all_end setting next row before (first ∷ steps) are =
@@ -250,9 +250,9 @@ all_end setting next row before (first ∷ steps) are =
 
 -- so where the last event takes all of its steps
 pub last_ends : (setting : Setting) (next : List Item → Option Step) (event : Event)
-    → ((row : ℕ) (before : List Item) (steps : List StepOfRow)
+    → ((row : ℕ) (before : List Item) (steps : List MachineStepOfRow)
     → AreMachineStepsOf setting row event before steps → AreAllMachineEventSteps setting next row before steps)
-    → (row : ℕ) (events : List Event) (before : List Item) (steps : List StepOfRow)
+    → (row : ℕ) (events : List Event) (before : List Item) (steps : List MachineStepOfRow)
     → AreMachineSteps setting row (events ++ event ∷ []) before steps
     → next (journal_after_steps setting before steps) ≡ None
 last_ends setting next event takes row [] before steps are =
@@ -264,7 +264,7 @@ last_ends setting next event takes row (first ∷ events) before steps are =
     are.4)
 
 pub flush_ends : (setting : Setting) (row : ℕ) (events : List Event) (before : List Item)
-    (steps : List StepOfRow) → AreMachineSteps setting row (events ++ Flush ∷ []) before steps
+    (steps : List MachineStepOfRow) → AreMachineSteps setting row (events ++ Flush ∷ []) before steps
     → journal_next_delivery (journal_after_steps setting before steps) ≡ None
 flush_ends setting = last_ends setting journal_next_delivery Flush (λ row before steps are. are)
 
@@ -272,7 +272,7 @@ pub none_waits : (journal : List Item) → journal_next_delivery journal ≡ Non
 none_waits journal none = search rules
 
 pub flushed_quiet : (setting : Setting) (events : List Event) (journal : List Item)
-    → EndsInFinishedNetwork setting events journal → IsQuietMachineJournal setting journal
+    → EndsInFinishedConvergenceNetwork setting events journal → IsQuietMachineJournal setting journal
 flushed_quiet setting events journal ends =
     finished_behind.ends.answered setting (events ++ Flush ∷ []) journal ends.answered (record {
       waiting = none_waits journal (rw ends.answered.written
@@ -282,11 +282,11 @@ flushed_quiet setting events journal ends =
     })
 
 pub flushed_converged : (setting : Setting) (events : List Event) (journal : List Item)
-    → IsNet setting.net → EndsInFinishedNetwork setting events journal → HasConverged setting journal
+    → IsNet setting.net → EndsInFinishedConvergenceNetwork setting events journal → HasConverged setting journal
 flushed_converged setting events journal net ends = quiet_converged.answered setting
     (events ++ Flush ∷ []) journal ends.answered net (flushed_quiet setting events journal ends)
 
 pub flushed_updated : (setting : Setting) (events : List Event) (journal : List Item)
-    → EndsInFinishedNetwork setting events journal → IsNetworkUpdateConverged setting journal
+    → EndsInFinishedConvergenceNetwork setting events journal → IsNetworkUpdated setting journal
 flushed_updated setting events journal ends = updated_at_ends.answered setting
     (events ++ Flush ∷ []) journal ends.answered (flushed_quiet setting events journal ends)

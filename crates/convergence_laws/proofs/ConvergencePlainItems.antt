@@ -3,7 +3,7 @@
 -- make none stuck either.
 use Rattle.std.proofs.Common.{[], ◌++◌, ◌+◌, ◌<◌, ◌∙◌, ◌∷◌, ◌≡◌, ◌≤◌, ◌⊎◌, All, Bool, IsFalse, IsTrue, List, None, Option, Some, ap, arith, false, filter, filter_map, flat_map, inl, inr, length, map, refl, slice_index_or, subst, suc, sym, true, zero, ℕ, rules}
 use Rattle.base.proofs.Exports.{⊤, AllByRecursion, cases_eq, cons_option, range_with_len, recursion_from_All}
-use Rattle.update_machine.specs.Exports.{Body, Confirm, Crash, Deliver, JournalItemsHaveCauses, Hop, Item, LinkDown, LinkUp, Message, Packet, Resend, Restart, Setting, Step, Update, journal_boot_of, deliver_items, machine_delivery_items, machine_expire_items, machine_forget_items, machine_hello_of, is_deliverable, is_up, journal_items_then, journal_link_changes, lose_items, nothing, restart_items, send_items, settling, machine_step_items, journal_switch_items}
+use Rattle.update_machine.specs.Exports.{Body, Confirm, Crash, Deliver, JournalItemsHaveCauses, Hop, Item, LinkDown, LinkUp, Message, Packet, Resend, Restart, Setting, Step, Update, journal_boot_of, machine_deliver_items, machine_delivery_items, machine_expire_items, machine_forget_items, machine_hello_of, is_deliverable, is_up, journal_items_then, journal_link_changes, machine_lose_items, nothing, machine_restart_items, machine_send_items, machine_settling, machine_step_items, journal_switch_items}
 use Rattle.update_machine.proofs.Exports.{PiecesHave, have_first, message_keeps}
 use Rattle.control_laws.proofs.Exports.{Change, Control, IsChange, IsControl, IsTraffic, confirm_control, controller_control, crash_changes, delivery_has, have_weaker, link_change, links_change, packet_has, piece_has, resends_any, sends_any, settling_control, step_traffic, switch_cases, update_has, work_cases}
 
@@ -143,11 +143,11 @@ aside_plain = have_weaker IsAside IsPlain aside_is
 -- ---- blocks
 
 sends_aside : (journal : List Item) (messages : List Message)
-    → Aside journal (send_items journal messages)
+    → Aside journal (machine_send_items journal messages)
 sends_aside = sends_any IsAside (λ before n message. tt)
 
 pub sends_plain : (journal : List Item) (messages : List Message)
-    → Plain journal (send_items journal messages)
+    → Plain journal (machine_send_items journal messages)
 sends_plain = sends_any IsPlain (λ before n message. tt)
 
 control_is : (before : List Item) (next : Item) → IsControl before next → IsAside before next
@@ -157,7 +157,7 @@ control_aside : (journal items : List Item) → Control journal items → Aside 
 control_aside = have_weaker IsControl IsAside control_is
 
 pub settling_plain : (setting : Setting) (journal : List Item)
-    → Plain journal (settling setting journal)
+    → Plain journal (machine_settling setting journal)
 settling_plain setting journal = aside_plain _ _ (control_aside _ _ (settling_control _ journal))
 
 change_is : (setting : Setting) (before : List Item) (next : Item) → IsChange setting before next
@@ -198,8 +198,8 @@ delivery_plain setting before number now = aside_plain now _ (delivery_aside _ b
 
 -- ---- other steps
 
-lose_aside : (packet : ℕ) (journal : List Item) → Aside journal (lose_items packet journal)
-unfolding lose_items
+lose_aside : (packet : ℕ) (journal : List Item) → Aside journal (machine_lose_items packet journal)
+unfolding machine_lose_items
 lose_aside packet journal = grind arith
 
 forget_aside : (number : ℕ) (journal : List Item) → Aside journal (machine_forget_items number journal)
@@ -277,8 +277,8 @@ aside_have cause others = have_weaker IsAside cause others.aside
 deliver_have : (cause : List Item → Item → Type 0) → HasOthers cause → (setting : Setting)
     → (before : List Item) (row number : ℕ) (step : Step)
     → let here = before ++ Item.Row row step ∷ [] in
-    JournalItemsHaveCauses cause here (deliver_items setting before number here)
-unfolding deliver_items
+    JournalItemsHaveCauses cause here (machine_deliver_items setting before number here)
+unfolding machine_deliver_items
 deliver_have cause others setting before row number step =
     by_test (is_deliverable before number) refl
   where
@@ -299,14 +299,14 @@ deliver_have cause others setting before row number step =
         (aside_have cause others _ _ (delivery_aside setting before number (here ++ next ∷ [])))
 
 restart_have : (cause : List Item → Item → Type 0) → HasOthers cause → (s : ℕ)
-    → (journal : List Item) → JournalItemsHaveCauses cause journal (restart_items s journal)
-unfolding restart_items
+    → (journal : List Item) → JournalItemsHaveCauses cause journal (machine_restart_items s journal)
+unfolding machine_restart_items
 restart_have cause others s journal = by_up (is_up journal s) refl where
   next : Item
   next = Item.Booted s (journal_boot_of journal s + 1)
 
   hello : List Item → List Item
-  hello booted = send_items booted (machine_hello_of booted s ∷ [])
+  hello booted = machine_send_items booted (machine_hello_of booted s ∷ [])
 
   by_up : (b : Bool) → is_up journal s ≡ b → JournalItemsHaveCauses cause journal (elim b [
     | true ↦ nothing

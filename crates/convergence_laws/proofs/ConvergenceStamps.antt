@@ -1,7 +1,7 @@
 -- After each step each member was opened at the current version, or was told to stamp with it.
 use Rattle.std.proofs.Common.{[], ◌++◌, ◌+◌, ◌<◌, ◌∙◌, ◌∷◌, ◌≡◌, ◌⊎◌, Bool, IsTrue, List, Some, ap, append-nil, append_assoc, arith, false, inl, inr, length, map, nat_lt, refl, subst, sym, true, ℕ, rules}
 use Rattle.base.proofs.Exports.{each_always, each_map, ⊤}
-use Rattle.update_machine.specs.Exports.{Body, JournalControllerKeeps, JournalItemsHaveCauses, Hello, Item, Message, Setting, Step, machine_after_hello, confirm_items, journal_controller_heard, controller_items, current_items, journal_current_mark, deliver_items, in_turn, is_member, is_journal_controller_message, is_over, journal_items_then, journal_known_boot, members, journal_next_current, nothing, machine_open_items, machine_open_sent, journal_opened_at, piece, machine_retired_items, send_items, settling, journal_stamp_for, machine_step_items, setting_switches_of, machine_touched_by, machine_update_items, journal_version_count}
+use Rattle.update_machine.specs.Exports.{Body, JournalControllerKeeps, JournalItemsHaveCauses, Hello, Item, Message, Setting, Step, machine_after_hello, machine_confirm_items, journal_controller_heard, machine_controller_items, machine_current_items, journal_current_mark, machine_deliver_items, machine_blocks_in_turn, is_member, is_journal_controller_message, is_over, journal_items_then, journal_known_boot, members, journal_next_current, nothing, machine_open_items, machine_open_sent, journal_opened_at, piece, machine_retired_items, machine_send_items, machine_settling, journal_stamp_for, machine_step_items, machine_switches_of, machine_touched_by, machine_update_items, journal_version_count}
 use Rattle.update_machine.proofs.Exports.{have_first, have_in_turn}
 use Rattle.control_laws.specs.Exports.{HasControlItemCause, control_asks_controller, control_stamp_message_to}
 use Rattle.control_laws.proofs.Exports.{AreKept, Both, LeavesMember, ReopensAlone, StampsAreCurrent, behind_piece, confirm_cases, current_kept, current_more, deliver_cases, delivered_cases, fact_on, have_both, have_rest, in_two, known_more, leaves_keep, member_was, others_keep, over_cases, over_more, quiet_leaves, sends_any, sends_leave, sent_cases, settling_have, told_is, update_cases}
@@ -98,7 +98,7 @@ stamps_later setting before h2 both have =
     search (rules, stamped_sent, stamped_still, known_more, over_more, current_more)
 
 later_sends : (journal : List Item) (messages : List Message)
-    → JournalItemsHaveCauses IsLater journal (send_items journal messages)
+    → JournalItemsHaveCauses IsLater journal (machine_send_items journal messages)
 later_sends = sends_any IsLater (λ before n message. tt)
 
 open_later : (setting : Setting) (journal : List Item)
@@ -114,7 +114,7 @@ retired_later setting journal = grind (arith, have_first, later_sends)
 -- the members are told of the version to which current rises
 raised_stamps : (setting : Setting) (now : List Item) (version : ℕ)
     → let raised = now ++ Item.Current version ∷ [] in HaveStamps setting
-    (raised ++ send_items raised (map (journal_stamp_for setting now version) (members setting now)))
+    (raised ++ machine_send_items raised (map (journal_stamp_for setting now version) (members setting now)))
 raised_stamps setting now version = record {
   each = λ s there member. inr (by_member s there (was_member s member));
 } where
@@ -128,7 +128,7 @@ raised_stamps setting now version = record {
   stamps = map (journal_stamp_for setting now version) (members setting now)
 
   after : List Item
-  after = raised ++ send_items raised stamps
+  after = raised ++ machine_send_items raised stamps
 
   keeps : JournalControllerKeeps raised after
   keeps = leaves_keep raised _ (sends_leave raised stamps (each_map (ReopensAlone raised) _
@@ -150,13 +150,13 @@ raised_stamps setting now version = record {
       (subst (IsStampSent after s (journal_known_boot now s)) (sym mark) (record {
         touched = machine_touched_by setting now version;
         sent = sends_all raised stamps _ (in_map (journal_stamp_for setting now version) s
-            (members setting now) (in_filter (is_member now) s (setting_switches_of setting) (in_range s 0
+            (members setting now) (in_filter (is_member now) s (machine_switches_of setting) (in_range s 0
             (length setting.net.switches) (omega arith) (omega (arith, there))) member));
       }))
 
 current_stamps : (setting : Setting) (now : List Item) → HaveStamps setting now
-    → HaveStamps setting (now ++ current_items setting now)
-unfolding current_items
+    → HaveStamps setting (now ++ machine_current_items setting now)
+unfolding machine_current_items
 current_stamps setting now have = by_test (nat_lt (journal_current_mark now) (journal_next_current setting now))
   where
     version : ℕ
@@ -167,20 +167,20 @@ current_stamps setting now have = by_test (nat_lt (journal_current_mark now) (jo
 
     by_test : (b : Bool) → HaveStamps setting (now ++ elim b [
       | false ↦ []
-      | true ↦ journal_items_then (Item.Current version ∷ []) (λ raised. send_items raised stamps) now
+      | true ↦ journal_items_then (Item.Current version ∷ []) (λ raised. machine_send_items raised stamps) now
     ])
     by_test false = subst (HaveStamps setting) (sym (append-nil now)) have
     by_test true = subst (HaveStamps setting) (append_assoc now
-        (Item.Current version ∷ []) (send_items (now ++ Item.Current version ∷ []) stamps))
+        (Item.Current version ∷ []) (machine_send_items (now ++ Item.Current version ∷ []) stamps))
         (raised_stamps setting now version)
 
 settling_stamps : (setting : Setting) (now : List Item) → HaveStamps setting now
-    → HaveStamps setting (now ++ settling setting now)
-unfolding settling
+    → HaveStamps setting (now ++ machine_settling setting now)
+unfolding machine_settling
 settling_stamps setting now have =
-    let first : List Item = current_items setting now in
+    let first : List Item = machine_current_items setting now in
     let rest : List Item =
-    in_turn (machine_open_items setting ∷ machine_retired_items setting ∷ []) (now ++ first) in
+    machine_blocks_in_turn (machine_open_items setting ∷ machine_retired_items setting ∷ []) (now ++ first) in
     subst (HaveStamps setting) (append_assoc now first rest)
     (fact_on (Both (HasControlItemCause setting) IsLater) (HaveStamps setting) (stamps_later setting)
     (now ++ first) rest (have_both (HasControlItemCause setting) IsLater (now ++ first) rest
@@ -197,11 +197,11 @@ hello_stamps setting before (Hello s boot) now have = search (rules, stamps_keep
 hello_stamps setting before _ now have = subst (HaveStamps setting) (sym (append-nil now)) have
 
 heard_stamps : (setting : Setting) (before : List Item) (body : Body) (now : List Item)
-    → HaveStamps setting now → HaveStamps setting (now ++ controller_items setting before body now)
-unfolding controller_items
+    → HaveStamps setting now → HaveStamps setting (now ++ machine_controller_items setting before body now)
+unfolding machine_controller_items
 heard_stamps setting before body now have = subst (HaveStamps setting)
-    (sym (in_two (settling setting) (machine_after_hello setting before body) now)) (hello_stamps setting
-    before body (now ++ settling setting now) (settling_stamps setting now have))
+    (sym (in_two (machine_settling setting) (machine_after_hello setting before body) now)) (hello_stamps setting
+    before body (now ++ machine_settling setting now) (settling_stamps setting now have))
 
 still_stamps : (setting : Setting) (before : List Item) (next : Item)
     → ((s : ℕ) → journal_known_boot (before ++ next ∷ []) s ≡ journal_known_boot before s)
@@ -218,7 +218,7 @@ nothing_stamps setting here have = search (rules, still_stamps, known_more, over
 
 deliver_stamps : (setting : Setting) (before here : List Item) (number : ℕ) → StampsAreCurrent here
     → IsTrue (is_journal_controller_message before number) → HaveStamps setting here
-    → HaveStamps setting (here ++ deliver_items setting before number here)
+    → HaveStamps setting (here ++ machine_deliver_items setting before number here)
 deliver_stamps setting before here number are is have =
     let now : List Item = here ++ Item.Delivered number ∷ [] in
     let told = told_is before number is in
@@ -239,7 +239,7 @@ update_stamps setting file here have =
     (known_more here next) (over_more here next) (λ s. refl) (current_more here next) have)))
 
 confirm_stamps : (setting : Setting) (s : ℕ) (here : List Item) → HaveStamps setting here
-    → HaveStamps setting (here ++ confirm_items setting s here)
+    → HaveStamps setting (here ++ machine_confirm_items setting s here)
 confirm_stamps setting s here have = confirm_cases (HaveStamps setting) setting s here
     (nothing_stamps setting here have) (settling_stamps setting (here ++ Item.OverNow s ∷ [])
     (record { each = λ t there. stamped_over here s t (have.each t there) }))

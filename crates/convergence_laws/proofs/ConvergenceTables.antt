@@ -2,8 +2,8 @@
 -- each version from the current one to the last.
 use Rattle.std.proofs.Common.{[], if◌then◌else◌, ◌++◌, ◌+◌, ◌<◌, ◌∙◌, ◌∷◌, ◌≡◌, ◌≤◌, ◌⊎◌, Bool, IsFalse, IsTrue, List, Some, ap, append-nil, arith, false, inl, inr, length, nat_lt, not, refl, subst, sym, true, ℕ, rules}
 use Rattle.base.proofs.Exports.{cases_eq, each_always, each_map, ⊤}
-use Rattle.update_machine.specs.Exports.{Body, JournalControllerKeeps, Deliver, Hello, Install, Item, Message, Setting, Step, Tables, machine_after_hello, confirm_items, controller_items, journal_current_mark, deliver_items, machine_delivery_items, journal_install_for, machine_installs_to, machine_installs_to_all, is_journal_controller_message, is_new_boot_in_journal, is_over, journal_known_boot, journal_message_of, piece, journal_raises_known_boot, send_items, settling, machine_step_items, setting_switches_of, journal_tables_at, machine_message_to_switch, machine_update_items, journal_version_count, journal_versions_from_current}
-use Rattle.ctrl_msg.specs.Exports.{to_controller}
+use Rattle.update_machine.specs.Exports.{Body, JournalControllerKeeps, Deliver, Hello, Install, Item, Message, Setting, Step, Tables, machine_after_hello, machine_confirm_items, machine_controller_items, journal_current_mark, machine_deliver_items, machine_delivery_items, journal_install_for, machine_installs_to, machine_installs_to_all, is_journal_controller_message, is_new_boot_in_journal, is_over, journal_known_boot, journal_message_of, piece, journal_raises_known_boot, machine_send_items, machine_settling, machine_step_items, machine_switches_of, journal_tables_at, machine_message_to_switch, machine_update_items, journal_version_count, journal_versions_from_current}
+use Rattle.ctrl_msg.specs.Exports.{message_to_controller}
 use Rattle.update_machine.proofs.Exports.{start_laws}
 use Rattle.control_laws.specs.Exports.{HasControlItemCause, control_asks_controller}
 use Rattle.control_laws.proofs.Exports.{AreKept, Both, ReopensAlone, behind_piece, confirm_cases, count_more, current_more, deliver_cases, fact_on, grows, have_both, hello_sent, in_two, installs_reopen, known_more, leaves_keep, message_more, others_keep, over_more, sends_any, sends_leave, settling_have, settling_settles, told_is, unraised_same, update_cases}
@@ -73,9 +73,9 @@ installs_on setting Owed last before next both have =
 
 settling_installs : (setting : Setting) (Owed : ℕ → Type 0) (last : ℕ) (now : List Item)
     → HaveInstalls setting Owed last now
-    → HaveInstalls setting Owed last (now ++ settling setting now)
+    → HaveInstalls setting Owed last (now ++ machine_settling setting now)
 settling_installs setting Owed last now have = fact_on _ _ (installs_on setting Owed last) now
-    (settling setting now) (have_both (HasControlItemCause setting) IsPlain now (settling setting now)
+    (machine_settling setting now) (have_both (HasControlItemCause setting) IsPlain now (machine_settling setting now)
     (settling_have setting now) (settling_plain setting now)) have
 
 -- messages leave all of it
@@ -85,9 +85,9 @@ IsSending before _ = ⊥
 
 sends_installs : (setting : Setting) (Owed : ℕ → Type 0) (last : ℕ) (now : List Item)
     (messages : List Message) → HaveInstalls setting Owed last now
-    → HaveInstalls setting Owed last (now ++ send_items now messages)
+    → HaveInstalls setting Owed last (now ++ machine_send_items now messages)
 sends_installs setting Owed last now messages have = fact_on IsSending _ kept now
-    (send_items now messages) (sends_any IsSending (λ before n message. tt) now messages) have
+    (machine_send_items now messages) (sends_any IsSending (λ before n message. tt) now messages) have
   where
     kept : AreKept IsSending (HaveInstalls setting Owed last)
     kept before (Item.Sent n message) is have = let next : Item = Item.Sent n message in
@@ -129,7 +129,7 @@ delivered_owed setting last before number have = record {
 -- what raises the known boot of a switch is its hello
 record IsHello (before : List Item) (number s : ℕ) : Type 0 where
   boot : ℕ
-  sent : journal_message_of before number ≡ Some (to_controller (Hello s boot))
+  sent : journal_message_of before number ≡ Some (message_to_controller (Hello s boot))
   new : IsTrue (is_new_boot_in_journal before s boot)
 
 raises_by : (before : List Item) (number s : ℕ) → journal_raises_known_boot before s number ≡ true
@@ -185,25 +185,25 @@ hello_sends setting before s boot version body now is new below =
 
 -- the count of the versions stays while the marks settle
 settling_count : (setting : Setting) (now : List Item)
-    → journal_version_count (now ++ settling setting now) ≡ journal_version_count now
-settling_count setting now = (grows now (settling setting now) (settling_settles setting now)).count
+    → journal_version_count (now ++ machine_settling setting now) ≡ journal_version_count now
+settling_count setting now = (grows now (machine_settling setting now) (settling_settles setting now)).count
 
 same_body : (before : List Item) (number : ℕ) (one other : Body) → journal_message_of before number
-    ≡ Some (to_controller one) → journal_message_of before number ≡ Some (to_controller other) → one ≡ other
+    ≡ Some (message_to_controller one) → journal_message_of before number ≡ Some (message_to_controller other) → one ≡ other
 same_body before number one other first second = search rules
 
 heard_installs : (setting : Setting) (before : List Item) (row number : ℕ) (step : Step)
-    (body : Body) (now : List Item) → journal_message_of before number ≡ Some (to_controller body)
+    (body : Body) (now : List Item) → journal_message_of before number ≡ Some (message_to_controller body)
     → let here = before ++ Item.Row row step ∷ [] in
     (last : ℕ) → last ≡ journal_version_count now
     → HaveInstalls setting (λ s. journal_raises_known_boot here s number ≡ true) last now
-    → HaveInstalls setting (λ s. ⊥) last (now ++ controller_items setting before body now)
-unfolding controller_items
+    → HaveInstalls setting (λ s. ⊥) last (now ++ machine_controller_items setting before body now)
+unfolding machine_controller_items
 heard_installs setting before row number step body now sent last is have =
     let all : HaveInstalls setting (λ s. journal_raises_known_boot here s number ≡ true) last after =
     hello_installs setting _ last before body settled (settling_installs setting _ last now have) in
     subst (HaveInstalls setting (λ s. ⊥) last)
-    (sym (in_two (settling setting) (machine_after_hello setting before body) now)) (record {
+    (sym (in_two (machine_settling setting) (machine_after_hello setting before body) now)) (record {
       each = λ s version there none above below. by_owed s version above below
           (all.each s version there none above below);
     })
@@ -212,7 +212,7 @@ heard_installs setting before row number step body now sent last is have =
     here = before ++ Item.Row row step ∷ []
 
     settled : List Item
-    settled = now ++ settling setting now
+    settled = now ++ machine_settling setting now
 
     after : List Item
     after = settled ++ machine_after_hello setting before body settled
@@ -232,8 +232,8 @@ heard_installs setting before row number step body now sent last is have =
         ∙ hello.sent)) new (omega (arith, below, is, settling_count setting now)) above))
 
 pub delivery_told : (setting : Setting) (before : List Item) (number : ℕ) (body : Body)
-    (now : List Item) → journal_message_of before number ≡ Some (to_controller body)
-    → machine_delivery_items setting before number now ≡ controller_items setting before body now
+    (now : List Item) → journal_message_of before number ≡ Some (message_to_controller body)
+    → machine_delivery_items setting before number now ≡ machine_controller_items setting before body now
 unfolding machine_delivery_items
 delivery_told setting before number body now sent = search rules
 
@@ -242,14 +242,14 @@ deliver_installs : (setting : Setting) (before : List Item) (row number : ℕ)
     → let here = before ++ Item.Row row (Deliver number) ∷ [] in
     HaveInstalls setting (λ s. ⊥) (journal_version_count before) here
     → HaveInstalls setting (λ s. ⊥) (journal_version_count before)
-    (here ++ deliver_items setting before number here)
+    (here ++ machine_deliver_items setting before number here)
 deliver_installs setting before row number is have =
     let here : List Item = before ++ Item.Row row (Deliver number) ∷ [] in
     let now : List Item = here ++ Item.Delivered number ∷ [] in
     let last : ℕ = journal_version_count before in
     let same : last ≡ journal_version_count now = sym (count_more here (Item.Delivered number)
     ∙ count_more before (Item.Row row (Deliver number))) in
-    let told : (body : Body) × (journal_message_of before number ≡ Some (to_controller body)) =
+    let told : (body : Body) × (journal_message_of before number ≡ Some (message_to_controller body)) =
     told_is before number is in
     deliver_cases (HaveInstalls setting (λ s. ⊥) last) setting before number here
     (installs_on setting (λ s. ⊥) last here Item.Nothing (record { first = tt; second = tt }) have)
@@ -269,16 +269,16 @@ hello_count setting before (Hello s boot) now = by_new (is_new_boot_in_journal b
 hello_count setting before _ now = ap journal_version_count (append-nil now)
 
 controller_count : (setting : Setting) (before : List Item) (body : Body) (now : List Item)
-    → journal_version_count (now ++ controller_items setting before body now) ≡ journal_version_count now
-unfolding controller_items
+    → journal_version_count (now ++ machine_controller_items setting before body now) ≡ journal_version_count now
+unfolding machine_controller_items
 controller_count setting before body now =
-    ap journal_version_count (in_two (settling setting) (machine_after_hello setting before body) now)
-    ∙ hello_count setting before body (now ++ settling setting now) ∙ settling_count setting now
+    ap journal_version_count (in_two (machine_settling setting) (machine_after_hello setting before body) now)
+    ∙ hello_count setting before body (now ++ machine_settling setting now) ∙ settling_count setting now
 
 deliver_count : (setting : Setting) (before : List Item) (row number : ℕ)
     → IsTrue (is_journal_controller_message before number)
     → let here = before ++ Item.Row row (Deliver number) ∷ [] in
-    journal_version_count (here ++ deliver_items setting before number here) ≡ journal_version_count before
+    journal_version_count (here ++ machine_deliver_items setting before number here) ≡ journal_version_count before
 deliver_count setting before row number is =
     let here : List Item = before ++ Item.Row row (Deliver number) ∷ [] in
     let next : Item = Item.Delivered number in
@@ -301,7 +301,7 @@ newest_sent setting now s there none = record {
   tables = journal_tables_at setting now (journal_version_count now) s;
   of = refl;
   sent = sends_all now _ _ (in_map (journal_install_for setting now (journal_version_count now)) s _
-      (in_filter (λ t. not (is_over now t)) s (setting_switches_of setting) (in_range s 0
+      (in_filter (λ t. not (is_over now t)) s (machine_switches_of setting) (in_range s 0
       (length setting.net.switches) (omega arith) (omega (arith, there))) (ap not none)));
 }
 
@@ -344,7 +344,7 @@ counted_on setting before next both same have = search (rules, installs_on)
 
 -- and settling behind a version that may be new
 settled_installs : (setting : Setting) (last : ℕ) (now : List Item) → last ≡ journal_version_count now
-    → HaveInstalls setting (λ s. ⊥) last now → AllInstalled setting (now ++ settling setting now)
+    → HaveInstalls setting (λ s. ⊥) last now → AllInstalled setting (now ++ machine_settling setting now)
 settled_installs setting last now same have = search (rules, settling_count, settling_installs)
 
 update_installs : (setting : Setting) (file : ℕ) (here : List Item) → AllInstalled setting here
@@ -362,7 +362,7 @@ update_installs setting file here have =
     s) (λ s none. sym (over_more here next s) ∙ none) (omega (arith, current_more)) have)))
 
 confirm_installs : (setting : Setting) (s : ℕ) (here : List Item) → AllInstalled setting here
-    → AllInstalled setting (here ++ confirm_items setting s here)
+    → AllInstalled setting (here ++ machine_confirm_items setting s here)
 confirm_installs setting s here have = let next : Item = Item.OverNow s in
     confirm_cases (AllInstalled setting) setting s here
     (counted_on setting here _ (record { first = tt; second = tt }) (count_more here _) have)

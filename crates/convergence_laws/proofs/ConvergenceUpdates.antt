@@ -1,12 +1,12 @@
 -- In a quiet journal every update has ended.
 use Rattle.std.proofs.Common.{[], if◌then◌else◌, ◌++◌, ◌+◌, ◌-◌, ◌<◌, ◌==◌, ◌||◌, ◌∙◌, ◌∷◌, ◌≡◌, ◌≤◌, ◌⊎◌, Bool, IsFalse, IsTrue, List, None, Option, Some, ap, arith, eq-eqb, false, fold, inl, inr, is_some, length, max, nat_eq, nat_lt, refl, sym, true, unwrap_or, ℕ, rules}
 use Rattle.base.proofs.Exports.{list_any, nat_tests}
-use Rattle.update_machine.specs.Exports.{Body, JournalItemsHaveCauses, Hello, Install, Installed, IsQuietMachineJournal, Item, OpenAt, Setting, Stamp, Stamped, StepOfRow, Tables, acked_stamp, journal_after_steps, journal_boot_of, journal_controller_heard, journal_current_mark, has_acked, heard, machine_installed_version, is_machine_later_body, is_member, is_up, journal_known_boot, journal_opened_at, piece, serves, journal_version_count}
-use Rattle.ctrl_msg.specs.Exports.{to_controller}
+use Rattle.update_machine.specs.Exports.{Body, JournalItemsHaveCauses, Hello, Install, Installed, IsQuietMachineJournal, Item, OpenAt, Setting, Stamp, Stamped, MachineStepOfRow, Tables, acked_stamp, journal_after_steps, journal_boot_of, journal_controller_heard, journal_current_mark, has_acked, heard, machine_installed_version, is_machine_later_body, is_member, is_up, journal_known_boot, journal_opened_at, piece, serves, journal_version_count}
+use Rattle.ctrl_msg.specs.Exports.{message_to_controller}
 use Rattle.update_machine.proofs.Exports.{have_append}
 use Rattle.control_laws.specs.Exports.{ControlLawHoldsAtEnds}
 use Rattle.control_laws.proofs.Exports.{acked_stamp_opened, at_ends, bounded, fold_up, known_first, member_parts, opened_in, opened_is, settled_at_ends}
-use Rattle.convergence_laws.specs.Exports.{IsNetworkUpdateConverged}
+use Rattle.convergence_laws.specs.Exports.{IsNetworkUpdated}
 use Rattle.convergence_laws.proofs.ConvergenceCaughtUp.{AreReady, IsCaughtUp, caught_updated, items_caused}
 use Rattle.convergence_laws.proofs.ConvergenceAnswers.{HaveSpoken, piece_spoken, spoken_at_first}
 use Rattle.convergence_laws.proofs.ConvergenceDownSwitches.{caused_recorded}
@@ -45,7 +45,7 @@ record Standing (setting : Setting) (journal : List Item) : Type 0 where
   installs : AllInstalled setting journal
   stamps : HaveStamps setting journal
 
-steps_stand : (setting : Setting) (before : List Item) (steps : List StepOfRow)
+steps_stand : (setting : Setting) (before : List Item) (steps : List MachineStepOfRow)
     → Standing setting before → Standing setting (journal_after_steps setting before steps)
 steps_stand setting before [] stand = stand
 steps_stand setting before (next ∷ steps) stand =
@@ -59,7 +59,7 @@ steps_stand setting before (next ∷ steps) stand =
           stand.stamps;
     })
 
-pub steps_ready : (setting : Setting) (steps : List StepOfRow)
+pub steps_ready : (setting : Setting) (steps : List MachineStepOfRow)
     → AreReady setting (journal_after_steps setting [] steps)
 steps_ready setting steps =
     let journal : List Item = journal_after_steps setting [] steps in
@@ -250,7 +250,7 @@ told_stamps setting journal are quiet s there up stamp = omega (
       × (journal_current_mark journal ≤ v)
   later = later_stamp was.body known (journal_current_mark journal) stamp.touched was.says
 
-  answer : IsSent journal (to_controller (Stamped s known later.0))
+  answer : IsSent journal (message_to_controller (Stamped s known later.0))
   answer = elim (are.spoken.answers.each s (Stamp known later.0 later.1) (rw later.2 at was.is)) [
     | inl none ↦ absurd none
     | inr sent ↦ sent
@@ -275,8 +275,8 @@ quiet_caught setting journal are quiet =
     search (rules, known_own, all_installed, member_serves, opened_stamps, told_stamps)
 
 pub updated_at_ends :
-    ControlLawHoldsAtEnds (λ setting journal. IsQuietMachineJournal setting journal → IsNetworkUpdateConverged setting journal)
-updated_at_ends = at_ends (λ setting journal. IsQuietMachineJournal setting journal → IsNetworkUpdateConverged setting journal)
+    ControlLawHoldsAtEnds (λ setting journal. IsQuietMachineJournal setting journal → IsNetworkUpdated setting journal)
+updated_at_ends = at_ends (λ setting journal. IsQuietMachineJournal setting journal → IsNetworkUpdated setting journal)
     (λ setting steps quiet. let ready = steps_ready setting steps in
     caught_updated setting (journal_after_steps setting [] steps) ready
     (quiet_caught setting (journal_after_steps setting [] steps) ready quiet))

@@ -8,7 +8,7 @@ use Rattle.csv.specs.declared.parser.State.{State}
 use Rattle.csv.specs.declared.parser.State.TheVariants as st
 use Rattle.csv.specs.declared.reader.Reader.{Reader}
 use Rattle.csv.proofs.ReadFacts.{rows-end, rows-more}
-use Rattle.csv_records.specs.Readers.{bytes_left, csv_records_left}
+use Rattle.csv_records.specs.Readers.{csv_bytes_left, csv_records_left}
 use Rattle.csv_records.specs.Texts.{TakesCsvRecord}
 
 -- after a record less is left than before, or the text is over
@@ -89,7 +89,7 @@ one_left cfg s xs read e = rw (add-one (length xs), e)
     (same_rest cfg (length xs) (length read.2 + 1) xs read (leaves_less cfg s [] [] xs read e)
     (λ fewer. enough cfg (length xs) (length read.2 + 1) read.1 read.2 fewer (omega arith))))
 
-left_at : (reader : Reader (Bor (List ℕ))) (xs : List ℕ) → bytes_left reader ≡ Some xs
+left_at : (reader : Reader (Bor (List ℕ))) (xs : List ℕ) → csv_bytes_left reader ≡ Some xs
     → csv_records_left reader ≡ records_from default_config (length xs + 1) (reader_state reader) xs
 left_at reader xs source = rw source refl
 
@@ -107,7 +107,7 @@ one_reached fields s s2 xs ys (read, next, same, rest) = one_left default_config
 
 -- a read takes the first of the records that were left, or finds none where none was
 pub takes_next : (old new : Reader (Bor (List ℕ))) (found : Bool) (fields : List (List ℕ))
-    (xs : List ℕ) → reader_config old ≡ default_config → bytes_left old ≡ Some xs
+    (xs : List ℕ) → reader_config old ≡ default_config → csv_bytes_left old ≡ Some xs
     → ReadRecord (λ slice. Some slice.now) old new found fields
     → TakesCsvRecord (csv_records_left old) found fields (cond (not found) [] (csv_records_left new))
 takes_next old new false fields xs config source read = (
@@ -125,7 +125,7 @@ takes_next old new true fields xs config source read =
 
 -- the bytes of a slice are known
 pub source_known : (reader : Reader (Bor (List ℕ))) → has_failed reader ≡ false → (xs : List ℕ)
-    × (bytes_left reader ≡ Some xs)
+    × (csv_bytes_left reader ≡ Some xs)
 source_known reader going = parts (has_failed reader)
     (not reader.bom_checked && (reader.at == 0) && (reader.filled == 0))
     (drop reader.at (take reader.filled reader.buffer)) reader.rdr.now going

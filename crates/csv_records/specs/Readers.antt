@@ -7,15 +7,15 @@ use Rattle.csv.specs.declared.reader.Reader.{Reader}
 use Rattle.csv.specs.declared.reader.Trim.TheVariants as trim
 
 -- the bytes that the reader has yet to read, unless it has failed
-abbrev pub bytes_left : Reader (Bor (List ℕ)) → Option (List ℕ)
-bytes_left reader = source_of (λ slice. Some slice.now) reader
+abbrev pub csv_bytes_left : Reader (Bor (List ℕ)) → Option (List ℕ)
+csv_bytes_left reader = source_of (λ slice. Some slice.now) reader
 
 -- the records that it has yet to read: none after a failure
 abbrev pub csv_records_left : Reader (Bor (List ℕ)) → List (List (List ℕ))
 csv_records_left reader =
     option_map_or (λ bytes. records_from default_config (length bytes + 1) (reader_state reader)
     bytes)
-    (bytes_left reader) []
+    (csv_bytes_left reader) []
 
 -- the reader has the presets of its crate, except that it treats no record as a header and allows
 -- records of any width

@@ -1,6 +1,6 @@
 ghost use Rattle.std.specs.Prelude.{◌≡◌, [], IfOk, OnErr};
 ghost use Rattle.csv.specs.Records.{fields_of};
-ghost use Rattle.csv_records.specs.Texts.{TakesCsvRecord, records_of};
+ghost use Rattle.csv_records.specs.Texts.{TakesCsvRecord, csv_records_of};
 
 use csv::{ByteRecord, ErrorKind, Reader, ReaderBuilder};
 use std::alloc::{AllocError, Global};
@@ -28,7 +28,7 @@ impl<'a> Model for Records<'a> {
 impl<'a> Records<'a> {
     /// All records of the text.
     pub fn new(alloc: Global, text: &'a [u8]) -> Records<'a>
-        ensures { result ≡ records_of text.now }
+        ensures { result ≡ csv_records_of text.now }
     {
         let reader = ReaderBuilder::new()
             .has_headers(false)

@@ -17,12 +17,12 @@ body_version (Stamped switch boot version) = Some version
 body_version _ = None
 
 -- a hello and an acknowledgement are for the controller, all other bodies for a switch
-abbrev pub is_for_controller : Body → Bool
-is_for_controller (Hello switch boot) = true
-is_for_controller (Installed switch boot version) = true
-is_for_controller (Stamped switch boot version) = true
-is_for_controller _ = false
+abbrev pub is_body_for_controller : Body → Bool
+is_body_for_controller (Hello switch boot) = true
+is_body_for_controller (Installed switch boot version) = true
+is_body_for_controller (Stamped switch boot version) = true
+is_body_for_controller _ = false
 
 -- a message with this body to the controller
-abbrev pub to_controller : Body → Message
-to_controller body = record { to = Controller; body = body }
+abbrev pub message_to_controller : Body → Message
+message_to_controller body = record { to = Controller; body = body }

@@ -1,6 +1,6 @@
 ghost use Rattle.std.specs.Prelude.{◌≡◌};
 ghost use Rattle.ctrl_msg.specs.Bodies.{body_boot};
-ghost use Rattle.ctrl_msg.specs.Kinds.{body_version, is_for_controller};
+ghost use Rattle.ctrl_msg.specs.Kinds.{body_version, is_body_for_controller};
 
 use crate::shared::SharedTables;
 use base::Shared;
@@ -116,7 +116,7 @@ impl Body {
 
     /// Whether the message is for the controller.
     pub fn is_for_controller(&self) -> bool
-        ensures { result ≡ is_for_controller self.now }
+        ensures { result ≡ is_body_for_controller self.now }
     {
         match self {
             Body::Hello { .. } | Body::Installed { .. } | Body::Stamped { .. } => true,

@@ -1,17 +1,17 @@
 -- Counters in planes of bits.
 use Rattle.std.proofs.Common.{[], ◌*◌, ◌+◌, ◌<◌, ◌^◌, ◌∙◌, ◌∷◌, ◌≡◌, ◌≤◌, List, add-one, ap, arith, bit_and, bit_or, bit_xor, drop, get_or, length, length-drop, pow-suc, set, suc, zero, ℕ, rules}
 use Rattle.base.proofs.Exports.{bit_at, bit_at-lt, bit_at-zero, bit_at_and, bit_at_or, bit_at_xor}
-use Rattle.cut_tree.specs.Exports.{count_at}
+use Rattle.cut_tree.specs.Exports.{cut_count_at}
 
-pub count_at-lt : (planes : List ℕ) (bit : ℕ) → count_at planes bit < 2 ^ length planes
+pub count_at-lt : (planes : List ℕ) (bit : ℕ) → cut_count_at planes bit < 2 ^ length planes
 count_at-lt [] bit = omega arith
 count_at-lt (plane ∷ planes) bit =
     omega (arith, count_at-lt planes bit, bit_at-lt plane bit, pow-suc 2 (length planes))
 
 -- a plane that is written changes each count by what its weight gives
 count_at-set : (planes : List ℕ) (place plane bit : ℕ) → place < length planes
-    → count_at (set planes place plane) bit + 2 ^ place * bit_at (get_or planes place 0) bit
-    ≡ count_at planes bit + 2 ^ place * bit_at plane bit
+    → cut_count_at (set planes place plane) bit + 2 ^ place * bit_at (get_or planes place 0) bit
+    ≡ cut_count_at planes bit + 2 ^ place * bit_at plane bit
 count_at-set [] place plane bit within = absurd (omega arith)
 count_at-set (old ∷ planes) zero plane bit within = omega arith
 count_at-set (old ∷ planes) (suc place) plane bit within = rw (pow-suc 2 place)
@@ -45,8 +45,8 @@ pub four_added : (planes : List ℕ) (sum one ones two twos fours a b c d bit : 
     → bit_at ones bit + 2 * bit_at two bit ≡ bit_at sum bit + bit_at c bit + bit_at d bit
     → bit_at twos bit + 2 * bit_at fours bit
     ≡ bit_at (get_or planes 1 0) bit + bit_at one bit + bit_at two bit
-    → count_at (set (set planes 0 ones) 1 twos) bit + 2 ^ 2 * bit_at fours bit
-    ≡ count_at planes bit + (bit_at a bit + bit_at b bit + bit_at c bit + bit_at d bit)
+    → cut_count_at (set (set planes 0 ones) 1 twos) bit + 2 ^ 2 * bit_at fours bit
+    ≡ cut_count_at planes bit + (bit_at a bit + bit_at b bit + bit_at c bit + bit_at d bit)
 four_added [] sum one ones two twos fours a b c d bit within low high rest = absurd (omega arith)
 four_added (p ∷ []) sum one ones two twos fours a b c d bit within low high rest = search rules
 four_added (p ∷ q ∷ planes) sum one ones two twos fours a b c d bit within low high rest =
@@ -54,8 +54,8 @@ four_added (p ∷ q ∷ planes) sum one ones two twos fours a b c d bit within l
 
 -- what a carry adds into a plane, and carries on
 pub carried_on : (planes : List ℕ) (place carry bit : ℕ) → place < length planes
-    → count_at (set planes place (bit_xor (get_or planes place 0) carry))
-    bit + 2 ^ (place + 1) * bit_at (bit_and (get_or planes place 0) carry) bit ≡ count_at planes
+    → cut_count_at (set planes place (bit_xor (get_or planes place 0) carry))
+    bit + 2 ^ (place + 1) * bit_at (bit_and (get_or planes place 0) carry) bit ≡ cut_count_at planes
     bit + 2 ^ place * bit_at carry bit
 carried_on planes place carry bit within =
     let plane = get_or planes place 0 in
@@ -67,7 +67,7 @@ carried_on planes place carry bit within =
 -- the same where nothing is carried on
 pub carried_out : (planes : List ℕ) (place carry bit : ℕ) → place < length planes
     → bit_and (get_or planes place 0) carry ≡ 0
-    → count_at (set planes place (bit_xor (get_or planes place 0) carry)) bit ≡ count_at planes
+    → cut_count_at (set planes place (bit_xor (get_or planes place 0) carry)) bit ≡ cut_count_at planes
     bit + 2 ^ place * bit_at carry bit
 carried_out planes place carry bit within none =
     let nothing : 2 ^ (place + 1) * bit_at (bit_and (get_or planes place 0) carry) bit
@@ -77,5 +77,5 @@ carried_out planes place carry bit within none =
 
 -- the planes past the first count less than half as far
 pub rest_below : (planes : List ℕ) (place bit : ℕ) → length planes ≡ 32 → 0 < place
-    → count_at (drop place planes) bit < 2 ^ 31
+    → cut_count_at (drop place planes) bit < 2 ^ 31
 rest_below planes place bit whole past = search (rules, length-drop, count_at-lt)

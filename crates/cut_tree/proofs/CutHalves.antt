@@ -1,7 +1,7 @@
 -- What a word shares with half of a region that it lies in.
 use Rattle.std.proofs.Common.{◌&&◌, ◌/◌, ◌<◌, ◌==◌, ◌^◌, ◌∙◌, ◌≡◌, All, Bool, IsFalse, IsTrue, List, None, Some, ap, bit_and, eq-eqb, eqb-true, false, get_or, length, refl, subst, sym, true, ℕ, rules}
 use Rattle.base.proofs.Exports.{beq, bit_at, bit_at-lt, both_ways, false_from_ne_true, from_bool, nat_tests, shr_and_one}
-use Rattle.ternary.specs.Exports.{WordHoldsLaws, IsWord, WordValue, word_admits, word_covers_of, word_fix_of, holds, is_fixed_of, meet_of, meeting_word, meets}
+use Rattle.ternary.specs.Exports.{WordHoldsLaws, IsWord, WordValue, word_admits, word_covers_of, word_fix_of, holds, is_word_bit_fixed, word_meet_of, meeting_word, word_meets}
 use Rattle.policy_rules.specs.declared.rules.Rule.{Rule}
 use Rattle.cut_tree.specs.Exports.{LiesInCutRegion}
 use Rattle.ternary.proofs.TernaryCallerLemmas.{apart_none, covers_held, fix_holds, fix_word, meet_both, meet_word, meets_cover, meets_half, met_joined}
@@ -9,13 +9,13 @@ use Rattle.ternary.proofs.TernaryCallerLemmas.{apart_none, covers_held, fix_hold
 both_within : (p q t : Bool) → (p ≡ true → q ≡ true) → (p && (q && t)) ≡ (p && t)
 both_within p q t is = search rules
 
-meets_by : (w r : WordValue) (bit : ℕ) (one : Bool) → IsFalse (is_fixed_of r bit)
-    → IsTrue (word_covers_of r w) → meets w (word_fix_of r bit one) ≡ word_admits w bit one
+meets_by : (w r : WordValue) (bit : ℕ) (one : Bool) → IsFalse (is_word_bit_fixed r bit)
+    → IsTrue (word_covers_of r w) → word_meets w (word_fix_of r bit one) ≡ word_admits w bit one
 meets_by w r bit one free within = cc (meets_half w r bit one free, meets_cover r w within)
 
 -- ---- a word's own bit
 
-pub admits_free : (w : WordValue) (bit : ℕ) (one : Bool) → is_fixed_of w bit ≡ false
+pub admits_free : (w : WordValue) (bit : ℕ) (one : Bool) → is_word_bit_fixed w bit ≡ false
     → word_admits w bit one ≡ true
 unfolding word_admits
 admits_free w bit one free = rw free refl
@@ -42,7 +42,7 @@ pub admits_digit : (w : WordValue) (bit : ℕ) (one : Bool) → bit_at w.value b
 unfolding word_admits
 admits_digit w bit one is = search (rules, eq-eqb)
 
-pub admits_other : (w : WordValue) (bit : ℕ) (one : Bool) → is_fixed_of w bit ≡ true
+pub admits_other : (w : WordValue) (bit : ℕ) (one : Bool) → is_word_bit_fixed w bit ≡ true
     → beq (bit_and (w.value / 2 ^ bit) 1 == 1) one ≡ false → word_admits w bit one ≡ false
 unfolding word_admits
 admits_other w bit one fixed other = search (rules, other_digit, bit_at-lt, other_bool, shr_and_one)
@@ -51,10 +51,10 @@ both_same : (p t : Bool) → (p ≡ true → t ≡ true) → p ≡ (p && t)
 both_same p t is = search rules
 
 -- each header of a word has the bit that the word fixes
-pub held_bit : WordHoldsLaws → (w : WordValue) (bit : ℕ) (one : Bool) → is_fixed_of w bit ≡ true
+pub held_bit : WordHoldsLaws → (w : WordValue) (bit : ℕ) (one : Bool) → is_word_bit_fixed w bit ≡ true
     → bit_at w.value bit ≡ from_bool one
     → (h : ℕ) → holds w h ≡ (holds w h && (bit_at h bit == from_bool one))
-unfolding is_fixed_of
+unfolding is_word_bit_fixed
 held_bit laws w bit one fixed is h = search (rules, both_same, eq-eqb, eqb-true)
 
 -- ---- half of a region
@@ -67,9 +67,9 @@ lies_at region rules index rule all within is =
 
 -- the word of those of its headers that have the bit
 pub half_met : WordHoldsLaws → (w r x : WordValue) (bit : ℕ) (one : Bool) → IsWord w → IsWord r
-    → IsWord x → bit < 104 → IsFalse (is_fixed_of r bit) → IsTrue (word_covers_of r w) → word_admits w bit one
+    → IsWord x → bit < 104 → IsFalse (is_word_bit_fixed r bit) → IsTrue (word_covers_of r w) → word_admits w bit one
     ≡ true → ((h : ℕ) → holds x h ≡ (holds w h && (bit_at h bit == from_bool one)))
-    → Some x ≡ meet_of w (word_fix_of r bit one)
+    → Some x ≡ word_meet_of w (word_fix_of r bit one)
 half_met laws w r x bit one w_word r_word x_word bound free within admitted each =
     let half = word_fix_of r bit one in
     let met = met_joined w half (meets_by w r bit one free within ∙ admitted) in
@@ -81,6 +81,6 @@ half_met laws w r x bit one w_word r_word x_word bound free within admitted each
     (bit_at h bit == from_bool one) (λ held. covers_held r w h within held) ∙ sym (each h))))
 
 -- no header where the word has the other bit
-pub half_apart : (w r : WordValue) (bit : ℕ) (one : Bool) → IsFalse (is_fixed_of r bit)
-    → IsTrue (word_covers_of r w) → word_admits w bit one ≡ false → None ≡ meet_of w (word_fix_of r bit one)
+pub half_apart : (w r : WordValue) (bit : ℕ) (one : Bool) → IsFalse (is_word_bit_fixed r bit)
+    → IsTrue (word_covers_of r w) → word_admits w bit one ≡ false → None ≡ word_meet_of w (word_fix_of r bit one)
 half_apart w r bit one free within lost = search (rules, apart_none, meets_by)

@@ -1,9 +1,9 @@
 -- The least of counts that stand in planes of bits.
 use Rattle.std.proofs.Common.{[], ◌%◌, ◌*◌, ◌+◌, ◌-◌, ◌<◌, ◌==◌, ◌^◌, ◌↔◌, ◌∙◌, ◌∷◌, ◌≡◌, ◌≢◌, ◌⊎◌, List, Some, add-one, ap, arith, bit_and, bit_or, bit_xor, drop, eq-eqb, false, get_or, inl, inr, length, max, min, ne_eqb, refl, subst, suc, sym, true, zero, ℕ, rules}
 use Rattle.base.proofs.Exports.{and_le_l, bit_at, bit_at-lt, bit_at-trailing_zeros, bit_at-zero, bit_at_and, bit_at_not, bit_at_ones, bit_at_ones_above, bit_at_or, bit_at_xor, both_ways, cases_Bool, cases_eq, cases_lt, cond-false, cond-true, trailing_zeros, w128, xor_lt}
-use Rattle.ternary.specs.Exports.{WordValue, is_fixed_of}
+use Rattle.ternary.specs.Exports.{WordValue, is_word_bit_fixed}
 use Rattle.policy_rules.specs.declared.rules.Rule.{Rule}
-use Rattle.cut_tree.specs.Exports.{CutCostsAtMost, HaveCutSidesCounted, IsCuttableBit, IsCutPlaneHeight, IsCutBitOfLeastCount, cut_cost_from, cut_cost_of, count_at, count_by, counted_cut_cost, least_below, side_of_cut}
+use Rattle.cut_tree.specs.Exports.{CutCostsAtMost, HaveCutSidesCounted, IsCuttableBit, IsCutPlaneHeight, IsCutBitOfLeastCount, cut_cost_from, cut_cost_of, cut_count_at, cut_count_by, counted_cut_cost, least_cut_cost_below, side_of_cut}
 use Rattle.cut_tree.specs.declared.choice.Cost.{Cost}
 use Rattle.cut_tree.specs.declared.choice.CutSide.{CutSide}
 use Rattle.cut_tree.proofs.CutLemmas.{least_is}
@@ -83,15 +83,15 @@ least_same bits left plane rest count is known none bit =
 
 -- the lowest plane and the rest
 planes_from : (planes : List ℕ) (place bit : ℕ) → place < length planes
-    → count_at (drop place planes) bit ≡ bit_at (get_or planes place 0) bit
-    + 2 * count_at (drop (suc place) planes) bit
+    → cut_count_at (drop place planes) bit ≡ bit_at (get_or planes place 0) bit
+    + 2 * cut_count_at (drop (suc place) planes) bit
 planes_from [] place bit within = absurd (omega arith)
 planes_from (plane ∷ planes) zero bit within = refl
 planes_from (plane ∷ planes) (suc place) bit within = planes_from planes place bit (omega arith)
 
 planes_at : (planes : List ℕ) (place next bit : ℕ) → next ≡ place + 1 → place < length planes
-    → count_at (drop place planes) bit ≡ bit_at (get_or planes place 0) bit
-    + 2 * count_at (drop next planes) bit
+    → cut_count_at (drop place planes) bit ≡ bit_at (get_or planes place 0) bit
+    + 2 * cut_count_at (drop next planes) bit
 planes_at planes place next bit is within = rw (is, add-one) (planes_from planes place bit within)
 
 chosen_digit : (a b which bit : ℕ) → bit_at which bit ≡ 1
@@ -111,25 +111,25 @@ left_digit : (a b which bit : ℕ) → bit_at which bit ≢ 1
 left_digit a b which bit clear = search (rules, bit_at-lt, bit_at_xor, bit_at_and)
 
 pub by_second : (first second : List ℕ) (which bit : ℕ) → bit_at which bit ≡ 1
-    → count_by first second which bit ≡ count_at second bit
+    → cut_count_by first second which bit ≡ cut_count_at second bit
 by_second first second which bit set = cond-true _ _ _ (eq-eqb _ _ set)
 
 pub by_first : (first second : List ℕ) (which bit : ℕ) → bit_at which bit ≢ 1
-    → count_by first second which bit ≡ count_at first bit
+    → cut_count_by first second which bit ≡ cut_count_at first bit
 by_first first second which bit clear = cond-false _ _ _ (ne_eqb _ _ clear)
 
 -- the lowest plane of such counts, and the rest
 pub chosen_at : (first second : List ℕ) (place next which bit : ℕ) → next ≡ place + 1
-    → place < length first → place < length second → count_by (drop place first) (drop place second) which bit
+    → place < length first → place < length second → cut_count_by (drop place first) (drop place second) which bit
     ≡ bit_at (bit_xor (get_or first place 0) (bit_and (bit_xor (get_or first place 0) (get_or second place 0)) which)) bit
-    + 2 * count_by (drop next first) (drop next second) which bit
+    + 2 * cut_count_by (drop next first) (drop next second) which bit
 chosen_at first second place next which bit is within also =
     search (rules, planes_at, cases_eq, eq-eqb, chosen_digit, ne_eqb, left_digit)
 
 -- past the height there is no difference
 pub least_start : (first second : List ℕ) (height which bits bit : ℕ) → IsCutPlaneHeight first height
     → IsCutPlaneHeight second height → (bit_at bits bit ≡ 1)
-    ↔ IsCutBitOfLeastCount bits (count_by (drop height first) (drop height second) which) bit
+    ↔ IsCutBitOfLeastCount bits (cut_count_by (drop height first) (drop height second) which) bit
 least_start first second height which bits bit p q = search (rules, cases_eq)
 
 -- ---- which count is higher
@@ -143,7 +143,7 @@ AreOrdered settled more first second = ((settled ≡ 0) × (more ≡ 0) × (firs
 -- nor an order
 pub ordered_start : (first second : List ℕ) (height bit : ℕ) → IsCutPlaneHeight first height
     → IsCutPlaneHeight second height → AreOrdered (bit_at 0 bit) (bit_at 0 bit)
-    (count_at (drop height first) bit) (count_at (drop height second) bit)
+    (cut_count_at (drop height first) bit) (cut_count_at (drop height second) bit)
 ordered_start first second height bit p q = search (rules, bit_at-zero)
 
 -- one digit more below
@@ -154,12 +154,12 @@ ordered_next s m t n a b x y p q is_t is_n h12 = search rules
 
 pub ordered_step : (first second : List ℕ) (place next settled more bit : ℕ) → next ≡ place + 1
     → place < length first → place < length second
-    → AreOrdered (bit_at settled bit) (bit_at more bit) (count_at (drop next first) bit)
-    (count_at (drop next second) bit)
+    → AreOrdered (bit_at settled bit) (bit_at more bit) (cut_count_at (drop next first) bit)
+    (cut_count_at (drop next second) bit)
     → AreOrdered
     (bit_at (bit_or settled (bit_xor (get_or first place 0) (get_or second place 0))) bit)
     (bit_at (bit_or more (bit_and (bit_xor (bit_xor (get_or first place 0) (get_or second place 0)) (bit_and (bit_xor (get_or first place 0) (get_or second place 0)) settled)) (get_or first place 0))) bit)
-    (count_at (drop place first) bit) (count_at (drop place second) bit)
+    (cut_count_at (drop place first) bit) (cut_count_at (drop place second) bit)
 ordered_step first second place next settled more bit is within also so_far =
     let a = get_or first place 0 in
     let b = get_or second place 0 in
@@ -179,15 +179,15 @@ ordered_step first second place next settled more bit is within also so_far =
 -- ---- the first bit whose cut costs least
 
 larger_is : (low high : List ℕ) (above bit : ℕ)
-    → (bit_at above bit ≡ 1) ↔ (count_at low bit < count_at high bit)
-    → (count_by low high above bit ≡ max (count_at low bit) (count_at high bit))
-    × (count_by low high above bit + count_by high low above bit ≡ count_at low bit + count_at high bit)
+    → (bit_at above bit ≡ 1) ↔ (cut_count_at low bit < cut_count_at high bit)
+    → (cut_count_by low high above bit ≡ max (cut_count_at low bit) (cut_count_at high bit))
+    × (cut_count_by low high above bit + cut_count_by high low above bit ≡ cut_count_at low bit + cut_count_at high bit)
 larger_is low high above bit is = search (rules, cases_eq)
 
 pub least_first : (low high : List ℕ) (above bits fewest least bit : ℕ)
-    → ((k : ℕ) → (bit_at above k ≡ 1) ↔ (count_at low k < count_at high k))
-    → ((k : ℕ) → (bit_at fewest k ≡ 1) ↔ IsCutBitOfLeastCount bits (count_by low high above) k)
-    → ((k : ℕ) → (bit_at least k ≡ 1) ↔ IsCutBitOfLeastCount fewest (count_by high low above) k)
+    → ((k : ℕ) → (bit_at above k ≡ 1) ↔ (cut_count_at low k < cut_count_at high k))
+    → ((k : ℕ) → (bit_at fewest k ≡ 1) ↔ IsCutBitOfLeastCount bits (cut_count_by low high above) k)
+    → ((k : ℕ) → (bit_at least k ≡ 1) ↔ IsCutBitOfLeastCount fewest (cut_count_by high low above) k)
     → bit_at least bit ≡ 1 → ((j : ℕ) → j < bit → bit_at least j ≡ 0) → (other : ℕ)
     → bit_at bits other ≡ 1 → CutCostsAtMost (counted_cut_cost low high bit) (counted_cut_cost low high other)
 least_first low high above bits fewest least bit is_above is_fewest is_least set before other m =
@@ -195,13 +195,13 @@ least_first low high above bits fewest least bit is_above is_fewest is_least set
     let own = (is_fewest bit).0 last.member in
     let here = larger_is low high above bit (is_above bit) in
     let there = larger_is low high above other (is_above other) in
-    let also : max (count_at low bit) (count_at high bit) ≡ max (count_at low other) (count_at high other)
+    let also : max (cut_count_at low bit) (cut_count_at high bit) ≡ max (cut_count_at low other) (cut_count_at high other)
     → bit_at fewest other ≡ 1 = λ e. (is_fewest other).1 (record {
       member = m;
       least = λ third n. omega (arith, e, here.0, there.0, own.least third n);
     }) in
-    let last_also : max (count_at low bit) (count_at high bit) ≡ max (count_at low other) (count_at high other)
-    → count_at low bit + count_at high bit ≡ count_at low other + count_at high other
+    let last_also : max (cut_count_at low bit) (cut_count_at high bit) ≡ max (cut_count_at low other) (cut_count_at high other)
+    → cut_count_at low bit + cut_count_at high bit ≡ cut_count_at low other + cut_count_at high other
     → bit_at least other ≡ 1 = λ e f. (is_least other).1 (record {
       member = also e;
       least = λ third n. omega (arith, e, f, here.0, here.1, there.0, there.1, last.least third n);
@@ -219,7 +219,7 @@ least_first low high above bits fewest least bit is_above is_fewest is_least set
 -- a bit of the complement of the mask, below 104
 pub free_mask : (region : WordValue) (mask bit : ℕ) → mask ≡ region.mask → mask < 2 ^ 104
     → (bit_at (bit_and (2 ^ 104 - 1) (2 ^ 128 - 1 - mask)) bit ≡ 1) ↔ IsCuttableBit region bit
-unfolding is_fixed_of
+unfolding is_word_bit_fixed
 free_mask region mask bit same small =
     let fixed = ap (λ m. bit_at m bit == 1) same in
     let both = bit_at_and (2 ^ 104 - 1) (2 ^ 128 - 1 - mask) bit in
@@ -240,7 +240,7 @@ free_mask region mask bit same small =
     )
 
 pub all_fixed : (region : WordValue) (free bit : ℕ) → bit < 104
-    → ((bit_at free bit ≡ 1) ↔ IsCuttableBit region bit) → free ≡ 0 → is_fixed_of region bit ≡ true
+    → ((bit_at free bit ≡ 1) ↔ IsCuttableBit region bit) → free ≡ 0 → is_word_bit_fixed region bit ≡ true
 all_fixed region free bit within is none = search (rules, cases_Bool, bit_at-zero)
 
 -- what is counted at the first bit that costs least
@@ -249,11 +249,11 @@ pub counted_cut : (low high : CutSide) (rules : List Rule) (region : WordValue) 
     → ((k : ℕ) → (bit_at free k ≡ 1) ↔ IsCuttableBit region k) → bit_at free bit ≡ 1
     → ((other : ℕ) → bit_at free other ≡ 1 → CutCostsAtMost (counted_cut_cost low.counts.planes
     high.counts.planes bit) (counted_cut_cost low.counts.planes high.counts.planes other))
-    → Some (counted_cut_cost low.counts.planes high.counts.planes bit) ≡ least_below 104 rules region
+    → Some (counted_cut_cost low.counts.planes high.counts.planes bit) ≡ least_cut_cost_below 104 rules region
 counted_cut low high rules region free bit lows highs frees set least =
     let counted : ℕ → Cost = counted_cut_cost low.counts.planes high.counts.planes in
     let same : (k : ℕ) → IsCuttableBit region k → counted k ≡ cut_cost_of rules region k = λ k f.
-    ap (λ n. cut_cost_from k n (count_at high.counts.planes k)) (lows k f)
+    ap (λ n. cut_cost_from k n (cut_count_at high.counts.planes k)) (lows k f)
     ∙ ap (cut_cost_from k (length (side_of_cut rules region k false))) (highs k f) in
     let is_free = (frees bit).0 set in
     ap Some (same bit is_free) ∙ sym (least_is rules region bit (record {

@@ -1,29 +1,29 @@
 -- The least cut of a region.
 use Rattle.std.proofs.Common.{◌<◌, ◌∙◌, ◌≡◌, IsFalse, List, None, Option, Some, ap, arith, false, inl, inr, refl, subst, suc, sym, true, zero, ℕ, rules}
 use Rattle.base.proofs.Exports.{both_ways, cases_Bool, cases_eq, cond-false, cond-true}
-use Rattle.ternary.specs.Exports.{WordValue, is_fixed_of}
+use Rattle.ternary.specs.Exports.{WordValue, is_word_bit_fixed}
 use Rattle.policy_rules.specs.declared.rules.Rule.{Rule}
-use Rattle.cut_tree.specs.Exports.{CutCostsAtMost, IsLeastCut, cheaper_cut_cost, cut_cost_of, is_cheaper_cut, least_below}
+use Rattle.cut_tree.specs.Exports.{CutCostsAtMost, IsLeastCut, cheaper_cut_cost, cut_cost_of, is_cheaper_cut, least_cut_cost_below}
 use Rattle.cut_tree.specs.declared.choice.Cost.{Cost}
 
-pub least_none : (rules : List Rule) (region : WordValue) → least_below 0 rules region ≡ None
-unfolding least_below
+pub least_none : (rules : List Rule) (region : WordValue) → least_cut_cost_below 0 rules region ≡ None
+unfolding least_cut_cost_below
 least_none rules region = refl
 
-at_fixed : (n : ℕ) (rules : List Rule) (region : WordValue) → is_fixed_of region n ≡ true
-    → least_below (suc n) rules region ≡ least_below n rules region
-unfolding least_below
+at_fixed : (n : ℕ) (rules : List Rule) (region : WordValue) → is_word_bit_fixed region n ≡ true
+    → least_cut_cost_below (suc n) rules region ≡ least_cut_cost_below n rules region
+unfolding least_cut_cost_below
 at_fixed n rules region fixed = rw fixed
 
-at_free : (n : ℕ) (rules : List Rule) (region : WordValue) → is_fixed_of region n ≡ false
-    → least_below (suc n) rules region ≡ Some
-    (cheaper_cut_cost (cut_cost_of rules region n) (least_below n rules region))
-unfolding least_below
+at_free : (n : ℕ) (rules : List Rule) (region : WordValue) → is_word_bit_fixed region n ≡ false
+    → least_cut_cost_below (suc n) rules region ≡ Some
+    (cheaper_cut_cost (cut_cost_of rules region n) (least_cut_cost_below n rules region))
+unfolding least_cut_cost_below
 at_free n rules region free = rw free
 
 -- there is none where no bit is free
 pub least_nowhere : (n : ℕ) (rules : List Rule) (region : WordValue)
-    → ((bit : ℕ) → bit < n → is_fixed_of region bit ≡ true) → least_below n rules region ≡ None
+    → ((bit : ℕ) → bit < n → is_word_bit_fixed region bit ≡ true) → least_cut_cost_below n rules region ≡ None
 least_nowhere zero rules region fixed = least_none rules region
 least_nowhere (suc n) rules region fixed = at_fixed n rules region (fixed n (omega arith))
     ∙ least_nowhere n rules region (λ bit within. fixed bit (omega arith))
@@ -34,8 +34,8 @@ least_nowhere (suc n) rules region fixed = at_fixed n rules region (fixed n (ome
 record IsLeastBelow (n : ℕ) (rules : List Rule) (region : WordValue) (cost : Cost) : Type 0 where
   pub is : cost ≡ cut_cost_of rules region cost.bit
   pub bound : cost.bit < n
-  pub free : IsFalse (is_fixed_of region cost.bit)
-  pub least : (other : ℕ) → other < n → IsFalse (is_fixed_of region other)
+  pub free : IsFalse (is_word_bit_fixed region cost.bit)
+  pub least : (other : ℕ) → other < n → IsFalse (is_word_bit_fixed region other)
       → CutCostsAtMost cost (cut_cost_of rules region other)
 
 at_most_self : (a : Cost) → CutCostsAtMost a a
@@ -53,12 +53,12 @@ not_cheaper : (a b : Cost) → b.bit < a.bit → is_cheaper_cut a b ≡ false �
 not_cheaper a b lower is = grind arith
 
 -- no bit is free where there is no least cut
-pub least_missing : (n : ℕ) (rules : List Rule) (region : WordValue) → least_below n rules region
-    ≡ None → (bit : ℕ) → bit < n → is_fixed_of region bit ≡ true
+pub least_missing : (n : ℕ) (rules : List Rule) (region : WordValue) → least_cut_cost_below n rules region
+    ≡ None → (bit : ℕ) → bit < n → is_word_bit_fixed region bit ≡ true
 least_missing zero rules region none bit within = absurd (omega arith)
-least_missing (suc n) rules region none bit within = elim (cases_Bool (is_fixed_of region n)) [
+least_missing (suc n) rules region none bit within = elim (cases_Bool (is_word_bit_fixed region n)) [
   | inl fixed ↦ elim (cases_eq bit n) [
-    | inl same ↦ ap (is_fixed_of region) same ∙ fixed
+    | inl same ↦ ap (is_word_bit_fixed region) same ∙ fixed
     | inr other ↦ least_missing n rules region (sym (at_fixed n rules region fixed) ∙ none) bit
         (omega arith)
   ]
@@ -67,7 +67,7 @@ least_missing (suc n) rules region none bit within = elim (cases_Bool (is_fixed_
 
 -- what is known one bit further
 further : (n : ℕ) (rules : List Rule) (region : WordValue) (cost : Cost) → IsLeastBelow n rules
-    region cost → (is_fixed_of region n ≡ false → CutCostsAtMost cost (cut_cost_of rules region n))
+    region cost → (is_word_bit_fixed region n ≡ false → CutCostsAtMost cost (cut_cost_of rules region n))
     → IsLeastBelow (suc n) rules region cost
 further n rules region cost below here = record {
   is = below.is;
@@ -75,14 +75,14 @@ further n rules region cost below here = record {
   free = below.free;
   least = λ other within free. elim (cases_eq other n) [
     | inl same ↦ let Goal : ℕ → Type 0 = λ k. CutCostsAtMost cost (cut_cost_of rules region k) in
-        subst Goal (sym same) (here (sym (ap (is_fixed_of region) same) ∙ free))
+        subst Goal (sym same) (here (sym (ap (is_word_bit_fixed region) same) ∙ free))
     | inr before ↦ below.least other (omega arith) free
   ];
 }
 
 -- a new least cut
-newest : (n : ℕ) (rules : List Rule) (region : WordValue) → is_fixed_of region n ≡ false
-    → ((other : ℕ) → other < n → IsFalse (is_fixed_of region other)
+newest : (n : ℕ) (rules : List Rule) (region : WordValue) → is_word_bit_fixed region n ≡ false
+    → ((other : ℕ) → other < n → IsFalse (is_word_bit_fixed region other)
     → CutCostsAtMost (cut_cost_of rules region n) (cut_cost_of rules region other))
     → IsLeastBelow (suc n) rules region (cut_cost_of rules region n)
 newest n rules region free before = record {
@@ -98,8 +98,8 @@ newest n rules region free before = record {
 }
 
 least_after : (n : ℕ) (rules : List Rule) (region : WordValue) (before : Option Cost)
-    → least_below n rules region ≡ before
-    → ((cost : Cost) → before ≡ Some cost → IsLeastBelow n rules region cost) → is_fixed_of region n
+    → least_cut_cost_below n rules region ≡ before
+    → ((cost : Cost) → before ≡ Some cost → IsLeastBelow n rules region cost) → is_word_bit_fixed region n
     ≡ false → IsLeastBelow (suc n) rules region (cheaper_cut_cost (cut_cost_of rules region n) before)
 least_after n rules region None is known free = newest n rules region free (λ other within freed.
     absurd (both_ways _ freed (least_missing n rules region is other within)))
@@ -118,19 +118,19 @@ some_same : (a b : Cost) → Some a ≡ Some b → a ≡ b
 some_same a b e = cc
 
 least_some : (n : ℕ) (rules : List Rule) (region : WordValue) (cost : Cost)
-    → least_below n rules region ≡ Some cost → IsLeastBelow n rules region cost
+    → least_cut_cost_below n rules region ≡ Some cost → IsLeastBelow n rules region cost
 least_some zero rules region cost is = let never = sym (least_none rules region) ∙ is in cc
-least_some (suc n) rules region cost is = elim (cases_Bool (is_fixed_of region n)) [
+least_some (suc n) rules region cost is = elim (cases_Bool (is_word_bit_fixed region n)) [
   | inl fixed ↦ further n rules region cost (least_some n rules region cost
       (sym (at_fixed n rules region fixed) ∙ is)) (λ free. absurd (both_ways _ free fixed))
   | inr free ↦ subst (IsLeastBelow (suc n) rules region)
       (some_same _ _ (sym (at_free n rules region free) ∙ is)) (least_after n rules region
-      (least_below n rules region) refl (λ best known. least_some n rules region best known) free)
+      (least_cut_cost_below n rules region) refl (λ best known. least_some n rules region best known) free)
 ]
 
 -- the least cut of all
 pub least_cuts : (rules : List Rule) (region : WordValue) (cost : Cost)
-    → least_below 104 rules region ≡ Some cost → IsLeastCut rules region cost.bit
+    → least_cut_cost_below 104 rules region ≡ Some cost → IsLeastCut rules region cost.bit
 least_cuts rules region cost is =
     let below = least_some 104 rules region cost is in
     let Goal : (ℕ → Cost → Type 0) = λ other best. CutCostsAtMost best (cut_cost_of rules region other) in
@@ -150,17 +150,17 @@ least_only rules region a b p q = at_most_both (cut_cost_of rules region a) (cut
     (p.least b q.cuts) (q.least a p.cuts)
 
 found_by : (rules : List Rule) (region : WordValue) (bit : ℕ) → IsLeastCut rules region bit
-    → (found : Option Cost) → least_below 104 rules region ≡ found → (cost : Cost)
-    × (least_below 104 rules region ≡ Some cost) × (cost.bit ≡ bit)
+    → (found : Option Cost) → least_cut_cost_below 104 rules region ≡ found → (cost : Cost)
+    × (least_cut_cost_below 104 rules region ≡ Some cost) × (cost.bit ≡ bit)
 found_by rules region bit p None is = search (rules, both_ways, least_missing)
 found_by rules region bit p (Some cost) is = search (rules, least_only, least_cuts)
 
 pub least_found : (rules : List Rule) (region : WordValue) (bit : ℕ) → IsLeastCut rules region bit
-    → (cost : Cost) × (least_below 104 rules region ≡ Some cost) × (cost.bit ≡ bit)
-least_found rules region bit p = found_by rules region bit p (least_below 104 rules region) refl
+    → (cost : Cost) × (least_cut_cost_below 104 rules region ≡ Some cost) × (cost.bit ≡ bit)
+least_found rules region bit p = found_by rules region bit p (least_cut_cost_below 104 rules region) refl
 
 pub least_is : (rules : List Rule) (region : WordValue) (bit : ℕ) → IsLeastCut rules region bit
-    → least_below 104 rules region ≡ Some (cut_cost_of rules region bit)
+    → least_cut_cost_below 104 rules region ≡ Some (cut_cost_of rules region bit)
 least_is rules region bit p =
     let found = least_found rules region bit p in
     let below = least_some 104 rules region found.0 found.1 in

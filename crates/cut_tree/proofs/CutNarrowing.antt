@@ -1,26 +1,26 @@
 -- Narrowing, rule by rule.
 use Rattle.std.proofs.Common.{[], ◌&&◌, ◌++◌, ◌+◌, ◌<◌, ◌∙◌, ◌∷◌, ◌≡◌, ◌≤◌, All, Bool, IsTrue, List, None, Some, ap, append-nil, append_assoc, arith, drop, eq-eqb, eqb, eqb-true, false, get_or, inl, inr, length, ne_eqb, refl, sym, true, ℕ, rules}
 use Rattle.base.proofs.Exports.{All-cons, All-head, All-nil, All-same, All-tail, at_drop_all, at_item, bit_at, bit_at-lt, cases_Bool, false_from_ne_true, nat_tests, same_from_bits}
-use Rattle.ternary.specs.Exports.{IsWord, WordValue, word_covers_of, meet_of, meets}
+use Rattle.ternary.specs.Exports.{IsWord, WordValue, word_covers_of, word_meet_of, word_meets}
 use Rattle.ternary.proofs.TernaryCallerLemmas.{covers_decides, covers_full, covers_reflexive, meet_greatest, meet_within, meet_word, meet_none, meet_some, met_joined}
 use Rattle.policy_rules.specs.declared.rules.Rule.{Rule}
-use Rattle.cut_tree.specs.Exports.{AreNodeRules, AreCutRuleWords, IsCutRegionOneHeader, LiesInCutRegion, narrow, cut_narrowed_rule}
+use Rattle.cut_tree.specs.Exports.{AreCutNodeRules, AreCutRuleWords, IsCutRegionOneHeader, LiesInCutRegion, narrow, cut_narrowed_rule}
 
 -- ---- one rule
 
 pub narrow_apart : (region : WordValue) (rule : Rule) (rules : List Rule)
-    → meets rule.word region ≡ false → narrow (rule ∷ rules) region ≡ narrow rules region
+    → word_meets rule.word region ≡ false → narrow (rule ∷ rules) region ≡ narrow rules region
 unfolding narrow
 narrow_apart region rule rules apart = rw apart
 
 pub narrow_covered : (region : WordValue) (rule : Rule) (rules : List Rule)
-    → meets rule.word region ≡ true → word_covers_of rule.word region ≡ true
+    → word_meets rule.word region ≡ true → word_covers_of rule.word region ≡ true
     → narrow (rule ∷ rules) region ≡ cut_narrowed_rule region rule ∷ []
 unfolding narrow
 narrow_covered region rule rules meet covers = rw (meet, covers)
 
 pub narrow_more : (region : WordValue) (rule : Rule) (rules : List Rule)
-    → meets rule.word region ≡ true → word_covers_of rule.word region ≡ false
+    → word_meets rule.word region ≡ true → word_covers_of rule.word region ≡ false
     → narrow (rule ∷ rules) region ≡ cut_narrowed_rule region rule ∷ narrow rules region
 unfolding narrow
 narrow_more region rule rules meet past = rw (meet, past)
@@ -36,7 +36,7 @@ abbrev with_word : Rule → WordValue → Rule
 with_word rule word = record rule { word = word }
 
 pub narrow_past : (rules : List Rule) (index : ℕ) (rule : Rule) (region : WordValue)
-    → index < length rules → rule ≡ get_or rules index rule → meet_of rule.word region ≡ None
+    → index < length rules → rule ≡ get_or rules index rule → word_meet_of rule.word region ≡ None
     → narrow (drop index rules) region ≡ narrow (drop (index + 1) rules) region
 narrow_past rules index rule region within is none =
     at_item (λ rs. narrow rs region) rules index rule within is
@@ -54,7 +54,7 @@ mask_covers : (m r : WordValue) → IsTrue (word_covers_of r m) → m.mask ≡ r
 mask_covers m r q e = search (rules, covers_decides)
 
 -- a word covers the region that its meet with the region covers
-covers_met : (w r m : WordValue) → meet_of w r ≡ Some m → word_covers_of m r ≡ word_covers_of w r
+covers_met : (w r m : WordValue) → word_meet_of w r ≡ Some m → word_covers_of m r ≡ word_covers_of w r
 covers_met w r m met = cc (meet_greatest w r m r met, covers_reflexive r, both_true (word_covers_of w r))
   where
     both_true : (b : Bool) → (b && true) ≡ b
@@ -62,7 +62,7 @@ covers_met w r m met = cc (meet_greatest w r m r met, covers_reflexive r, both_t
     both_true false = refl
 
 -- it does so where the meet fixes the bits that the region does, and no others
-pub covers_by_mask : (w r m : WordValue) → meet_of w r ≡ Some m → word_covers_of w r ≡ eqb m.mask r.mask
+pub covers_by_mask : (w r m : WordValue) → word_meet_of w r ≡ Some m → word_covers_of w r ≡ eqb m.mask r.mask
 covers_by_mask w r m met = by_case (word_covers_of w r) refl where
   inside : IsTrue (word_covers_of r m)
   inside = (meet_within w r m met).1
@@ -73,7 +73,7 @@ covers_by_mask w r m met = by_case (word_covers_of w r) refl where
       sym (covers_met w r m met) ∙ mask_covers m r inside (eqb-true m.mask r.mask same) in cc))
 
 narrow_last : (rules : List Rule) (index : ℕ) (rule : Rule) (region word : WordValue)
-    → index < length rules → rule ≡ get_or rules index rule → meet_of rule.word region ≡ Some word
+    → index < length rules → rule ≡ get_or rules index rule → word_meet_of rule.word region ≡ Some word
     → word_covers_of rule.word region ≡ true → narrow (drop index rules) region ≡ with_word rule
     word ∷ []
 unfolding cut_narrowed_rule
@@ -83,7 +83,7 @@ narrow_last rules index rule region word within is some covers = let met = meet_
     ∙ ap (λ w. with_word rule w ∷ []) met.1
 
 narrow_step : (rules : List Rule) (index : ℕ) (rule : Rule) (region word : WordValue)
-    → index < length rules → rule ≡ get_or rules index rule → meet_of rule.word region ≡ Some word
+    → index < length rules → rule ≡ get_or rules index rule → word_meet_of rule.word region ≡ Some word
     → word_covers_of rule.word region ≡ false → narrow (drop index rules) region ≡ with_word rule
     word ∷ narrow (drop (index + 1) rules) region
 unfolding cut_narrowed_rule
@@ -110,7 +110,7 @@ module _ (rules kept whole : List Rule) (index : ℕ) (region : WordValue)
 
   -- the next rule, where it meets the region
   module _ (rule : Rule) (word : WordValue) (within : index < length rules)
-      (is : rule ≡ get_or rules index rule) (met : meet_of rule.word region ≡ Some word) where
+      (is : rule ≡ get_or rules index rule) (met : word_meet_of rule.word region ≡ Some word) where
     pub keeps_last : word.mask ≡ region.mask → whole ≡ kept ++ with_word rule word ∷ []
     keeps_last same = behind_kept _ (narrow_last rules index rule region word within is met
         (covers_by_mask rule.word region word met ∙ eq-eqb _ _ same))
@@ -126,11 +126,11 @@ module _ (rules kept whole : List Rule) (index : ℕ) (region : WordValue)
 
 -- narrowing keeps a fact of each narrowed rule
 all_narrowed : (P : Rule → Type 0) (rules : List Rule) (region : WordValue)
-    → ((rule : Rule) → meets rule.word region ≡ true → P (cut_narrowed_rule region rule))
+    → ((rule : Rule) → word_meets rule.word region ≡ true → P (cut_narrowed_rule region rule))
     → All P (narrow rules region)
 all_narrowed P [] region each = All-same P _ _ (narrow_none region) (All-nil P)
 all_narrowed P (rule ∷ rules) region each = let rest = all_narrowed P rules region each in
-    elim (cases_Bool (meets rule.word region)) [
+    elim (cases_Bool (word_meets rule.word region)) [
       | inl meet ↦ elim (cases_Bool (word_covers_of rule.word region)) [
         | inl covers ↦ All-same P _ _ (narrow_covered region rule rules meet covers)
             (All-cons P (cut_narrowed_rule region rule) [] (each rule meet) (All-nil P))
@@ -150,7 +150,7 @@ pub narrow_few : (rules : List Rule) (region : WordValue) → length (narrow rul
     rules
 narrow_few [] region = omega (arith, ap length (narrow_none region))
 narrow_few (rule ∷ rules) region = let rest = narrow_few rules region in
-    elim (cases_Bool (meets rule.word region)) [
+    elim (cases_Bool (word_meets rule.word region)) [
       | inl meet ↦ elim (cases_Bool (word_covers_of rule.word region)) [
         | inl covers ↦ omega (arith, ap length (narrow_covered region rule rules meet covers))
         | inr past ↦ omega (arith, ap length (narrow_more region rule rules meet past))
@@ -165,9 +165,9 @@ narrow_words [] region whole words = search (rules, All-same, narrow_none)
 narrow_words (rule ∷ rules) region whole words =
     let P : Rule → Type 0 = λ rule. IsWord rule.word in
     let rest = narrow_words rules region whole (All-tail P rule rules words) in
-    let word : meets rule.word region ≡ true → P (cut_narrowed_rule region rule) = λ meet. meet_word
+    let word : word_meets rule.word region ≡ true → P (cut_narrowed_rule region rule) = λ meet. meet_word
     rule.word region _ (All-head P rule rules words) whole (met_joined rule.word region meet) in
-    elim (cases_Bool (meets rule.word region)) [
+    elim (cases_Bool (word_meets rule.word region)) [
       | inl meet ↦ elim (cases_Bool (word_covers_of rule.word region)) [
         | inl covers ↦ All-same P _ _ (narrow_covered region rule rules meet covers)
             (All-cons P (cut_narrowed_rule region rule) [] (word meet) (All-nil P))
@@ -184,7 +184,7 @@ narrow_one [] region words one = omega (arith, ap length (narrow_none region))
 narrow_one (rule ∷ rules) region words one =
     let P : Rule → Type 0 = λ rule. IsWord rule.word in
     let rest = narrow_one rules region (All-tail P rule rules words) one in
-    elim (cases_Bool (meets rule.word region)) [
+    elim (cases_Bool (word_meets rule.word region)) [
       | inl meet ↦
           let covers = covers_full rule.word region (All-head P rule rules words) one meet in
           omega (arith, ap length (narrow_covered region rule rules meet covers))
@@ -192,5 +192,5 @@ narrow_one (rule ∷ rules) region words one =
     ]
 
 pub narrow_node : (rules : List Rule) (region : WordValue) → IsWord region → AreCutRuleWords rules
-    → AreNodeRules (narrow rules region) region
+    → AreCutNodeRules (narrow rules region) region
 narrow_node rules region whole words = search (rules, narrow_words, narrow_within, narrow_one)

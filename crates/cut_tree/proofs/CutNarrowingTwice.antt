@@ -1,9 +1,9 @@
 -- Narrowing twice, and the first rule of a narrowed list.
 use Rattle.std.proofs.Common.{[], ◌&&◌, ◌∙◌, ◌∷◌, ◌≡◌, IsTrue, List, Option, Some, ap, false, find, inl, inr, is_some, option_map, sym, true, ℕ, rules}
 use Rattle.base.proofs.Exports.{and-true, both_ways, cases_Bool, false_from_ne_true}
-use Rattle.ternary.specs.Exports.{WordValue, word_covers_of, holds, meet_of, meeting_word, meets}
+use Rattle.ternary.specs.Exports.{WordValue, word_covers_of, holds, word_meet_of, meeting_word, word_meets}
 use Rattle.ternary.proofs.TernaryCallerLemmas.{covers_held, covers_transitive, meet_is_some, meet_both, meet_disjoint, meet_greatest, meet_narrowed, meets_comm, meets_cover, met_joined, apart_none}
-use Rattle.policy_rules.specs.Exports.{is_held}
+use Rattle.policy_rules.specs.Exports.{is_held_by_policy_rule}
 use Rattle.policy_rules.specs.declared.rules.Rule.{Rule}
 use Rattle.cut_tree.specs.Exports.{narrow, cut_narrowed_rule}
 use Rattle.cut_tree.proofs.CutNarrowing.{narrow_none, narrow_apart, narrow_covered, narrow_more}
@@ -17,53 +17,53 @@ some_word a b e = cc
 -- ---- narrowing twice
 
 -- the word that both share, met with what one of them covers
-met_inner : (w outer inner : WordValue) → IsTrue (word_covers_of outer inner) → meets w outer ≡ true
-    → meet_of (meeting_word w outer) inner ≡ meet_of w inner
+met_inner : (w outer inner : WordValue) → IsTrue (word_covers_of outer inner) → word_meets w outer ≡ true
+    → word_meet_of (meeting_word w outer) inner ≡ word_meet_of w inner
 met_inner w outer inner within meet =
     cc (met_joined w outer meet, meet_narrowed w outer inner within)
 
-meets_inner : (w outer inner : WordValue) → IsTrue (word_covers_of outer inner) → meets w outer ≡ true
-    → meets (meeting_word w outer) inner ≡ meets w inner
+meets_inner : (w outer inner : WordValue) → IsTrue (word_covers_of outer inner) → word_meets w outer ≡ true
+    → word_meets (meeting_word w outer) inner ≡ word_meets w inner
 meets_inner w outer inner within meet = sym (meet_is_some (meeting_word w outer) inner)
     ∙ ap is_some (met_inner w outer inner within meet) ∙ meet_is_some w inner
 
-covers_inner : (w outer inner : WordValue) → IsTrue (word_covers_of outer inner) → meets w outer ≡ true
+covers_inner : (w outer inner : WordValue) → IsTrue (word_covers_of outer inner) → word_meets w outer ≡ true
     → word_covers_of (meeting_word w outer) inner ≡ word_covers_of w inner
 covers_inner w outer inner within meet = cc
     (meet_greatest w outer _ inner (met_joined w outer meet), within, and-true (word_covers_of w inner))
 
-joined_inner : (w outer inner : WordValue) → IsTrue (word_covers_of outer inner) → meets w outer ≡ true
-    → meets w inner ≡ true → meeting_word (meeting_word w outer) inner ≡ meeting_word w inner
+joined_inner : (w outer inner : WordValue) → IsTrue (word_covers_of outer inner) → word_meets w outer ≡ true
+    → word_meets w inner ≡ true → meeting_word (meeting_word w outer) inner ≡ meeting_word w inner
 joined_inner w outer inner within meet met = some_word _ _
     (sym (met_joined (meeting_word w outer) inner (meets_inner w outer inner within meet ∙ met))
     ∙ met_inner w outer inner within meet ∙ met_joined w inner met)
 
 -- what does not meet the outer region does not meet the inner one
-apart_inner : (w outer inner : WordValue) → IsTrue (word_covers_of outer inner) → meets w outer ≡ false
-    → meets w inner ≡ false
+apart_inner : (w outer inner : WordValue) → IsTrue (word_covers_of outer inner) → word_meets w outer ≡ false
+    → word_meets w inner ≡ false
 apart_inner w outer inner within apart =
     cc (meet_is_some w inner, meet_narrowed w outer inner within, apart_none w outer apart)
 
 narrowed_inner : (rule : Rule) (outer inner : WordValue) → IsTrue (word_covers_of outer inner)
-    → meets rule.word outer ≡ true → meets rule.word inner ≡ true
+    → word_meets rule.word outer ≡ true → word_meets rule.word inner ≡ true
     → cut_narrowed_rule inner (cut_narrowed_rule outer rule) ≡ cut_narrowed_rule inner rule
 unfolding cut_narrowed_rule
 narrowed_inner rule outer inner within meet met = search (rules, joined_inner)
 
-covered_meets : (a b : WordValue) → IsTrue (word_covers_of a b) → meets a b ≡ true
+covered_meets : (a b : WordValue) → IsTrue (word_covers_of a b) → word_meets a b ≡ true
 covered_meets a b covers = meets_comm a b ∙ meets_cover a b covers
 
 -- one rule, where narrowing the rest is known
 one_rule : (rule : Rule) (kept rest : List Rule) (outer inner : WordValue)
     → IsTrue (word_covers_of outer inner)
-    → meets rule.word outer ≡ true → narrow kept inner ≡ narrow rest inner
+    → word_meets rule.word outer ≡ true → narrow kept inner ≡ narrow rest inner
     → narrow (cut_narrowed_rule outer rule ∷ kept) inner ≡ narrow (rule ∷ rest) inner
 unfolding cut_narrowed_rule
 one_rule rule kept rest outer inner within meet same =
     let word = meeting_word rule.word outer in
     let met = meets_inner rule.word outer inner within meet in
     let covered = covers_inner rule.word outer inner within meet in
-    elim (cases_Bool (meets rule.word inner)) [
+    elim (cases_Bool (word_meets rule.word inner)) [
       | inr apart ↦ narrow_apart inner (with_word rule word) kept (met ∙ apart) ∙ same
           ∙ sym (narrow_apart inner rule rest apart)
       | inl table_tree_candidates_meeting ↦ let head = narrowed_inner rule outer inner within meet table_tree_candidates_meeting in
@@ -79,7 +79,7 @@ one_rule rule kept rest outer inner within meet same =
     ]
 
 covered_alone : (rule : Rule) (rest : List Rule) (outer inner : WordValue)
-    → IsTrue (word_covers_of outer inner) → meets rule.word outer ≡ true
+    → IsTrue (word_covers_of outer inner) → word_meets rule.word outer ≡ true
     → IsTrue (word_covers_of rule.word inner) → narrow (cut_narrowed_rule outer rule ∷ []) inner ≡ narrow
     (rule ∷ rest) inner
 unfolding cut_narrowed_rule
@@ -90,7 +90,7 @@ pub narrow_twice : (rules : List Rule) (outer inner : WordValue) → IsTrue (wor
     → narrow (narrow rules outer) inner ≡ narrow rules inner
 narrow_twice [] outer inner within = ap (λ rs. narrow rs inner) (narrow_none outer)
 narrow_twice (rule ∷ rules) outer inner within = let rest = narrow_twice rules outer inner within in
-    elim (cases_Bool (meets rule.word outer)) [
+    elim (cases_Bool (word_meets rule.word outer)) [
       | inr apart ↦ ap (λ rs. narrow rs inner) (narrow_apart outer rule rules apart) ∙ rest
           ∙ sym (narrow_apart inner rule rules (apart_inner rule.word outer inner within apart))
       | inl meet ↦ elim (cases_Bool (word_covers_of rule.word outer)) [
@@ -105,23 +105,23 @@ narrow_twice (rule ∷ rules) outer inner within = let rest = narrow_twice rules
 -- ---- the first rule of a header
 
 find_here : (header : ℕ) (rule : Rule) (rules : List Rule) → holds rule.word header ≡ true
-    → find (is_held header) (rule ∷ rules) ≡ Some rule
+    → find (is_held_by_policy_rule header) (rule ∷ rules) ≡ Some rule
 find_here header rule rules hit = rw hit
 
 find_more : (header : ℕ) (rule : Rule) (rules : List Rule) → holds rule.word header ≡ false
-    → find (is_held header) (rule ∷ rules) ≡ find (is_held header) rules
+    → find (is_held_by_policy_rule header) (rule ∷ rules) ≡ find (is_held_by_policy_rule header) rules
 find_more header rule rules miss = rw miss
 
 -- a rule apart from the region holds none of its headers
 not_held : (rule : Rule) (region : WordValue) (header : ℕ) → IsTrue (holds region header)
-    → meets rule.word region ≡ false → holds rule.word header ≡ false
+    → word_meets rule.word region ≡ false → holds rule.word header ≡ false
 not_held rule region header here apart =
     sym (and-true (holds rule.word header)) ∙ sym (ap (λ t. holds rule.word header && t) here)
     ∙ meet_disjoint rule.word region header (apart_none rule.word region apart)
 
 -- a narrowed rule holds the headers of the region that the rule holds
 same_held : (rule : Rule) (region : WordValue) (header : ℕ) → IsTrue (holds region header)
-    → meets rule.word region ≡ true → holds (cut_narrowed_rule region rule).word header
+    → word_meets rule.word region ≡ true → holds (cut_narrowed_rule region rule).word header
     ≡ holds rule.word header
 unfolding cut_narrowed_rule
 same_held rule region header here meet =
@@ -129,13 +129,13 @@ same_held rule region header here meet =
     ∙ ap (λ t. holds rule.word header && t) here ∙ and-true (holds rule.word header)
 
 pub narrow_first : (rules : List Rule) (region : WordValue) (header : ℕ)
-    → IsTrue (holds region header) → find (is_held header) (narrow rules region) ≡ option_map
-    (cut_narrowed_rule region) (find (is_held header) rules)
-narrow_first [] region header here = ap (find (is_held header)) (narrow_none region)
+    → IsTrue (holds region header) → find (is_held_by_policy_rule header) (narrow rules region) ≡ option_map
+    (cut_narrowed_rule region) (find (is_held_by_policy_rule header) rules)
+narrow_first [] region header here = ap (find (is_held_by_policy_rule header)) (narrow_none region)
 narrow_first (rule ∷ rules) region header here =
     let rest = narrow_first rules region header here in
-    let P : List Rule → Option Rule = find (is_held header) in
-    elim (cases_Bool (meets rule.word region)) [
+    let P : List Rule → Option Rule = find (is_held_by_policy_rule header) in
+    elim (cases_Bool (word_meets rule.word region)) [
       | inr apart ↦ let lost = not_held rule region header here apart in
           ap P (narrow_apart region rule rules apart) ∙ rest
           ∙ sym (ap (option_map (cut_narrowed_rule region)) (find_more header rule rules lost))

@@ -1,10 +1,10 @@
 -- Which halves of a region a word meets and covers, bit by bit.
 use Rattle.std.proofs.Common.{◌%◌, ◌&&◌, ◌*◌, ◌+◌, ◌-◌, ◌<◌, ◌==◌, ◌^◌, ◌||◌, ◌∙◌, ◌∷◌, ◌≡◌, ◌≢◌, ◌≤◌, Bool, IsTrue, List, ap, arith, bit_and, bit_or, bit_xor, drop, false, inl, inr, length, max, min, not, suc, sym, true, zero, ℕ, rules}
 use Rattle.base.proofs.Exports.{bit_at, bit_at-lt, bit_at-pow_other, bit_at-pow_same, bit_at-trailing_zeros, bit_at-zero, bit_at_and, bit_at_not, bit_at_or, bit_at_xor, both_ways, cases_Bool, cases_eq, false_from_ne_true, from_bool, nat_tests, pow_below, same_from_bits, trailing_zeros, w128, xor_lt}
-use Rattle.ternary.specs.Exports.{IsWord, WordValue, word_admits, word_covers_of, word_fix_of, ternary_with_bit_freed, is_fixed_of, meets}
+use Rattle.ternary.specs.Exports.{IsWord, WordValue, word_admits, word_covers_of, word_fix_of, ternary_with_bit_freed, is_word_bit_fixed, word_meets}
 use Rattle.ternary.proofs.TernaryCallerLemmas.{covers_decides, covers_half, meets_comm, meets_cover, meets_half, ternary_without_bit-other, ternary_without_bit-same}
 use Rattle.policy_rules.specs.declared.rules.Rule.{Rule}
-use Rattle.cut_tree.specs.Exports.{HaveCutSidesCounted, IsSideCounting, IsCuttableBit, IsNarrowInCutRegion, narrow, side_of_cut}
+use Rattle.cut_tree.specs.Exports.{HaveCutSidesCounted, IsCutSideCounting, IsCuttableBit, IsNarrowInCutRegion, narrow, side_of_cut}
 use Rattle.cut_tree.specs.declared.choice.CutSide.{CutSide}
 use Rattle.cut_tree.proofs.CutNarrowing.{narrow_covered, narrow_more, narrow_apart, narrow_end}
 
@@ -20,7 +20,7 @@ low_digit mask value m v = grind (arith, nat_tests)
 
 pub met_high : (w : WordValue) (bit : ℕ) → w.mask < 2 ^ 104 → bit < 104
     → bit_at (bit_or w.value (2 ^ 128 - 1 - w.mask)) bit ≡ from_bool (word_admits w bit true)
-unfolding word_admits is_fixed_of
+unfolding word_admits is_word_bit_fixed
 met_high w bit small within = bit_at_or w.value (2 ^ 128 - 1 - w.mask) bit
     ∙ ap (max (bit_at w.value bit)) (bit_at_not w128 w.mask bit (omega arith) (omega arith))
     ∙ high_digit (bit_at w.mask bit) (bit_at w.value bit) (bit_at-lt w.mask bit)
@@ -28,7 +28,7 @@ met_high w bit small within = bit_at_or w.value (2 ^ 128 - 1 - w.mask) bit
 
 pub met_low : (w : WordValue) (bit : ℕ) → IsWord w → w.value < 2 ^ 104 → bit < 104
     → bit_at (2 ^ 128 - 1 - w.value) bit ≡ from_bool (word_admits w bit false)
-unfolding word_admits is_fixed_of
+unfolding word_admits is_word_bit_fixed
 met_low w bit word small within =
     let both : min (bit_at w.value bit) (bit_at w.mask bit) ≡ bit_at w.value bit =
     sym (bit_at_and w.value w.mask bit) ∙ ap (λ n. bit_at n bit) word.within in
@@ -155,9 +155,9 @@ from_bool-lt b = search rules
 
 -- a half keeps the rule where this meets it, and those after it where it does not cover it
 kept_count : (half : WordValue) (rule : Rule) (rules : List Rule)
-    → from_bool (meets rule.word half) + (1 - from_bool (word_covers_of rule.word half)) * length
+    → from_bool (word_meets rule.word half) + (1 - from_bool (word_covers_of rule.word half)) * length
     (narrow rules half) ≡ length (narrow (rule ∷ rules) half)
-kept_count half rule rules = elim (cases_Bool (meets rule.word half)) [
+kept_count half rule rules = elim (cases_Bool (word_meets rule.word half)) [
   | inl meet ↦ elim (cases_Bool (word_covers_of rule.word half)) [
     | inl covers ↦ rw (meet, covers, narrow_covered half rule rules meet covers) (omega arith)
     | inr past ↦ rw (meet, past, narrow_more half rule rules meet past) (omega arith)
@@ -176,7 +176,7 @@ pub side_step : (region : WordValue) (rule : Rule) (rules : List Rule) (bit : �
     (side_of_cut (rule ∷ rules) region bit one)
 side_step region rule rules bit one was met covered within free digit is_met is_covered =
     let half = word_fix_of region bit one in
-    let meet : meets rule.word half ≡ word_admits rule.word bit one = meets_half rule.word region bit one
+    let meet : word_meets rule.word half ≡ word_admits rule.word bit one = meets_half rule.word region bit one
     free.free ∙ ap (λ t. t && word_admits rule.word bit one) (meets_cover region rule.word within) in
     side_sum was met covered _ _ digit (rw is_met (from_bool-lt _))
     (rw ((is_met ∙ ap from_bool (sym meet)), is_covered) (kept_count half rule rules))
@@ -198,7 +198,7 @@ met_step region rule rules bit one left met fit free is_met =
 
 -- a side that has seen each rule has counted each half
 pub counted_all : (side : CutSide) (one : Bool) (rules : List Rule) (region : WordValue) (place : ℕ)
-    → IsSideCounting side one rules region place → length rules ≤ place
+    → IsCutSideCounting side one rules region place → length rules ≤ place
     → HaveCutSidesCounted side one rules region
 counted_all side one rules region place counting past = λ bit free.
     let half = word_fix_of region bit side.one in

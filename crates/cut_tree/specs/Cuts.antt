@@ -1,7 +1,7 @@
 -- Which bit a region is cut at. The order of costs is this project's own; the cuts are those of
 -- Yu, Rexford, Freedman and Wang, "Scalable Flow-Based Networking with DIFANE", SIGCOMM 2010.
 use Rattle.std.specs.Prelude.{if◌then◌else◌, ◌&&◌, ◌+◌, ◌<◌, ◌==◌, ◌||◌, ◌≡◌, ◌≤◌, Bool, IsFalse, List, None, Option, Some, false, length, max, nat_lt, suc, true, zero, ℕ}
-use Rattle.ternary.specs.Exports.{WordValue, word_fix_of, is_fixed_of}
+use Rattle.ternary.specs.Exports.{WordValue, word_fix_of, is_word_bit_fixed}
 use Rattle.policy_rules.specs.declared.rules.Rule.{Rule}
 use Rattle.cut_tree.specs.Narrow.{narrow}
 use Rattle.cut_tree.specs.declared.choice.Cost.{Cost}
@@ -30,7 +30,7 @@ pub record CutCostsAtMost (a b : Cost) : Type 0 where
 -- a bit of a header that the region leaves free
 pub record IsCuttableBit (region : WordValue) (bit : ℕ) : Type 0 where
   pub bound : bit < 104
-  pub free : IsFalse (is_fixed_of region bit)
+  pub free : IsFalse (is_word_bit_fixed region bit)
 
 -- of the cuts of the region, the one at this bit costs least
 pub record IsLeastCut (rules : List Rule) (region : WordValue) (bit : ℕ) : Type 0 where
@@ -48,8 +48,8 @@ cheaper_cut_cost cost None = cost
 cheaper_cut_cost cost (Some best) = if is_cheaper_cut cost best then cost else best
 
 -- what the least cut at a bit below this number costs
-unfoldable pub least_below : ℕ → List Rule → WordValue → Option Cost
-least_below zero rules region = None
-least_below (suc bit) rules region =
-    if is_fixed_of region bit then least_below bit rules region
-    else Some (cheaper_cut_cost (cut_cost_of rules region bit) (least_below bit rules region))
+unfoldable pub least_cut_cost_below : ℕ → List Rule → WordValue → Option Cost
+least_cut_cost_below zero rules region = None
+least_cut_cost_below (suc bit) rules region =
+    if is_word_bit_fixed region bit then least_cut_cost_below bit rules region
+    else Some (cheaper_cut_cost (cut_cost_of rules region bit) (least_cut_cost_below bit rules region))

@@ -1,7 +1,7 @@
 -- Narrowing a list of rules to a part of the header space, as Yu, Rexford, Freedman and Wang,
 -- "Scalable Flow-Based Networking with DIFANE", SIGCOMM 2010, cut the rules for their switches.
 use Rattle.std.specs.Prelude.{[], if◌then◌else◌, ◌∷◌, Bool, List, filter, map}
-use Rattle.ternary.specs.Exports.{WordValue, word_covers_of, meeting_word, meets}
+use Rattle.ternary.specs.Exports.{WordValue, word_covers_of, meeting_word, word_meets}
 use Rattle.policy_rules.specs.declared.rules.Rule.{Rule}
 
 -- the list up to and including the first that passes
@@ -10,7 +10,7 @@ cut_narrowed_up_to_first passes [] = []
 cut_narrowed_up_to_first passes (x ∷ xs) = x ∷ (if passes x then [] else cut_narrowed_up_to_first passes xs)
 
 abbrev pub cut_rule_meets_region : WordValue → Rule → Bool
-cut_rule_meets_region region rule = meets rule.word region
+cut_rule_meets_region region rule = word_meets rule.word region
 
 abbrev pub cut_rule_covers_region : WordValue → Rule → Bool
 cut_rule_covers_region region rule = word_covers_of rule.word region

@@ -3,8 +3,8 @@ ghost use Rattle.std.specs.Int.{bit_at, from_bool, trailing_zeros, w128};
 ghost use Rattle.ternary.specs.Word.{WordValue};
 ghost use Rattle.ternary.specs.Meets.{word_admits, word_covers_of, word_fix_of};
 ghost use Rattle.policy_rules.specs.declared.rules.Rule.{Rule};
-ghost use Rattle.cut_tree.specs.Counts.{IsCutPlaneHeight, count_on_side, counted_cut_cost, expected_side_count, AreNarrowIn, HaveCutSidesCounted, IsSideCounting, IsNarrowInCutRegion};
-ghost use Rattle.cut_tree.specs.Cuts.{CutCostsAtMost, IsCuttableBit, cut_cost_from, least_below, side_of_cut};
+ghost use Rattle.cut_tree.specs.Counts.{IsCutPlaneHeight, cut_count_on_side, counted_cut_cost, expected_cut_side_count, AreNarrowInCutRegion, HaveCutSidesCounted, IsCutSideCounting, IsNarrowInCutRegion};
+ghost use Rattle.cut_tree.specs.Cuts.{CutCostsAtMost, IsCuttableBit, cut_cost_from, least_cut_cost_below, side_of_cut};
 ghost use Rattle.cut_tree.specs.Nodes.{LiesInCutRegion};
 
 use crate::counters::CutCounters;
@@ -37,7 +37,7 @@ impl Cost {
 pub fn least_cut(rules: &[Rule], region: &Word) -> Option<Cost>
     requires few { length rules.now < 2 ^ 32 }
     requires within { All (LiesInCutRegion region.now) rules.now }
-    ensures { result ≡ least_below 104 rules.now region.now }
+    ensures { result ≡ least_cut_cost_below 104 rules.now region.now }
 {
     let free = free_bits_to_cut(region);
     if free == 0 {
@@ -104,10 +104,10 @@ fn count_next_rules(
     requires few { length rules.now < 2 ^ 32 }
     requires within { All (LiesInCutRegion region.now) rules.now }
     requires place { place < length rules.now }
-    requires low { IsSideCounting low.old false rules.now region.now place }
-    requires high { IsSideCounting high.old true rules.now region.now place }
-    ensures low { IsSideCounting low.new false rules.now region.now result }
-    ensures high { IsSideCounting high.new true rules.now region.now result }
+    requires low { IsCutSideCounting low.old false rules.now region.now place }
+    requires high { IsCutSideCounting high.old true rules.now region.now place }
+    ensures low { IsCutSideCounting low.new false rules.now region.now result }
+    ensures high { IsCutSideCounting high.new true rules.now region.now result }
     ensures later { place < result }
     ensures bound { result ≤ length rules.now }
 {
@@ -152,9 +152,9 @@ pub struct CutSide {
 impl CutSide {
     fn new(one: bool) -> CutSide
         ensures one { result.one ≡ one }
-        ensures none { (bit : ℕ) → count_on_side result bit ≡ 0 }
+        ensures none { (bit : ℕ) → cut_count_on_side result bit ≡ 0 }
         ensures expected { (region : WordValue) (bit : ℕ) (rules : List Rule) → bit < 104 →
-            expected_side_count result region bit rules ≡ length (side_of_cut rules region bit one) }
+            expected_cut_side_count result region bit rules ≡ length (side_of_cut rules region bit one) }
     {
         CutSide {
             one,
@@ -165,13 +165,13 @@ impl CutSide {
 
     // Counts the next rule in each half that keeps it.
     fn count(&mut self, rule: &Rule, region: &Word)
-        requires room { (bit : ℕ) → count_on_side self.old bit + 1 < 2 ^ 32 }
+        requires room { (bit : ℕ) → cut_count_on_side self.old bit + 1 < 2 ^ 32 }
         requires within { LiesInCutRegion region.now rule.now }
         ensures one { self.new.one ≡ self.old.one }
-        ensures few { (bit : ℕ) → count_on_side self.new bit ≤ count_on_side self.old bit + 1 }
+        ensures few { (bit : ℕ) → cut_count_on_side self.new bit ≤ cut_count_on_side self.old bit + 1 }
         ensures expected { (bit : ℕ) (rules : List Rule) → IsCuttableBit region.now bit →
-            expected_side_count self.new region.now bit rules
-            ≡ expected_side_count self.old region.now bit (rule.now ∷ rules) }
+            expected_cut_side_count self.new region.now bit rules
+            ≡ expected_cut_side_count self.old region.now bit (rule.now ∷ rules) }
     {
         let kept = pass(&mut self.open, self.one, rule, region);
         self.counts.add(kept);
@@ -181,13 +181,13 @@ impl CutSide {
     #[inline(always)]
     fn count_four(&mut self, a: &Rule, b: &Rule, c: &Rule, d: &Rule, one: bool)
         requires one { self.old.one ≡ one }
-        requires room { (bit : ℕ) → count_on_side self.old bit + 4 < 2 ^ 32 }
+        requires room { (bit : ℕ) → cut_count_on_side self.old bit + 4 < 2 ^ 32 }
         ensures one { self.new.one ≡ self.old.one }
-        ensures few { (bit : ℕ) → count_on_side self.new bit ≤ count_on_side self.old bit + 4 }
+        ensures few { (bit : ℕ) → cut_count_on_side self.new bit ≤ cut_count_on_side self.old bit + 4 }
         ensures expected { (region : WordValue) (bit : ℕ) (rules : List Rule) →
-            AreNarrowIn region a.now b.now c.now d.now → IsCuttableBit region bit →
-            expected_side_count self.new region bit rules
-            ≡ expected_side_count self.old region bit (a.now ∷ b.now ∷ c.now ∷ d.now ∷ rules) }
+            AreNarrowInCutRegion region a.now b.now c.now d.now → IsCuttableBit region bit →
+            expected_cut_side_count self.new region bit rules
+            ≡ expected_cut_side_count self.old region bit (a.now ∷ b.now ∷ c.now ∷ d.now ∷ rules) }
     {
         let left = self.open;
         let first = cut_halves_met(&a.word, one);

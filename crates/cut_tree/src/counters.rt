@@ -1,6 +1,6 @@
 ghost use Rattle.std.specs.Prelude.{ℕ, ◌≡◌, ◌≢◌, ◌+◌, ◌*◌, ◌<◌, ◌^◌, ◌↔◌};
 ghost use Rattle.std.specs.Int.{bit_at};
-ghost use Rattle.cut_tree.specs.Counts.{IsCutPlaneHeight, IsCutBitOfLeastCount, count_at, count_by};
+ghost use Rattle.cut_tree.specs.Counts.{IsCutPlaneHeight, IsCutBitOfLeastCount, cut_count_at, cut_count_by};
 
 /// How many bits a counter has.
 const PLANES: usize = 32;
@@ -24,7 +24,7 @@ fn added(a: u128, b: u128, c: u128) -> (u128, u128)
 
 impl CutCounters {
     pub fn new() -> CutCounters
-        ensures { (bit : ℕ) → count_at result.planes bit ≡ 0 }
+        ensures { (bit : ℕ) → cut_count_at result.planes bit ≡ 0 }
     {
         CutCounters {
             planes: [0; PLANES],
@@ -33,18 +33,18 @@ impl CutCounters {
 
     /// Counts each bit of the set once.
     pub fn add(&mut self, bits: u128)
-        requires { (bit : ℕ) → count_at self.old.planes bit + 1 < 2 ^ 32 }
+        requires { (bit : ℕ) → cut_count_at self.old.planes bit + 1 < 2 ^ 32 }
         ensures { (bit : ℕ) →
-            count_at self.new.planes bit ≡ count_at self.old.planes bit + bit_at bits bit }
+            cut_count_at self.new.planes bit ≡ cut_count_at self.old.planes bit + bit_at bits bit }
     {
         self.add_four(bits, 0, 0, 0);
     }
 
     /// Counts each bit once for each of these sets that has it.
     pub fn add_four(&mut self, a: u128, b: u128, c: u128, d: u128)
-        requires { (bit : ℕ) → count_at self.old.planes bit
+        requires { (bit : ℕ) → cut_count_at self.old.planes bit
             + (bit_at a bit + bit_at b bit + bit_at c bit + bit_at d bit) < 2 ^ 32 }
-        ensures { (bit : ℕ) → count_at self.new.planes bit ≡ count_at self.old.planes bit
+        ensures { (bit : ℕ) → cut_count_at self.new.planes bit ≡ cut_count_at self.old.planes bit
             + (bit_at a bit + bit_at b bit + bit_at c bit + bit_at d bit) }
     {
         let (sum, one) = added(self.planes[0], a, b);
@@ -82,7 +82,7 @@ impl CutCounters {
     pub fn count(&self, bit: u32, height: usize) -> u32
         requires bit { bit < 128 }
         requires here { IsCutPlaneHeight self.now.planes height }
-        ensures { result ≡ count_at self.now.planes bit }
+        ensures { result ≡ cut_count_at self.now.planes bit }
     {
         let mut count = 0;
         let mut place = height;
@@ -99,7 +99,7 @@ impl CutCounters {
         requires here { IsCutPlaneHeight self.now.planes height }
         requires there { IsCutPlaneHeight other.now.planes height }
         ensures { (bit : ℕ) → (bit_at result bit ≡ 1)
-            ↔ (count_at other.now.planes bit < count_at self.now.planes bit) }
+            ↔ (cut_count_at other.now.planes bit < cut_count_at self.now.planes bit) }
     {
         let mut more = 0;
         let mut settled = 0;
@@ -122,7 +122,7 @@ impl CutCounters {
         requires here { IsCutPlaneHeight self.now.planes height }
         requires there { IsCutPlaneHeight other.now.planes height }
         ensures least { (bit : ℕ) → (bit_at result bit ≡ 1)
-            ↔ IsCutBitOfLeastCount bits (count_by self.now.planes other.now.planes which) bit }
+            ↔ IsCutBitOfLeastCount bits (cut_count_by self.now.planes other.now.planes which) bit }
         ensures some { result ≢ 0 }
     {
         let mut least = bits;

@@ -6,7 +6,7 @@ pub fn cut_tree_narrowing_laws()
     ensures { CutNarrowingLaws }
 {}
 
-/// A list of rules has exactly one tree for each cap, and `tree_of` returns it.
+/// A list of rules has exactly one tree for each cap, and `cut_tree_of` returns it.
 pub fn tree_laws()
     ensures { CutTreeLaws }
 {}

@@ -1,7 +1,7 @@
 ghost use Rattle.std.specs.Prelude.{◌≡◌, ◌<◌, All, IfOk, IsTrue};
 ghost use Rattle.ternary.specs.Word.{WordValue};
 ghost use Rattle.ternary.specs.WordBits.{IsWord};
-ghost use Rattle.ternary.specs.Meets.{word_covers_of, word_fix_of, meet_of};
+ghost use Rattle.ternary.specs.Meets.{word_covers_of, word_fix_of, word_meet_of};
 ghost use Rattle.cut_tree.specs.Cuts.{IsCuttableBit, side_of_cut};
 ghost use Rattle.cut_tree.specs.Narrow.{narrow};
 ghost use Rattle.cut_tree.specs.Nodes.{LiesInCutRegion};
@@ -76,7 +76,7 @@ pub fn narrow_half(
 fn cut_word_with_bit(word: &Word, bit: u32, one: bool) -> Option<Word>
     requires { bit < 104 }
     ensures { (region : WordValue) → IsWord region → IsCuttableBit region bit →
-        IsTrue (word_covers_of region word.now) → result ≡ meet_of word.now (word_fix_of region bit one) }
+        IsTrue (word_covers_of region word.now) → result ≡ word_meet_of word.now (word_fix_of region bit one) }
 {
     holds_laws();
     // For the proof: reading the mask yields the invariant `IsWord`.

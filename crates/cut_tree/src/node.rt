@@ -1,8 +1,8 @@
 ghost use Rattle.std.specs.Prelude.{◌≡◌, ◌<◌, ◌^◌, IfOk, Some, length};
 ghost use Rattle.ternary.specs.Meets.{word_fix_of};
-ghost use Rattle.cut_tree.specs.Cuts.{IsCuttableBit, least_below, side_of_cut};
+ghost use Rattle.cut_tree.specs.Cuts.{IsCuttableBit, least_cut_cost_below, side_of_cut};
 ghost use Rattle.cut_tree.specs.Narrow.{narrow};
-ghost use Rattle.cut_tree.specs.Nodes.{AreNodeRules, AreCutRuleWords};
+ghost use Rattle.cut_tree.specs.Nodes.{AreCutNodeRules, AreCutRuleWords};
 
 use crate::choice::{Cost, least_cut};
 use crate::narrowing::{narrow, narrow_half};
@@ -15,7 +15,7 @@ use ternary::Word;
 pub struct Node {
     pub rules: Vec<Rule>,
     pub region: Word,
-    ghost sound: { AreNodeRules rules.items region },
+    ghost sound: { AreCutNodeRules rules.items region },
     ghost few: { length rules.items < 2 ^ 32 },
 }
 
@@ -42,7 +42,7 @@ impl Node {
     /// The least cut. There is one, because a region with more than one rule has a free bit.
     pub fn least_cut(&self) -> Cost
         requires { 1 < length self.now.rules.items }
-        ensures least { least_below 104 self.now.rules.items self.now.region ≡ Some result }
+        ensures least { least_cut_cost_below 104 self.now.rules.items self.now.region ≡ Some result }
         ensures free { IsCuttableBit self.now.region result.bit }
     {
         match least_cut(&self.rules, &self.region) {

@@ -1,7 +1,7 @@
 ghost use Rattle.std.specs.Prelude.{◌≡◌, ◌+◌, ◌<◌, ◌≤◌, ◌^◌, IfOk, IfErr, length};
-ghost use Rattle.cut_tree.specs.DefinedTree.{IsDefinedTree, IsTreeOf, cut_tree_at, tree_of};
+ghost use Rattle.cut_tree.specs.DefinedTree.{IsDefinedCutTree, IsCutTreeOf, cut_tree_at, cut_tree_of};
 ghost use Rattle.cut_tree.specs.Nodes.{AreCutRuleWords};
-ghost use Rattle.cut_tree.specs.Shape.{End, leaf_count, shape_of};
+ghost use Rattle.cut_tree.specs.Shape.{End, cut_leaf_count, cut_tree_shape_of};
 ghost use Rattle.base.specs.Refusals.{IfRefused};
 
 use crate::node::Node;
@@ -45,10 +45,10 @@ pub fn build(alloc: Global, rules: &[Rule], cap: u32) -> Result<Tree, Failure<To
     requires cap { 0 < cap }
     requires few_rules { length rules.now < 2 ^ 32 }
     requires words { AreCutRuleWords rules.now }
-    ensures tree { IfOk result (λ tree. shape_of tree ≡ tree_of rules.now cap) }
-    ensures defined { IfOk result (λ tree. IsDefinedTree rules.now cap (shape_of tree)) }
-    ensures few { IfOk result (λ tree. leaf_count (shape_of tree) ≤ 512) }
-    ensures refused { IfErr result (IfRefused (λ _. 512 < leaf_count (tree_of rules.now cap))) }
+    ensures tree { IfOk result (λ tree. cut_tree_shape_of tree ≡ cut_tree_of rules.now cap) }
+    ensures defined { IfOk result (λ tree. IsDefinedCutTree rules.now cap (cut_tree_shape_of tree)) }
+    ensures few { IfOk result (λ tree. cut_leaf_count (cut_tree_shape_of tree) ≤ 512) }
+    ensures refused { IfErr result (IfRefused (λ _. 512 < cut_leaf_count (cut_tree_of rules.now cap))) }
 {
     let root = Node {
         rules: Vec::from_slice(alloc, rules)?,
@@ -61,12 +61,12 @@ pub fn build(alloc: Global, rules: &[Rule], cap: u32) -> Result<Tree, Failure<To
 // The tree of the rules of a node. Each leaf takes 1 from `room`; refused if there is no room.
 fn grow(alloc: Global, node: Node, cap: u32, room: &mut u32) -> Result<Tree, Failure<TooManyLeaves>>
     requires cap { 0 < cap }
-    ensures tree { IfOk result (λ tree. shape_of tree ≡ cut_tree_at cap node.rules.items node.region) }
+    ensures tree { IfOk result (λ tree. cut_tree_shape_of tree ≡ cut_tree_at cap node.rules.items node.region) }
     ensures defined { IfOk result (λ tree.
-        IsTreeOf node.rules.items node.region cap (shape_of tree)) }
-    ensures room { IfOk result (λ tree. room.old ≡ room.new + leaf_count (shape_of tree)) }
+        IsCutTreeOf node.rules.items node.region cap (cut_tree_shape_of tree)) }
+    ensures room { IfOk result (λ tree. room.old ≡ room.new + cut_leaf_count (cut_tree_shape_of tree)) }
     ensures refused { IfErr result (IfRefused (λ _.
-        room.old < leaf_count (cut_tree_at cap node.rules.items node.region))) }
+        room.old < cut_leaf_count (cut_tree_at cap node.rules.items node.region))) }
 {
     if node.rules.len() <= cap as usize {
         return leaf(node, room);
@@ -86,7 +86,7 @@ fn grow(alloc: Global, node: Node, cap: u32, room: &mut u32) -> Result<Tree, Fai
 }
 
 fn leaf(node: Node, room: &mut u32) -> Result<Tree, Failure<TooManyLeaves>>
-    ensures tree { IfOk result (λ tree. shape_of tree ≡ End node.region node.rules.items) }
+    ensures tree { IfOk result (λ tree. cut_tree_shape_of tree ≡ End node.region node.rules.items) }
     ensures room { IfOk result (λ _. room.old ≡ room.new + 1) }
     ensures refused { IfErr result (IfRefused (λ _. room.old < 1)) }
 {

@@ -1,20 +1,20 @@
 -- What the output is after a text was written that allocates.
 use Rattle.base.proofs.Exports.{⊤}
 use Rattle.std.proofs.Common.{[], ◌≡◌, Bool, Err, IsErrOf, List, Ok, OnErr, Result, inl, inr, ℕ}
-use Rattle.shelf.specs.Exports.{SinkGainedPart, IsAfterWrite, SinkState}
+use Rattle.shelf.specs.Exports.{SinkGainedPart, IsSinkAfterWrite, SinkState}
 use Rattle.shelf.specs.declared.output.SinkError.{SinkError}
 use Rattle.shelf.specs.declared.output.SinkError.TheVariants as sink
-use Rattle.difane_cli.specs.Exports.{IsAfterCommandText, CommandOutputWrotePart}
+use Rattle.difane_cli.specs.Exports.{IsAfterProgramText, ProgramOutputWrotePart}
 
 some_on_err : {T E : Type 0} (r : Result T E) (before now : SinkState) (bytes : List ℕ)
-    → OnErr r (SinkGainedPart before.bytes bytes now.bytes) → OnErr r (CommandOutputWrotePart bytes before now)
+    → OnErr r (SinkGainedPart before.bytes bytes now.bytes) → OnErr r (ProgramOutputWrotePart bytes before now)
 some_on_err (Ok x) before now bytes part = tt
 some_on_err (Err e) before now bytes part = inr part
 
 -- a text that was made was written, or not
 pub text_written : (text : List ℕ) (in_memory takes_memory : Bool) (before now : SinkState)
-    (result : Result (⊤) SinkError) → IsAfterWrite text takes_memory before now result
-    → (text ≡ [] → now ≡ before) → IsAfterCommandText text in_memory takes_memory before now result
+    (result : Result (⊤) SinkError) → IsSinkAfterWrite text takes_memory before now result
+    → (text ≡ [] → now ≡ before) → IsAfterProgramText text in_memory takes_memory before now result
 text_written text in_memory takes_memory before now result after untouched = record {
   whole = after.whole;
   part = failed result after.part;

@@ -1,26 +1,26 @@
 -- What a replay that proposes a placement comes to.
 use Rattle.std.proofs.Common.{[], ◌≡◌, ◌⊎◌, Bool, Err, IsTrue, List, None, Ok, Option, Result, Some, ap, arith, inl, inr, refl, subst, ℕ}
 use Rattle.base.proofs.Exports.{⊤}
-use Rattle.controller.specs.Exports.{PlanValue}
+use Rattle.controller.specs.Exports.{ControllerPlanValue}
 use Rattle.update_machine.specs.Exports.{Item, Net, Row, Setting, journal_current_mark, journal_plan_at}
-use Rattle.partition.specs.Plan.{Hosted}
+use Rattle.partition.specs.Plan.{HostedPolicyPartition}
 use Rattle.rebalance.specs.Proposals.{RebalanceProposesFor}
 use Rattle.replay.specs.InForce.{IsReplayPlanInForce}
-use Rattle.shelf.specs.Exports.{Files, SinkGainedPart, IsAfterWrite, SinkState}
+use Rattle.shelf.specs.Exports.{ShelfFiles, SinkGainedPart, IsSinkAfterWrite, SinkState}
 use Rattle.shelf.specs.declared.output.SinkError.{SinkError}
 use Rattle.shelf.specs.declared.output.SinkError.TheVariants as sink
 use Rattle.command_line.specs.Exports.{ReplayArguments}
 use Rattle.command_line.specs.Commands as asked
-use Rattle.difane_cli.specs.Exports.{CommandStatusEndsWork, IsAfterCommandProposal, IsAfterCommandProposing, IsCommandAnswer, CommandProposalOutcome, CommandProposes, ProgramOutputWrote}
+use Rattle.difane_cli.specs.Exports.{ProgramStatusEndsWork, IsAfterProgramProposal, IsAfterProgramProposing, IsProgramAnswer, ProgramProposalOutcome, ProgramProposes, ProgramOutputWrote}
 use Rattle.command_inputs.specs.Exports.{Inputs, command_status_after}
 use Rattle.command_inputs.specs.declared.status.Status.TheVariants as status
 use Rattle.difane_cli.proofs.ProgramStatus.{after_work, by_failed, by_memory, of_failed}
 
 -- ---- what is written
 
-module _ (rows : List Row) (plan : List Hosted) (net : Net) (journal : List Item) where
+module _ (rows : List Row) (plan : List HostedPolicyPartition) (net : Net) (journal : List Item) where
   pub no_proposal : (takes_memory : Bool) (before : SinkState)
-      → IsAfterCommandProposal rows plan net journal takes_memory before before (Err sink.NoMemory)
+      → IsAfterProgramProposal rows plan net journal takes_memory before before (Err sink.NoMemory)
   no_proposal takes_memory before = record {
     whole = tt;
     part = λ is. absurd (cc is);
@@ -41,8 +41,8 @@ module _ (rows : List Row) (plan : List Hosted) (net : Net) (journal : List Item
 
   pub wrote_proposal : (text : List ℕ) (takes_memory : Bool) (before now : SinkState)
       (result : Result (⊤) SinkError) → RebalanceProposesFor rows plan net journal (λ whole. text ≡ whole)
-      → IsAfterWrite text takes_memory before now result → (text ≡ [] → now ≡ before)
-      → IsAfterCommandProposal rows plan net journal takes_memory before now result
+      → IsSinkAfterWrite text takes_memory before now result → (text ≡ [] → now ≡ before)
+      → IsAfterProgramProposal rows plan net journal takes_memory before now result
   wrote_proposal text takes_memory before now (Ok done) is after untouched = record {
     whole = proposes text (λ text. ProgramOutputWrote text before now) is
         (record { whole = after.whole; untouched = untouched });
@@ -72,7 +72,7 @@ module _ (rows : List Row) (plan : List Hosted) (net : Net) (journal : List Item
 
   pub out_of_proposing : (full : Option ℕ) (takes_memory : Bool) (before now : SinkState)
       (result : Result (⊤) SinkError)
-      → IsAfterCommandProposing full rows plan net journal takes_memory before now result
+      → IsAfterProgramProposing full rows plan net journal takes_memory before now result
       → command_status_after result full ≡ status.NoMemory → IsTrue takes_memory ⊎ (now ≡ before)
   out_of_proposing None takes_memory before now result after is =
       out_of_room (after.some (by_memory result None is))
@@ -80,8 +80,8 @@ module _ (rows : List Row) (plan : List Hosted) (net : Net) (journal : List Item
 
   pub proposing_ends : (full : Option ℕ) (takes_memory : Bool) (before now : SinkState)
       (result : Result (⊤) SinkError)
-      → IsAfterCommandProposing full rows plan net journal takes_memory before now result
-      → CommandStatusEndsWork (command_status_after result full) before now
+      → IsAfterProgramProposing full rows plan net journal takes_memory before now result
+      → ProgramStatusEndsWork (command_status_after result full) before now
   proposing_ends None takes_memory before now result after = record {
     worked = after_work result None;
     failed = λ is. after.failed (by_failed result None is);
@@ -98,22 +98,22 @@ module _ (rows : List Row) (plan : List Hosted) (net : Net) (journal : List Item
 
 -- ---- what comes of the play
 
-in_force : (setting : Setting) (journal : List Item) (plan : PlanValue)
+in_force : (setting : Setting) (journal : List Item) (plan : ControllerPlanValue)
     (IsWritten : List ℕ → Type 0) → IsReplayPlanInForce setting journal plan
     → RebalanceProposesFor plan.policy plan.hosted setting.net journal IsWritten
-    → CommandProposes setting journal IsWritten
+    → ProgramProposes setting journal IsWritten
 in_force setting journal plan IsWritten is proposes = subst (λ rows. RebalanceProposesFor rows
     (journal_plan_at setting journal (journal_current_mark journal)) setting.net journal IsWritten) is.policy
     (subst (λ hosted. RebalanceProposesFor plan.policy hosted setting.net journal IsWritten) is.hosted
     proposes)
 
-pub whole_told : (command : ReplayArguments) (files : Option Files) (inputs : Inputs)
-    (journal : List Item) (full : Option ℕ) (plan : PlanValue) (takes_memory : Bool)
+pub whole_told : (command : ReplayArguments) (files : Option ShelfFiles) (inputs : Inputs)
+    (journal : List Item) (full : Option ℕ) (plan : ControllerPlanValue) (takes_memory : Bool)
     (before now : SinkState) (written : Result (⊤) SinkError)
-    → IsCommandAnswer (asked.Replay command) files inputs journal full
-    → IsReplayPlanInForce inputs.setting journal plan → IsAfterCommandProposing full plan.policy plan.hosted
+    → IsProgramAnswer (asked.Replay command) files inputs journal full
+    → IsReplayPlanInForce inputs.setting journal plan → IsAfterProgramProposing full plan.policy plan.hosted
     inputs.setting.net journal takes_memory before now written
-    → CommandProposalOutcome (IsCommandAnswer (asked.Replay command) files) takes_memory
+    → ProgramProposalOutcome (IsProgramAnswer (asked.Replay command) files) takes_memory
     (command_status_after written full) journal before now
 whole_told command files inputs journal (Some row) plan takes_memory before now (Ok done) answer is
     after = record { inputs = inputs; played = answer; untouched = after.1 }
@@ -137,7 +137,7 @@ whole_told command files inputs journal None plan takes_memory before now (Err s
   where
     by_some : (now ≡ before) ⊎ (IsTrue takes_memory × RebalanceProposesFor plan.policy plan.hosted
         inputs.setting.net journal (λ text. SinkGainedPart before.bytes text now.bytes))
-        → CommandProposalOutcome (IsCommandAnswer (asked.Replay command) files) takes_memory status.NoMemory
+        → ProgramProposalOutcome (IsProgramAnswer (asked.Replay command) files) takes_memory status.NoMemory
         journal before now
     by_some (inl same) = inr (inl (record { inputs = inputs; played = answer; untouched = same }))
     by_some (inr (takes, part)) = inr (inr (

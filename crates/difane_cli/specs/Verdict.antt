@@ -12,9 +12,9 @@ program_asks_quiet (report.Lines quiet) = quiet
 program_asks_quiet _ = false
 
 -- the verdict is given with `--quiet`, at the end of a play that didn't stop full
-abbrev pub is_command_verdict_asked : Bool → Option ℕ → Bool
-is_command_verdict_asked quiet None = quiet
-is_command_verdict_asked quiet (Some row) = false
+abbrev pub is_program_verdict_asked : Bool → Option ℕ → Bool
+is_program_verdict_asked quiet None = quiet
+is_program_verdict_asked quiet (Some row) = false
 
 -- a verdict, if there is one, is whether the network is quiet
 abbrev pub IsProgramVerdictOnQuiet : Setting → List Item → Option Bool → Type 0
@@ -22,13 +22,13 @@ IsProgramVerdictOnQuiet setting journal None = ⊤
 IsProgramVerdictOnQuiet setting journal (Some answer) = IsTrue answer ↔ IsQuietMachineJournal setting journal
 
 -- what a verdict says of the network
-abbrev pub CommandQuietVerdictSays : Setting → List Item → Option Bool → Type 0
-CommandQuietVerdictSays setting journal None = ⊤
-CommandQuietVerdictSays setting journal (Some true) = HasNetworkComeToRest setting journal
-CommandQuietVerdictSays setting journal (Some false) = ¬ IsQuietMachineJournal setting journal
+abbrev pub ProgramQuietVerdictSays : Setting → List Item → Option Bool → Type 0
+ProgramQuietVerdictSays setting journal None = ⊤
+ProgramQuietVerdictSays setting journal (Some true) = HasNetworkComeToRest setting journal
+ProgramQuietVerdictSays setting journal (Some false) = ¬ IsQuietMachineJournal setting journal
 
 -- there is a verdict exactly if `--quiet` asks for it and the play didn't stop full, and it is true
-pub record IsCommandQuietVerdict (quiet : Bool) (setting : Setting) (journal : List Item) (full : Option ℕ)
+pub record IsProgramQuietVerdict (quiet : Bool) (setting : Setting) (journal : List Item) (full : Option ℕ)
     (answer : Option Bool) : Type 0 where
-  pub asked : is_some answer ≡ is_command_verdict_asked quiet full
-  pub holds : CommandQuietVerdictSays setting journal answer
+  pub asked : is_some answer ≡ is_program_verdict_asked quiet full
+  pub holds : ProgramQuietVerdictSays setting journal answer

@@ -9,10 +9,10 @@ pub record ProgramOutputWrote (text : List ℕ) (before now : SinkState) : Type 
   pub untouched : text ≡ [] → now ≡ before
 
 -- the output wasn't touched, or gained a part of the text, and not all
-abbrev pub CommandOutputWrotePart : List ℕ → (before now : SinkState) → Type 0
-CommandOutputWrotePart text before now = (now ≡ before) ⊎ SinkGainedPart before.bytes text now.bytes
+abbrev pub ProgramOutputWrotePart : List ℕ → (before now : SinkState) → Type 0
+ProgramOutputWrotePart text before now = (now ≡ before) ⊎ SinkGainedPart before.bytes text now.bytes
 
 -- nothing was played, and the output's state is the same
-pub record CommandUnplayed (journal : List Item) (before now : SinkState) : Type 0 where
+pub record ProgramUnplayed (journal : List Item) (before now : SinkState) : Type 0 where
   pub nothing_played : journal ≡ []
   pub untouched : now ≡ before

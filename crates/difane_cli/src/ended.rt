@@ -1,8 +1,9 @@
-//! How a call of the program ended, and what it gives back.
+//! How a call of the program ended, and what it gives back; and the writing of an output that is
+//! one text.
 ghost use Rattle.std.specs.Prelude.{◌≡◌};
-ghost use Rattle.command_inputs.specs.Exports.{OutputWritesLine, command_status_line};
+ghost use Rattle.command_inputs.specs.Exports.{CommandOutputWritesLine, command_status_line};
 ghost use Rattle.command_inputs.specs.declared.status.Status.TheVariants.{Ok as DoneStatus};
-ghost use Rattle.difane_cli.specs.Ending.{IsAfterProgramOutput};
+ghost use Rattle.difane_cli.specs.Prints.{IsAfterProgramOutput};
 
 use command_inputs::{Status, write_status};
 use journal::Journal;
@@ -31,7 +32,7 @@ pub fn end<M: Meter, E: Sink>(
     ensures status { result.status ≡ status }
     ensures journal { result.journal ≡ journal }
     ensures meters { result.meters ≡ meters }
-    ensures line { OutputWritesLine (command_status_line status) E.takes_memory
+    ensures line { CommandOutputWritesLine (command_status_line status) E.takes_memory
         (E.state errs.old) (E.state errs.new) }
     ensures silent { status ≡ DoneStatus → errs.new ≡ errs.old }
 {

@@ -1,7 +1,7 @@
 //! The lines of meters.
 ghost use Rattle.std.specs.Prelude.{◌≡◌, [], map};
-ghost use Rattle.shelf.specs.SinkWrites.{IsAfterWrite};
-ghost use Rattle.difane_cli.specs.Texts.{command_meter_line, meter_lines, command_notes_line};
+ghost use Rattle.shelf.specs.SinkWrites.{IsSinkAfterWrite};
+ghost use Rattle.difane_cli.specs.Texts.{program_meter_line, program_meter_lines, program_notes_line};
 
 use itoa::Buffer;
 use meters::Meter;
@@ -9,9 +9,9 @@ use shelf::{Sink, SinkError, write_pieces};
 
 /// Writes a line for each meter that has a note, in order. Allocates nothing itself.
 pub fn write_program_meters<M: Meter, K: Sink>(meters: &[M], out: &mut K) -> Result<(), SinkError>
-    ensures after { IsAfterWrite (meter_lines (map M.seen meters.now)) K.takes_memory
+    ensures after { IsSinkAfterWrite (program_meter_lines (map M.seen meters.now)) K.takes_memory
         (K.state out.old) (K.state out.new) result }
-    ensures no_lines { meter_lines (map M.seen meters.now) ≡ [] → out.new ≡ out.old }
+    ensures no_lines { program_meter_lines (map M.seen meters.now) ≡ [] → out.new ≡ out.old }
 {
     for meter in meters {
         write_program_meter_line(meter, out)?;
@@ -21,9 +21,9 @@ pub fn write_program_meters<M: Meter, K: Sink>(meters: &[M], out: &mut K) -> Res
 
 /// Writes the line of a meter, if it has a note.
 fn write_program_meter_line<M: Meter, K: Sink>(meter: &M, out: &mut K) -> Result<(), SinkError>
-    ensures after { IsAfterWrite (command_meter_line (M.seen meter.now)) K.takes_memory
+    ensures after { IsSinkAfterWrite (program_meter_line (M.seen meter.now)) K.takes_memory
         (K.state out.old) (K.state out.new) result }
-    ensures no_line { command_meter_line (M.seen meter.now) ≡ [] → out.new ≡ out.old }
+    ensures no_line { program_meter_line (M.seen meter.now) ≡ [] → out.new ≡ out.old }
 {
     let notes = meter.notes();
     match notes > 0 {
@@ -33,7 +33,7 @@ fn write_program_meter_line<M: Meter, K: Sink>(meter: &M, out: &mut K) -> Result
 }
 
 fn write_program_meter_notes<K: Sink>(port: u32, notes: u64, out: &mut K) -> Result<(), SinkError>
-    ensures { IsAfterWrite (command_notes_line port notes) K.takes_memory
+    ensures { IsSinkAfterWrite (program_notes_line port notes) K.takes_memory
         (K.state out.old) (K.state out.new) result }
 {
     let mut port_digits = Buffer::new();

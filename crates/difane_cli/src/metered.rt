@@ -2,15 +2,15 @@
 ghost use Rattle.std.specs.Prelude.{◌≡◌, ◌≢◌, ◌⊎◌, ◌↔◌, ℕ, IfOk, IsTrue, None, Ok, OnErr};
 ghost use Rattle.std.specs.List.{AllZip, range_with_len};
 ghost use Rattle.std.specs.Option.{ForSome};
-ghost use Rattle.shelf.specs.Sink.{FaultsRose};
+ghost use Rattle.shelf.specs.Sink.{SinkFaultsRose};
 ghost use Rattle.shelf.specs.Shelf.{IsShelfAfterReads};
-ghost use Rattle.command_line.specs.Grammar.{command_of};
+ghost use Rattle.command_line.specs.Grammar.{command_of_arguments};
 ghost use Rattle.command_line.specs.Commands.{argument_texts};
-ghost use Rattle.command_inputs.specs.Exports.{CommandStatusAccounts, IsCommandInputTaskAccepted, CommandMayFollowFault, CommandStatusNamesOneOf, NeedsReadFault, CommandReadsNothing, OutputWritesLine, known_command_input_task, command_most_reads, names_in, command_status_line};
+ghost use Rattle.command_inputs.specs.Exports.{CommandStatusAccounts, IsCommandInputTaskAccepted, CommandMayFollowFault, CommandStatusNamesOneOf, CommandNeedsReadFault, CommandInputReadsNothing, CommandOutputWritesLine, known_command_input_task, command_input_most_reads, command_input_names, command_status_line};
 ghost use Rattle.difane_cli.specs.Exports.{ProgramMemoryRanOut};
 ghost use Rattle.command_inputs.specs.declared.status.Status.TheVariants as status;
-ghost use Rattle.difane_cli.specs.Metered.{MeteredCommandOutcome, CommandTellsFlows};
-ghost use Rattle.difane_cli.specs.NewMeters.{program_call_asks_flows, new_command_meter};
+ghost use Rattle.difane_cli.specs.Metered.{MeteredProgramOutcome, ProgramTellsFlows};
+ghost use Rattle.difane_cli.specs.NewMeters.{program_call_asks_flows, new_program_meter};
 
 use crate::top_call::run;
 use command_inputs::Status;
@@ -72,47 +72,47 @@ pub fn run_metered<F: Shelf, K: Sink, E: Sink>(
     // counts of each meter that stayed are right (if no meter left, all are: `flow_laws`).
     ensures flows { IfOk result (λ ending. IsTrue (program_call_asks_flows (argument_texts words.now))
         → ending.status ≡ status.Ok
-        → CommandTellsFlows (argument_texts words.now) (F.state shelf.old).files ending.journal
+        → ProgramTellsFlows (argument_texts words.now) (F.state shelf.old).files ending.journal
         (K.state out.old) (K.state out.new)) }
 
     // Everything else is as `run` says for these meters.
     ensures outcome { IfOk result (λ ending.
-        MeteredCommandOutcome (argument_texts words.now) (F.state shelf.old).files K.takes_memory
+        MeteredProgramOutcome (argument_texts words.now) (F.state shelf.old).files K.takes_memory
         ending.status ending.journal (K.state out.old) (K.state out.new)) }
     ensures words { IfOk result (λ ending. (ending.status ≡ status.Words)
-        ↔ (command_of (argument_texts words.now) ≡ None)) }
+        ↔ (command_of_arguments (argument_texts words.now) ≡ None)) }
     ensures accounts { IfOk result (λ ending. ForSome
-        (known_command_input_task (F.state shelf.old).files (command_of (argument_texts words.now)))
+        (known_command_input_task (F.state shelf.old).files (command_of_arguments (argument_texts words.now)))
         (λ read. CommandStatusAccounts read ending.status)) }
     ensures names { IfOk result (λ ending.
-        CommandStatusNamesOneOf (names_in (command_of (argument_texts words.now))) ending.status) }
+        CommandStatusNamesOneOf (command_input_names (command_of_arguments (argument_texts words.now))) ending.status) }
     ensures read_fault { IfOk result (λ ending.
-        NeedsReadFault (F.state shelf.old).files ending.status
-        → FaultsRose (F.state shelf.old).faults (F.state shelf.new).faults) }
+        CommandNeedsReadFault (F.state shelf.old).files ending.status
+        → SinkFaultsRose (F.state shelf.old).faults (F.state shelf.new).faults) }
     ensures write_fault { IfOk result (λ ending. ending.status ≡ status.WriteFault
-        → FaultsRose (K.state out.old).faults (K.state out.new).faults) }
+        → SinkFaultsRose (K.state out.old).faults (K.state out.new).faults) }
     ensures no_read_fault { IfOk result (λ ending.
         ¬ CommandMayFollowFault (F.state shelf.old).files ending.status
         → (F.state shelf.new).faults ≡ (F.state shelf.old).faults) }
     ensures no_write_fault { IfOk result (λ ending. ending.status ≢ status.WriteFault
         → (K.state out.new).faults ≡ (K.state out.old).faults) }
     ensures no_memory { IfOk result (λ ending. ending.status ≡ status.NoMemory
-        → ProgramMemoryRanOut (command_of (argument_texts words.now)) K.takes_memory ending.journal
+        → ProgramMemoryRanOut (command_of_arguments (argument_texts words.now)) K.takes_memory ending.journal
         (K.state out.old) (K.state out.new)) }
     ensures complete { IfOk result (λ ending. IsCommandInputTaskAccepted
-        (known_command_input_task (F.state shelf.old).files (command_of (argument_texts words.now)))
-        → FaultsRose (F.state shelf.old).faults (F.state shelf.new).faults
-        ⊎ FaultsRose (K.state out.old).faults (K.state out.new).faults
+        (known_command_input_task (F.state shelf.old).files (command_of_arguments (argument_texts words.now)))
+        → SinkFaultsRose (F.state shelf.old).faults (F.state shelf.new).faults
+        ⊎ SinkFaultsRose (K.state out.old).faults (K.state out.new).faults
         ⊎ (ending.status ≡ status.Ok) ⊎ ((row : ℕ) × (ending.status ≡ status.Full row))
         ⊎ ((line : ℕ) × (ending.status ≡ status.No line))
         ⊎ (ending.status ≡ status.NoMemory)) }
-    ensures line { IfOk result (λ ending. OutputWritesLine (command_status_line ending.status) E.takes_memory
+    ensures line { IfOk result (λ ending. CommandOutputWritesLine (command_status_line ending.status) E.takes_memory
         (E.state errs.old) (E.state errs.new)) }
     ensures silent { IfOk result (λ ending. ending.status ≡ status.Ok → errs.new ≡ errs.old) }
     ensures shelf { IfOk result (λ ending. IsShelfAfterReads
-        (command_most_reads (F.state shelf.old).files (command_of (argument_texts words.now)))
+        (command_input_most_reads (F.state shelf.old).files (command_of_arguments (argument_texts words.now)))
         (F.state shelf.old) (F.state shelf.new)) }
-    ensures unread { IfOk result (λ ending. CommandReadsNothing (command_of (argument_texts words.now))
+    ensures unread { IfOk result (λ ending. CommandInputReadsNothing (command_of_arguments (argument_texts words.now))
         → F.state shelf.new ≡ F.state shelf.old) }
     ensures untouched { OnErr result
         ((shelf.new ≡ shelf.old) × (out.new ≡ out.old) × (errs.new ≡ errs.old)) }
@@ -121,7 +121,7 @@ pub fn run_metered<F: Shelf, K: Sink, E: Sink>(
     let meters: Vec<Box<dyn Meter>> = program_meters_by_port(
         alloc,
         |port: u32| -> Result<Box<dyn Meter>, AllocError>
-            ensures { IfOk result (λ one. seen one ≡ new_command_meter counts_flows port) }
+            ensures { IfOk result (λ one. seen one ≡ new_program_meter counts_flows port) }
         {
             if counts_flows {
                 Ok(Box::new(alloc, FlowMeter::new(alloc, port, MAX_HEADERS))?)

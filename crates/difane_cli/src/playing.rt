@@ -2,9 +2,9 @@
 ghost use Rattle.std.specs.Prelude.{◌≡◌, ◌≢◌, [], Ok, Option, Some, map};
 ghost use Rattle.std.specs.Option.{ForSome};
 ghost use Rattle.net_file.specs.Net.{IsNet};
-ghost use Rattle.shelf.specs.Shelf.{Files};
-ghost use Rattle.shelf.specs.SinkWrites.{IsAfterWrite};
-ghost use Rattle.difane_cli.specs.Exports.{ProgramAnswerLaws, CommandStatusEndsWork, IsAfterCommandText, CommandPlayOutcome, ProgramMemoryRanOut, command_flow_text_unless_full, is_command_output_made, command_last_lines, program_play_text, program_replay_text};
+ghost use Rattle.shelf.specs.Shelf.{ShelfFiles};
+ghost use Rattle.shelf.specs.SinkWrites.{IsSinkAfterWrite};
+ghost use Rattle.difane_cli.specs.Exports.{ProgramAnswerLaws, ProgramStatusEndsWork, IsAfterProgramText, ProgramPlayOutcome, ProgramMemoryRanOut, program_flow_text_unless_full, is_program_output_made, program_last_lines, program_play_text, program_replay_text};
 ghost use Rattle.command_inputs.specs.Exports.{AreCommandInputsReady, AreCommandPlayInputs, Play, task_inputs_stated, known_command_input_task};
 ghost use Rattle.command_line.specs.Commands.{Command};
 ghost use Rattle.command_line.specs.declared.report.Report.TheVariants.{Flows, Placement, Summary};
@@ -14,7 +14,7 @@ ghost use Rattle.command_inputs.specs.declared.status.Status.TheVariants as stat
 use crate::ended::Ended;
 use crate::flow_lines::program_flow_text;
 use crate::meter_lines::write_program_meters;
-use crate::verdict::{judge_program_quiet, program_asks_quiet, write_program_quiet_verdict};
+use crate::verdict::{judge_quiet_network, program_asks_quiet, write_network_verdict};
 use command_inputs::{PlayInputs, Status};
 use command_line::Report;
 use flow_export::flow_laws;
@@ -42,18 +42,18 @@ pub fn play<M: Meter, K: Sink>(
 ) -> Ended<M>
     requires ready { AreCommandInputsReady inputs }
     requires tells { inputs.report ≢ Placement }
-    ensures outcome { (command : Command) (files : Option Files)
+    ensures outcome { (command : Command) (files : Option ShelfFiles)
         → AreCommandPlayInputs command (task_inputs_stated inputs)
         → ForSome (known_command_input_task files (Some command))
         (λ read. read ≡ Ok (Play (task_inputs_stated inputs)))
-        → CommandPlayOutcome command files K.takes_memory result.status result.journal
+        → ProgramPlayOutcome command files K.takes_memory result.status result.journal
         (map M.seen meters.items) (map M.seen result.meters.items)
         (K.state out.old) (K.state out.new) }
     ensures no_memory { (command : Command) → AreCommandPlayInputs command (task_inputs_stated inputs)
         → result.status ≡ status.NoMemory
         → ProgramMemoryRanOut (Some command) K.takes_memory result.journal
         (K.state out.old) (K.state out.new) }
-    ensures ended { CommandStatusEndsWork result.status (K.state out.old) (K.state out.new) }
+    ensures ended { ProgramStatusEndsWork result.status (K.state out.old) (K.state out.new) }
 {
     let PlayInputs {
         events,
@@ -69,7 +69,7 @@ pub fn play<M: Meter, K: Sink>(
             meters: Vec::new(alloc),
         };
     };
-    let Ok(answer) = judge_program_quiet(alloc, program_asks_quiet(report), &played, &net) else {
+    let Ok(answer) = judge_quiet_network(alloc, program_asks_quiet(report), &played, &net) else {
         return Ended {
             status: Status::NoMemory,
             journal: played.journal,
@@ -77,7 +77,7 @@ pub fn play<M: Meter, K: Sink>(
         };
     };
     let status = match write_report(alloc, report, &played, answer, &net, out) {
-        Ok(()) => Status::after(played.full),
+        Ok(()) => Status::written(played.full),
         Err(error) => Status::from(error),
     };
     Ended {
@@ -109,9 +109,9 @@ fn write_report<M: Meter, K: Sink>(
 ) -> Result<(), SinkError>
     requires net { IsNet net.now }
     requires tells { report ≢ Placement }
-    ensures { IsAfterCommandText (program_play_text report net.now played.now.journal played.now.full
+    ensures { IsAfterProgramText (program_play_text report net.now played.now.journal played.now.full
         played.now.gone (map M.seen played.now.meters.items) answer)
-        (is_command_output_made report played.now.full) K.takes_memory
+        (is_program_output_made report played.now.full) K.takes_memory
         (K.state out.old) (K.state out.new) result }
 {
     match report {
@@ -128,8 +128,8 @@ fn write_program_flows<M: Meter, K: Sink>(
     played: &Played<M>,
     out: &mut K,
 ) -> Result<(), SinkError>
-    ensures { IsAfterCommandText (command_flow_text_unless_full played.now.full played.now.gone
-        (map M.seen played.now.meters.items)) (is_command_output_made Flows played.now.full) K.takes_memory
+    ensures { IsAfterProgramText (program_flow_text_unless_full played.now.full played.now.gone
+        (map M.seen played.now.meters.items)) (is_program_output_made Flows played.now.full) K.takes_memory
         (K.state out.old) (K.state out.new) result }
 {
     match played.full {
@@ -147,8 +147,8 @@ fn write_program_summary<M: Meter, K: Sink>(
     played: &Played<M>,
     out: &mut K,
 ) -> Result<(), SinkError>
-    ensures { IsAfterCommandText (summary_counts_text played.now.journal played.now.full)
-        (is_command_output_made Summary played.now.full) K.takes_memory
+    ensures { IsAfterProgramText (summary_counts_text played.now.journal played.now.full)
+        (is_program_output_made Summary played.now.full) K.takes_memory
         (K.state out.old) (K.state out.new) result }
 {
     match played.full {
@@ -169,7 +169,7 @@ fn write_played<M: Meter, K: Sink>(
     out: &mut K,
 ) -> Result<(), SinkError>
     requires { IsNet net.now }
-    ensures after { IsAfterWrite (program_replay_text net.now played.now.journal played.now.full
+    ensures after { IsSinkAfterWrite (program_replay_text net.now played.now.journal played.now.full
         (map M.seen played.now.meters.items) answer) K.takes_memory
         (K.state out.old) (K.state out.new) result }
     ensures no_lines { program_replay_text net.now played.now.journal played.now.full
@@ -188,10 +188,10 @@ fn write_program_last_lines<M: Meter, K: Sink>(
     answer: Option<bool>,
     out: &mut K,
 ) -> Result<(), SinkError>
-    ensures after { IsAfterWrite (command_last_lines (map M.seen meters.now) answer) K.takes_memory
+    ensures after { IsSinkAfterWrite (program_last_lines (map M.seen meters.now) answer) K.takes_memory
         (K.state out.old) (K.state out.new) result }
-    ensures no_lines { command_last_lines (map M.seen meters.now) answer ≡ [] → out.new ≡ out.old }
+    ensures no_lines { program_last_lines (map M.seen meters.now) answer ≡ [] → out.new ≡ out.old }
 {
     write_program_meters(meters, out)?;
-    write_program_quiet_verdict(answer, out)
+    write_network_verdict(answer, out)
 }

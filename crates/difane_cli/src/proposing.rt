@@ -3,11 +3,11 @@ ghost use Rattle.std.specs.Prelude.{◌≡◌, ◌⊎◌, IsTrue, Ok, Option, So
 ghost use Rattle.std.specs.Option.{ForSome};
 ghost use Rattle.net_file.specs.Net.{IsNet};
 ghost use Rattle.partition.specs.Plan.{IsPartitionPlan};
-ghost use Rattle.shelf.specs.Shelf.{Files};
+ghost use Rattle.shelf.specs.Shelf.{ShelfFiles};
 ghost use Rattle.command_line.specs.Commands as grammar;
 ghost use Rattle.command_line.specs.Commands.{ReplayArguments};
 ghost use Rattle.command_inputs.specs.Exports.{AreCommandInputsReady, AreCommandPlayInputs, Play, task_inputs_stated, known_command_input_task};
-ghost use Rattle.difane_cli.specs.Exports.{CommandStatusEndsWork, IsAfterCommandProposing, IsCommandAnswer, CommandProposalOutcome};
+ghost use Rattle.difane_cli.specs.Exports.{ProgramStatusEndsWork, IsAfterProgramProposing, IsProgramAnswer, ProgramProposalOutcome};
 ghost use Rattle.command_inputs.specs.declared.status.Status.TheVariants as status;
 
 use crate::ended::Ended;
@@ -31,16 +31,16 @@ pub fn run_program_proposal<M: Meter, K: Sink>(
     out: &mut K,
 ) -> Ended<M>
     requires { AreCommandInputsReady inputs }
-    ensures outcome { (command : ReplayArguments) (files : Option Files)
+    ensures outcome { (command : ReplayArguments) (files : Option ShelfFiles)
         → AreCommandPlayInputs (grammar.Replay command) (task_inputs_stated inputs)
         → ForSome (known_command_input_task files (Some (grammar.Replay command)))
         (λ read. read ≡ Ok (Play (task_inputs_stated inputs)))
-        → CommandProposalOutcome (IsCommandAnswer (grammar.Replay command) files) K.takes_memory result.status
+        → ProgramProposalOutcome (IsProgramAnswer (grammar.Replay command) files) K.takes_memory result.status
         result.journal (K.state out.old) (K.state out.new) }
     ensures meters { result.meters ≡ meters }
     ensures no_memory { result.status ≡ status.NoMemory
         → IsTrue K.takes_memory ⊎ (K.state out.new ≡ K.state out.old) }
-    ensures ended { CommandStatusEndsWork result.status (K.state out.old) (K.state out.new) }
+    ensures ended { ProgramStatusEndsWork result.status (K.state out.old) (K.state out.new) }
 {
     program_answer_laws();
     let none: Vec<M> = Vec::new(alloc);
@@ -59,7 +59,7 @@ pub fn run_program_proposal<M: Meter, K: Sink>(
                 &inputs.net,
                 out,
             ) {
-                Ok(()) => Status::after(played.full),
+                Ok(()) => Status::written(played.full),
                 Err(error) => Status::from(error),
             };
             Ended {
@@ -83,7 +83,7 @@ fn write_program_proposal<K: Sink>(
 ) -> Result<(), SinkError>
     requires net { IsNet net.now }
     requires plan { IsPartitionPlan plan.now.policy net.now plan.now.hosted }
-    ensures { IsAfterCommandProposing full plan.now.policy plan.now.hosted net.now journal.now
+    ensures { IsAfterProgramProposing full plan.now.policy plan.now.hosted net.now journal.now
         K.takes_memory (K.state out.old) (K.state out.new) result }
 {
     match full {

@@ -1,12 +1,12 @@
 //! The top call of the program.
 ghost use Rattle.std.specs.Prelude.{◌≡◌, ◌≢◌, ◌≤◌, ◌⊎◌, ◌↔◌, ℕ, None, map};
 ghost use Rattle.std.specs.Option.{ForSome};
-ghost use Rattle.shelf.specs.Sink.{FaultsRose};
+ghost use Rattle.shelf.specs.Sink.{SinkFaultsRose};
 ghost use Rattle.shelf.specs.Shelf.{IsShelfAfterReads};
-ghost use Rattle.command_inputs.specs.Exports.{CommandReadsNothing, IsCommandInputTaskAccepted, CommandMayFollowFault, CommandStatusNamesOneOf, NeedsReadFault, OutputWritesLine, CommandStatusAccounts, known_command_input_task, command_most_reads, names_in, command_status_line};
+ghost use Rattle.command_inputs.specs.Exports.{CommandInputReadsNothing, IsCommandInputTaskAccepted, CommandMayFollowFault, CommandStatusNamesOneOf, CommandNeedsReadFault, CommandOutputWritesLine, CommandStatusAccounts, known_command_input_task, command_input_most_reads, command_input_names, command_status_line};
 ghost use Rattle.command_inputs.specs.declared.status.Status.TheVariants as status;
-ghost use Rattle.difane_cli.specs.Exports.{CommandGivesBackMeters, ProgramMemoryRanOut, Outcome};
-ghost use Rattle.command_line.specs.Grammar.{command_of};
+ghost use Rattle.difane_cli.specs.Exports.{ProgramGivesBackMeters, ProgramMemoryRanOut, ProgramOutcome};
+ghost use Rattle.command_line.specs.Grammar.{command_of_arguments};
 ghost use Rattle.command_line.specs.Commands.{argument_texts};
 
 use crate::ended::{Finished, end};
@@ -49,28 +49,28 @@ pub fn run<F: Shelf, K: Sink, E: Sink>(
     // For each status: what was played, which is what the known files state; which meters stayed;
     // and what the output gained. And that the journal answers what was played, and is a run of the
     // abstract machine whose ends and items have their causes.
-    ensures outcome { Outcome (command_of (argument_texts words.now)) (F.state shelf.old).files
+    ensures outcome { ProgramOutcome (command_of_arguments (argument_texts words.now)) (F.state shelf.old).files
         K.takes_memory result.status result.journal
         (map ⟦<Box<dyn Meter> as Meter>⟧.seen meters.items)
         (map ⟦<Box<dyn Meter> as Meter>⟧.seen result.meters.items)
         (K.state out.old) (K.state out.new) }
 
     // A command that plays nothing, or proposes a placement, gives the meters back unchanged.
-    ensures meters { CommandGivesBackMeters (command_of (argument_texts words.now)) → result.meters ≡ meters }
+    ensures meters { ProgramGivesBackMeters (command_of_arguments (argument_texts words.now)) → result.meters ≡ meters }
 
     // Each status has its cause.
     ensures words { (result.status ≡ status.Words)
-        ↔ (command_of (argument_texts words.now) ≡ None) }
+        ↔ (command_of_arguments (argument_texts words.now) ≡ None) }
     ensures accounts { ForSome
-        (known_command_input_task (F.state shelf.old).files (command_of (argument_texts words.now)))
+        (known_command_input_task (F.state shelf.old).files (command_of_arguments (argument_texts words.now)))
         (λ read. CommandStatusAccounts read result.status) }
-    ensures read_fault { NeedsReadFault (F.state shelf.old).files result.status
-        → FaultsRose (F.state shelf.old).faults (F.state shelf.new).faults }
+    ensures read_fault { CommandNeedsReadFault (F.state shelf.old).files result.status
+        → SinkFaultsRose (F.state shelf.old).faults (F.state shelf.new).faults }
     ensures write_fault { result.status ≡ status.WriteFault
-        → FaultsRose (K.state out.old).faults (K.state out.new).faults }
+        → SinkFaultsRose (K.state out.old).faults (K.state out.new).faults }
 
     // Whether or not files are known, a refusal names what the arguments name.
-    ensures names { CommandStatusNamesOneOf (names_in (command_of (argument_texts words.now))) result.status }
+    ensures names { CommandStatusNamesOneOf (command_input_names (command_of_arguments (argument_texts words.now))) result.status }
 
     // A fault of reading is counted only with status 4 or, if the files aren't known, with 7, or
     // with 3 by the codes 0 and 20: no read that failed is repeated with success.
@@ -82,31 +82,31 @@ pub fn run<F: Shelf, K: Sink, E: Sink>(
     // If memory runs out, nothing was written, unless the output's own writes allocate. And the
     // journal is empty, unless the command prints more than the lines of a play.
     ensures no_memory { result.status ≡ status.NoMemory
-        → ProgramMemoryRanOut (command_of (argument_texts words.now)) K.takes_memory result.journal
+        → ProgramMemoryRanOut (command_of_arguments (argument_texts words.now)) K.takes_memory result.journal
         (K.state out.old) (K.state out.new) }
 
     // If the inputs are accepted and nothing fails, the work is done, to its end or as far as
     // there was room, or memory ran out.
     ensures complete { IsCommandInputTaskAccepted
-        (known_command_input_task (F.state shelf.old).files (command_of (argument_texts words.now)))
-        → FaultsRose (F.state shelf.old).faults (F.state shelf.new).faults
-        ⊎ FaultsRose (K.state out.old).faults (K.state out.new).faults
+        (known_command_input_task (F.state shelf.old).files (command_of_arguments (argument_texts words.now)))
+        → SinkFaultsRose (F.state shelf.old).faults (F.state shelf.new).faults
+        ⊎ SinkFaultsRose (K.state out.old).faults (K.state out.new).faults
         ⊎ (result.status ≡ status.Ok) ⊎ ((row : ℕ) × (result.status ≡ status.Full row))
         ⊎ ((line : ℕ) × (result.status ≡ status.No line))
         ⊎ (result.status ≡ status.NoMemory) }
 
     // The line of the status is written, whole unless the sink of errors fails or its writes
     // allocate; for work that was done nothing is.
-    ensures line { OutputWritesLine (command_status_line result.status) E.takes_memory
+    ensures line { CommandOutputWritesLine (command_status_line result.status) E.takes_memory
         (E.state errs.old) (E.state errs.new) }
     ensures silent { result.status ≡ status.Ok → errs.new ≡ errs.old }
 
     // Files are read in order, none after the first that is refused, and stay unchanged.
     ensures shelf { IsShelfAfterReads
-        (command_most_reads (F.state shelf.old).files (command_of (argument_texts words.now)))
+        (command_input_most_reads (F.state shelf.old).files (command_of_arguments (argument_texts words.now)))
         (F.state shelf.old) (F.state shelf.new) }
     // If no file is read, as for a load case, the shelf is unchanged, whatever the status.
-    ensures unread { CommandReadsNothing (command_of (argument_texts words.now))
+    ensures unread { CommandInputReadsNothing (command_of_arguments (argument_texts words.now))
         → F.state shelf.new ≡ F.state shelf.old }
     ensures faults { (K.state out.old).faults ≤ (K.state out.new).faults }
 {

@@ -1,12 +1,12 @@
 //! The work of a command, once its files are read.
 ghost use Rattle.std.specs.Prelude.{◌≡◌, Ok, Option, Some, Result, [], map};
 ghost use Rattle.std.specs.Option.{ForSome};
-ghost use Rattle.shelf.specs.Shelf.{Files};
-ghost use Rattle.command_inputs.specs.Exports.{IsTaskInputReady, IsCommandInputTask, CommandStatusAccounts, Task as Stated, known_command_input_task, command_input_task_stated};
+ghost use Rattle.shelf.specs.Shelf.{ShelfFiles};
+ghost use Rattle.command_inputs.specs.Exports.{IsTaskInputReady, IsCommandInputTask, CommandStatusAccounts, CommandInputTask as Stated, known_command_input_task, command_input_task_stated};
 ghost use Rattle.command_inputs.specs.declared.status.Refusal.{Refusal};
 ghost use Rattle.command_inputs.specs.declared.status.Status.TheVariants as status;
-ghost use Rattle.difane_cli.specs.Exports.{CommandGivesBackMeters, ProgramMemoryRanOut, Outcome, CommandStatusEndsWork};
-ghost use Rattle.command_line.specs.Named.{command_named};
+ghost use Rattle.difane_cli.specs.Exports.{ProgramGivesBackMeters, ProgramMemoryRanOut, ProgramOutcome, ProgramStatusEndsWork};
+ghost use Rattle.command_line.specs.Named.{argument_command_seen};
 ghost use Rattle.command_line.specs.Commands as grammar;
 
 use crate::auditing::program_check_trace;
@@ -24,21 +24,21 @@ use std::alloc::Global;
 /// Does the task and writes its result. The outcome is stated for whatever is known of the files.
 pub fn work<M: Meter, K: Sink>(alloc: Global, task: Task, meters: Vec<M>, out: &mut K) -> Ended<M>
     requires { IsTaskInputReady task }
-    ensures outcome { (command : grammar.Command) (files : Option Files)
+    ensures outcome { (command : grammar.Command) (files : Option ShelfFiles)
         → IsCommandInputTask command (command_input_task_stated task)
         → ForSome (known_command_input_task files (Some command)) (λ read. read ≡ Ok (command_input_task_stated task))
-        → Outcome (Some command) files K.takes_memory result.status result.journal
+        → ProgramOutcome (Some command) files K.takes_memory result.status result.journal
         (map M.seen meters.items) (map M.seen result.meters.items)
         (K.state out.old) (K.state out.new) }
     ensures meters { (command : grammar.Command) → IsCommandInputTask command (command_input_task_stated task)
-        → CommandGivesBackMeters (Some command) → result.meters ≡ meters }
+        → ProgramGivesBackMeters (Some command) → result.meters ≡ meters }
     ensures accounts { (read : Result Stated Refusal) → read ≡ Ok (command_input_task_stated task)
         → CommandStatusAccounts read result.status }
     ensures no_memory { (command : grammar.Command) → IsCommandInputTask command (command_input_task_stated task)
         → result.status ≡ status.NoMemory
         → ProgramMemoryRanOut (Some command) K.takes_memory result.journal
         (K.state out.old) (K.state out.new) }
-    ensures ended { CommandStatusEndsWork result.status (K.state out.old) (K.state out.new) }
+    ensures ended { ProgramStatusEndsWork result.status (K.state out.old) (K.state out.new) }
 {
     match task {
         Task::Play(inputs) => match inputs.report {
@@ -65,8 +65,8 @@ pub fn program_unplayed_meters<M: Meter>(
     command: &Command<'_>,
     meters: Vec<M>,
 ) -> Vec<M>
-    ensures none { ¬ CommandGivesBackMeters (Some (command_named command.now)) → result.items ≡ [] }
-    ensures all { CommandGivesBackMeters (Some (command_named command.now)) → result ≡ meters }
+    ensures none { ¬ ProgramGivesBackMeters (Some (argument_command_seen command.now)) → result.items ≡ [] }
+    ensures all { ProgramGivesBackMeters (Some (argument_command_seen command.now)) → result ≡ meters }
 {
     match command {
         Command::Replay(args) => match args.report {

@@ -3,7 +3,7 @@ use Rattle.std.proofs.Common.{◌&&◌, ◌<◌, ◌∙◌, ◌≡◌, ◌≢◌
 use Rattle.base.proofs.Exports.{cases_eq, cases_lt, get_or-map-range_with_len, get_or-replicate, get_or_past, length-map-range_with_len, length-replicate, nat_tests}
 use Rattle.failover.specs.declared.advert.Advert.{Advert}
 use Rattle.base.specs.Exports.{switches}
-use Rattle.failover.specs.Exports.{AreAdvertsByOrigin, adverts_after_hearing, first_adverts, first_of, held_advert, is_news, no_adverts}
+use Rattle.failover.specs.Exports.{AreAdvertsByOrigin, adverts_after_hearing, first_adverts, first_failover_advert_below, held_advert, is_advert_news, no_adverts}
 
 -- an advert at the place of its origin
 set_by_origin : (adverts : List (Option Advert)) (advert : Advert) → AreAdvertsByOrigin adverts →
@@ -34,30 +34,30 @@ first_of_origin true first found e = cc
 first_of_origin false first found e = cc
 
 pub held-first : (near : List ℕ) (count origin : ℕ) → origin < 64 →
-    held_advert (first_adverts near count) origin ≡ first_of near count origin
+    held_advert (first_adverts near count) origin ≡ first_failover_advert_below near count origin
 unfolding first_adverts switches
 held-first near count origin below =
-    get_or-map-range_with_len (first_of near count) 0 64 origin origin None below (omega arith)
+    get_or-map-range_with_len (first_failover_advert_below near count) 0 64 origin origin None below (omega arith)
 
 pub by_origin-first : (near : List ℕ) (count : ℕ) → AreAdvertsByOrigin (first_adverts near count)
 unfolding first_adverts switches
 by_origin-first near count = record {
-  places = length-map-range_with_len (first_of near count) 0 64;
+  places = length-map-range_with_len (first_failover_advert_below near count) 0 64;
   origins = λ origin found e. elim (cases_lt origin 64) [
     | inl below ↦ ap (λ (a : Advert). a.origin) (first_of_origin (nat_lt origin count) _ found
         (sym (held-first near count origin below) ∙ e))
-    | inr past ↦ (let none : held_advert (map (first_of near count) switches) origin ≡ None =
-        get_or_past (map (first_of near count) switches) origin None
-        (omega (arith, length-map-range_with_len (first_of near count) 0 64)) in cc)
+    | inr past ↦ (let none : held_advert (map (first_failover_advert_below near count) switches) origin ≡ None =
+        get_or_past (map (first_failover_advert_below near count) switches) origin None
+        (omega (arith, length-map-range_with_len (first_failover_advert_below near count) 0 64)) in cc)
   ];
 }
 
 pub after_no_news : (adverts : List (Option Advert)) (advert : Advert) →
-    is_news adverts advert ≡ false → adverts_after_hearing adverts advert ≡ adverts
+    is_advert_news adverts advert ≡ false → adverts_after_hearing adverts advert ≡ adverts
 unfolding adverts_after_hearing
 after_no_news adverts advert old = rw old refl
 
-pub after_news : (adverts : List (Option Advert)) (advert : Advert) → is_news adverts advert ≡ true
+pub after_news : (adverts : List (Option Advert)) (advert : Advert) → is_advert_news adverts advert ≡ true
     → adverts_after_hearing adverts advert ≡ set adverts advert.origin (Some advert)
 unfolding adverts_after_hearing
 after_news adverts advert new = rw new refl
@@ -65,17 +65,17 @@ after_news adverts advert new = rw new refl
 -- ---- one advert heard
 
 -- heard or not
-pub hearing : (adverts : List (Option Advert)) (advert : Advert) → ((is_news adverts advert ≡ true)
+pub hearing : (adverts : List (Option Advert)) (advert : Advert) → ((is_advert_news adverts advert ≡ true)
     × (adverts_after_hearing adverts advert ≡ set adverts advert.origin (Some advert)))
-    ⊎ ((is_news adverts advert ≡ false) × (adverts_after_hearing adverts advert ≡ adverts))
+    ⊎ ((is_advert_news adverts advert ≡ false) × (adverts_after_hearing adverts advert ≡ adverts))
 hearing adverts advert = search (rules, after_news, after_no_news)
 
 below_test : (origin : ℕ) (more : Bool) → (nat_lt origin 64 && more) ≡ true → origin < 64
 below_test origin more h = grind (arith, nat_tests)
 
-news_below : (adverts : List (Option Advert)) (advert : Advert) → is_news adverts advert ≡ true →
+news_below : (adverts : List (Option Advert)) (advert : Advert) → is_advert_news adverts advert ≡ true →
     advert.origin < 64
-unfolding is_news
+unfolding is_advert_news
 news_below adverts advert h = below_test advert.origin _ h
 
 pub by_origin-hearing : (adverts : List (Option Advert)) (advert : Advert) → AreAdvertsByOrigin adverts →
@@ -86,7 +86,7 @@ by_origin-hearing adverts advert by = elim (hearing adverts advert) [
 ]
 
 pub held_heard : (adverts : List (Option Advert)) (advert : Advert) → AreAdvertsByOrigin adverts →
-    is_news adverts advert ≡ true → held_advert (adverts_after_hearing adverts advert) advert.origin
+    is_advert_news adverts advert ≡ true → held_advert (adverts_after_hearing adverts advert) advert.origin
     ≡ Some advert
 held_heard adverts advert by news = search (rules, after_news, get_or-set_same, news_below)
 

@@ -2,7 +2,7 @@
 use Rattle.std.proofs.Common.{[], ◌<◌, ◌∙◌, ◌∷◌, ◌≡◌, ◌≤◌, List, ap, arith, eqb-true, false, length, nat_eq, refl, subst, suc, sym, true, zero, ℕ, rules}
 use Rattle.base.proofs.Exports.{AllByRecursion, IsDistinct}
 use Rattle.base.specs.Exports.{has}
-use Rattle.failover.specs.Exports.{IsPathAtMost, IsRouteLinksAway, LinksLeadTo, ball, route_path_after}
+use Rattle.failover.specs.Exports.{IsFailoverPathAtMost, IsRouteLinksAway, FailoverLinksLeadTo, route_ball, route_path_after}
 use Rattle.failover.proofs.RouteLinkBalls.{false_of, apart_tests, ball_grows, ball_gains, at_target, has_target, next_step}
 
 -- ---- the route leads to the target
@@ -13,7 +13,7 @@ length-onward links target zero at = refl
 length-onward links target (suc k) at = ap suc (length-onward links target k _)
 
 pub onward_leads : (links : List ℕ) (target k at : ℕ) → length links ≡ 64 → target < 64 → at < 64 →
-    IsRouteLinksAway links target k at → LinksLeadTo links target at (route_path_after links target k at)
+    IsRouteLinksAway links target k at → FailoverLinksLeadTo links target at (route_path_after links target k at)
 unfolding route_path_after
 onward_leads links target zero at rows target_fits at_fits away =
     at_target links target at away.here
@@ -28,7 +28,7 @@ differ x y mask absent member =
     false_of _ (λ e. apart_tests _ (ap (has mask) (eqb-true x y e) ∙ member) absent)
 
 onward_apart : (links : List ℕ) (target k at x : ℕ) → length links ≡ 64 → target < 64 → at < 64 →
-    IsRouteLinksAway links target k at → ((j : ℕ) → j < k → has (ball links target j) x ≡ false) →
+    IsRouteLinksAway links target k at → ((j : ℕ) → j < k → has (route_ball links target j) x ≡ false) →
     AllByRecursion (λ y. nat_eq x y ≡ false) (route_path_after links target k at)
 unfolding route_path_after
 onward_apart links target zero at x rows target_fits at_fits away absent = tt
@@ -52,7 +52,7 @@ onward_distinct links target (suc k) at rows target_fits at_fits away =
 -- ---- no path is shorter, or less
 
 pub reaches : (links : List ℕ) (target at : ℕ) (rest : List ℕ) (k : ℕ) → length links ≡ 64 →
-    at < 64 → LinksLeadTo links target at rest → length rest ≤ k → has (ball links target k) at ≡ true
+    at < 64 → FailoverLinksLeadTo links target at rest → length rest ≤ k → has (route_ball links target k) at ≡ true
 reaches links target at [] zero rows fits leads short = cc (leads, has_target links target)
 reaches links target at [] (suc k) rows fits leads short = ball_grows links target k at
     (omega arith) (reaches links target at [] k rows fits leads (omega arith))
@@ -60,13 +60,13 @@ reaches links target at (next ∷ rest) zero rows fits leads short = absurd (ome
 reaches links target at (next ∷ rest) (suc k) rows fits leads short = ball_gains links target k at
     next (omega arith) leads.1 (reaches links target next rest k rows leads.0 leads.2 (omega arith))
 
-at_most_next : (x y : ℕ) (xs ys : List ℕ) → x ≤ y → (x ≡ y → IsPathAtMost xs ys) →
-    IsPathAtMost (x ∷ xs) (y ∷ ys)
+at_most_next : (x y : ℕ) (xs ys : List ℕ) → x ≤ y → (x ≡ y → IsFailoverPathAtMost xs ys) →
+    IsFailoverPathAtMost (x ∷ xs) (y ∷ ys)
 at_most_next x y xs ys less rest = search rules
 
 pub onward_least : (links : List ℕ) (target k at : ℕ) (rest : List ℕ) → length links ≡ 64 →
-    target < 64 → at < 64 → IsRouteLinksAway links target k at → LinksLeadTo links target at rest →
-    length rest ≡ k → IsPathAtMost (route_path_after links target k at) rest
+    target < 64 → at < 64 → IsRouteLinksAway links target k at → FailoverLinksLeadTo links target at rest →
+    length rest ≡ k → IsFailoverPathAtMost (route_path_after links target k at) rest
 unfolding route_path_after
 onward_least links target zero at rest rows target_fits at_fits away leads long = tt
 onward_least links target (suc k) at [] rows target_fits at_fits away leads long =
@@ -76,4 +76,4 @@ onward_least links target (suc k) at (next ∷ rest) rows target_fits at_fits aw
     at_most_next _ next _ rest
     (step.least next leads.1 (reaches links target next rest k rows leads.0 leads.2 (omega arith)))
     (λ same. onward_least links target k _ rest rows target_fits step.below step.away
-    (subst (λ (y : ℕ). LinksLeadTo links target y rest) (sym same) leads.2) (omega arith))
+    (subst (λ (y : ℕ). FailoverLinksLeadTo links target y rest) (sym same) leads.2) (omega arith))

@@ -2,7 +2,7 @@
 use Rattle.std.proofs.Common.{◌%◌, ◌&&◌, ◌+◌, ◌-◌, ◌<◌, ◌==◌, ◌^◌, ◌||◌, ◌∙◌, ◌≡◌, Bool, List, ap, arith, bit_and, bit_or, bit_xor, eq-eqb, false, get_or, inl, inr, not, pow_pos, sym, true, w64, ℕ, rules}
 use Rattle.base.proofs.Exports.{and-true, and_le_l, and_le_r, and_parts, and_pow, bit_at, bit_at-lt, bit_at-pow_same, bit_at_not, bit_at_ones, bit_at_xor, bit_not, cases_eq, has-and, has-or, has-xor_other, has-zero, has_least, has_mask, has_only_other, has_only_same, nat_tests, only_if_lt, or_lt, pow_below, same_masks, xor_add_and, xor_lt}
 use Rattle.base.specs.Exports.{has, least_in_number_set, only_if}
-use Rattle.failover.specs.Exports.{is_route_link, route_links_at}
+use Rattle.failover.specs.Exports.{is_known_route_link, route_links_at}
 use Rattle.failover.proofs.RouteLinkBalls.{apart_tests}
 
 -- the row has the links to the switches within a set that are not left
@@ -10,17 +10,17 @@ pub record IsRowSoFar (neighbours down : List ℕ) (one within row rest : ℕ) :
   pub row_fits : row < 2 ^ 64
   pub rest_fits : rest < 2 ^ 64
   pub named : (k : ℕ) → has rest k ≡ true → has (get_or neighbours one 0) k ≡ true
-  pub found : (k : ℕ) → k < 64 → (has row k || (has rest k && is_route_link neighbours down one k)) ≡
-      (is_route_link neighbours down one k && has within k)
+  pub found : (k : ℕ) → k < 64 → (has row k || (has rest k && is_known_route_link neighbours down one k)) ≡
+      (is_known_route_link neighbours down one k && has within k)
 
 named_and : (a b c d : Bool) → (b && (a && b && c && d)) ≡ (a && b && c && d)
 named_and a b c d = search rules
 
 -- a link is to a switch that is named
 named : (neighbours down : List ℕ) (one k : ℕ) →
-    (has (get_or neighbours one 0) k && is_route_link neighbours down one k) ≡
-    is_route_link neighbours down one k
-unfolding is_route_link
+    (has (get_or neighbours one 0) k && is_known_route_link neighbours down one k) ≡
+    is_known_route_link neighbours down one k
+unfolding is_known_route_link
 named neighbours down one k = named_and (not (one == k)) (has (get_or neighbours one 0) k)
     (has (get_or neighbours k 0) one) _
 
@@ -45,7 +45,7 @@ row_ends neighbours down one within row rest fits so_far none = same_masks row _
     (omega (arith, and_le_r))
     (λ k below. at_end (has row k) (has rest k) _ _ (ap (λ n. has n k) none ∙ has-zero k)
     (so_far.found k below) ∙ sym (has-and (route_links_at neighbours down one) within k
-    ∙ ap (λ b. b && has within k) (has_mask (is_route_link neighbours down one) k below)))
+    ∙ ap (λ b. b && has within k) (has_mask (is_known_route_link neighbours down one) k below)))
   where
     at_end : (row rest link wanted : Bool) → rest ≡ false → (row || (rest && link)) ≡ wanted →
         row ≡ wanted
@@ -81,12 +81,12 @@ turn_other false rest link wanted h = h
 
 pub row_goes_on : (neighbours down : List ℕ) (one within row rest other gain gone : ℕ) →
     IsRowSoFar neighbours down one within row rest → has rest other ≡ true → other < 64 →
-    gain ≡ only_if (is_route_link neighbours down one other) other → gone ≡ 2 ^ other →
+    gain ≡ only_if (is_known_route_link neighbours down one other) other → gone ≡ 2 ^ other →
     IsRowSoFar neighbours down one within (bit_or row gain) (bit_xor rest gone)
 row_goes_on neighbours down one within row rest other gain gone so_far left fits gains goes =
     rw (gains, goes) (record {
       row_fits = or_lt 64 _ _ so_far.row_fits
-          (only_if_lt (is_route_link neighbours down one other) other 64 fits);
+          (only_if_lt (is_known_route_link neighbours down one other) other 64 fits);
       rest_fits = xor_lt 64 _ _ so_far.rest_fits (pow_below other 64 fits);
       named = λ k h. elim (cases_eq k other) [
         | inl same ↦ apart_tests _ h
@@ -96,7 +96,7 @@ row_goes_on neighbours down one within row rest other gain gone so_far left fits
       found = λ k below. elim (cases_eq k other) [
         | inl same ↦ rw (has-or, same, has_only_same, has_less-same rest other left)
             (turn_same (has row other) _ _ (sym
-            (ap (λ b. has row other || (b && is_route_link neighbours down one other)) left)
+            (ap (λ b. has row other || (b && is_known_route_link neighbours down one other)) left)
             ∙ so_far.found other fits))
         | inr apart ↦ rw (has-or, has_only_other, has-xor_other)
             (turn_other (has row k) (has rest k) _ _ (so_far.found k below))

@@ -3,14 +3,14 @@ use Rattle.std.proofs.Common.{[], ◌&&◌, ◌+◌, ◌-◌, ◌<◌, ◌==◌,
 use Rattle.base.proofs.Exports.{All-cons, All-nil, cases_lt, length-le_from_distinct_below, list_any, nat_tests}
 use Rattle.failover.specs.declared.advert.Advert.{Advert}
 use Rattle.base.specs.Exports.{has, switches}
-use Rattle.failover.specs.Exports.{IsPathAtMost, IsRouteLinksAway, IsLeastPath, IsOutOfReach, IsPath, IsReachable, IsRoute, IsRouteList, LinksLeadTo, ball, first_route, grown_ball, known_links, ball_links_away, route_path_after, route_of, route_to}
+use Rattle.failover.specs.Exports.{IsFailoverPathAtMost, IsRouteLinksAway, IsLeastFailoverPath, IsOutOfFailoverReach, IsFailoverPath, IsFailoverReachable, IsRoute, IsRouteList, FailoverLinksLeadTo, route_ball, first_route, grown_route_ball, failover_known_links, route_ball_links_away, route_path_after, route_of, route_to}
 use Rattle.failover.proofs.RouteLinkBalls.{false_of, apart_tests, or_cases}
 use Rattle.failover.proofs.RouteLeastPaths.{length-onward, onward_leads, onward_distinct, onward_least, reaches}
 
 -- ---- paths
 
 switch_below : (links : List ℕ) (target at : ℕ) (rest : List ℕ) → at < 64 →
-    LinksLeadTo links target at rest → (q : ℕ) → list_any (nat_eq q) (at ∷ rest) ≡ true → q < 64
+    FailoverLinksLeadTo links target at rest → (q : ℕ) → list_any (nat_eq q) (at ∷ rest) ≡ true → q < 64
 switch_below links target at [] fits leads q h = search (rules, eqb-true)
 switch_below links target at (next ∷ rest) fits leads q h =
     elim (or_cases (nat_eq q at) (list_any (nat_eq q) (next ∷ rest)) h) [
@@ -19,14 +19,14 @@ switch_below links target at (next ∷ rest) fits leads q h =
     ]
 
 all_below : (links : List ℕ) (target at : ℕ) (rest : List ℕ) → at < 64 →
-    LinksLeadTo links target at rest → All (λ x. x < 64) (at ∷ rest)
+    FailoverLinksLeadTo links target at rest → All (λ x. x < 64) (at ∷ rest)
 all_below links target at [] fits leads = All-cons (λ x. x < 64) at [] fits (All-nil (λ x. x < 64))
 all_below links target at (next ∷ rest) fits leads =
     All-cons (λ x. x < 64) at (next ∷ rest) fits (all_below links target next rest leads.0 leads.2)
 
 pub path_is_route_list : (links : List ℕ) (from target : ℕ) (path : List ℕ) →
-    IsPath links from target path → IsRouteList path
-unfolding IsPath
+    IsFailoverPath links from target path → IsRouteList path
+unfolding IsFailoverPath
 path_is_route_list links from target [] path = absurd path
 path_is_route_list links from target (first ∷ rest) path = record {
   some = omega arith;
@@ -37,7 +37,7 @@ path_is_route_list links from target (first ∷ rest) path = record {
 }
 
 pub target_below : (links : List ℕ) (target at : ℕ) (rest : List ℕ) → at < 64 →
-    LinksLeadTo links target at rest → target < 64
+    FailoverLinksLeadTo links target at rest → target < 64
 target_below links target at [] fits leads = subst (λ (x : ℕ). x < 64) leads fits
 target_below links target at (next ∷ rest) fits leads =
     target_below links target next rest leads.0 leads.2
@@ -45,7 +45,7 @@ target_below links target at (next ∷ rest) fits leads =
 -- ---- what was found is the least path
 
 no_fewer : (links : List ℕ) (target k at : ℕ) (rest : List ℕ) → length links ≡ 64 → at < 64 →
-    IsRouteLinksAway links target k at → LinksLeadTo links target at rest → k ≤ length rest
+    IsRouteLinksAway links target k at → FailoverLinksLeadTo links target at rest → k ≤ length rest
 no_fewer links target k at rest rows fits away leads = elim (cases_lt (length rest) k) [
   | inl short ↦ apart_tests _ (reaches links target at rest (length rest) rows fits leads
       (omega arith)) (away.later (length rest) short)
@@ -53,24 +53,24 @@ no_fewer links target k at rest rows fits away leads = elim (cases_lt (length re
 ]
 
 fewest_of : (links : List ℕ) (target k from : ℕ) → length links ≡ 64 → from < 64 →
-    IsRouteLinksAway links target k from → (other : List ℕ) → IsPath links from target other →
+    IsRouteLinksAway links target k from → (other : List ℕ) → IsFailoverPath links from target other →
     k < length other
-unfolding IsPath
+unfolding IsFailoverPath
 fewest_of links target k from rows fits away [] path = absurd path
 fewest_of links target k from rows fits away (first ∷ rest) path =
-    let leads = subst (λ (x : ℕ). LinksLeadTo links target x rest) path.0 path.2 in
+    let leads = subst (λ (x : ℕ). FailoverLinksLeadTo links target x rest) path.0 path.2 in
     omega (arith, no_fewer links target k from rest rows fits away leads)
 
 least_of_all : (links : List ℕ) (target k from : ℕ) → length links ≡ 64 → target < 64 → from < 64 →
-    IsRouteLinksAway links target k from → (other : List ℕ) → IsPath links from target other →
-    length other ≡ suc k → IsPathAtMost (from ∷ route_path_after links target k from) other
-unfolding IsPath
+    IsRouteLinksAway links target k from → (other : List ℕ) → IsFailoverPath links from target other →
+    length other ≡ suc k → IsFailoverPathAtMost (from ∷ route_path_after links target k from) other
+unfolding IsFailoverPath
 least_of_all links target k from rows target_fits fits away other path long =
     search (rules, onward_least)
 
 found_path : (links : List ℕ) (target k from : ℕ) → length links ≡ 64 → target < 64 → from < 64 →
-    IsRouteLinksAway links target k from → IsPath links from target (from ∷ route_path_after links target k from)
-unfolding IsPath
+    IsRouteLinksAway links target k from → IsFailoverPath links from target (from ∷ route_path_after links target k from)
+unfolding IsFailoverPath
 found_path links target k from rows target_fits fits away = (
   refl,
   fits,
@@ -80,53 +80,53 @@ found_path links target k from rows target_fits fits away = (
 
 pub found_is_least : (links : List ℕ) (target k from : ℕ) → length links ≡ 64 → target < 64 →
     from < 64 → IsRouteLinksAway links target k from →
-    IsLeastPath links from target (from ∷ route_path_after links target k from)
+    IsLeastFailoverPath links from target (from ∷ route_path_after links target k from)
 found_is_least links target k from rows target_fits fits away =
     search (rules, length-onward, found_path, fewest_of, least_of_all)
 
 -- ---- where nothing was found no path is
 
 no_path : (links : List ℕ) (target from : ℕ) → length links ≡ 64 → from < 64 →
-    IsOutOfReach links target from → (path : List ℕ) → IsPath links from target path → ⊥
-unfolding IsPath IsOutOfReach
+    IsOutOfFailoverReach links target from → (path : List ℕ) → IsFailoverPath links from target path → ⊥
+unfolding IsFailoverPath IsOutOfFailoverReach
 no_path links target from rows fits out [] path = path
 no_path links target from rows fits out (first ∷ rest) path =
     let few = (path_is_route_list links from target (first ∷ rest) path).few in
     apart_tests _ (reaches links target from rest 63 rows fits
-    (subst (λ (x : ℕ). LinksLeadTo links target x rest) path.0 path.2) (omega arith))
+    (subst (λ (x : ℕ). FailoverLinksLeadTo links target x rest) path.0 path.2) (omega arith))
     (out 63 (omega arith))
 
 pub out_of_reach : (links : List ℕ) (target from : ℕ) → length links ≡ 64 → from < 64 →
-    IsOutOfReach links target from → ¬ IsReachable links from target
-unfolding IsReachable
+    IsOutOfFailoverReach links target from → ¬ IsFailoverReachable links from target
+unfolding IsFailoverReachable
 out_of_reach links target from rows fits out =
     λ reach. no_path links target from rows fits out reach.0 reach.1
 
 -- ---- the search ends at the first ball that has the switch, or where balls no longer grow
 
-stands_still : (links : List ℕ) (target j i : ℕ) → ball links target (suc j) ≡ ball links target j →
-    ball links target (j + i) ≡ ball links target j
-unfolding ball
-stands_still links target j zero same = ap (ball links target) (omega arith)
+stands_still : (links : List ℕ) (target j i : ℕ) → route_ball links target (suc j) ≡ route_ball links target j →
+    route_ball links target (j + i) ≡ route_ball links target j
+unfolding route_ball
+stands_still links target j zero same = ap (route_ball links target) (omega arith)
 stands_still links target j (suc i) same = let next : j + suc i ≡ suc (j + i) = omega arith in
-    ap (ball links target) next ∙ ap (grown_ball links) (stands_still links target j i same) ∙ same
+    ap (route_ball links target) next ∙ ap (grown_route_ball links) (stands_still links target j i same) ∙ same
 
 -- if the balls stop growing without the switch, none ever has it
 pub still_out : (links : List ℕ) (target j from : ℕ) →
-    ball links target (suc j) ≡ ball links target j →
-    ((i : ℕ) → i < suc j → has (ball links target i) from ≡ false) → IsOutOfReach links target from
-unfolding IsOutOfReach
+    route_ball links target (suc j) ≡ route_ball links target j →
+    ((i : ℕ) → i < suc j → has (route_ball links target i) from ≡ false) → IsOutOfFailoverReach links target from
+unfolding IsOutOfFailoverReach
 still_out links target j from same before = λ k fits. elim (cases_lt k (suc j)) [
   | inl earlier ↦ before k earlier
   | inr later ↦ (let far : k ≡ j + (k - j) =
-      omega arith in ap (λ n. has (ball links target n) from) far
+      omega arith in ap (λ n. has (route_ball links target n) from) far
       ∙ ap (λ b. has b from) (stands_still links target j (k - j) same) ∙ before j (omega arith))
 ]
 
 -- the balls grow until they have the switch
 grows : (links : List ℕ) (target j k from : ℕ) → IsRouteLinksAway links target (j + suc k) from →
-    (grown_ball links (ball links target j) == ball links target j) ≡ false
-unfolding ball
+    (grown_route_ball links (route_ball links target j) == route_ball links target j) ≡ false
+unfolding route_ball
 grows links target j k from away = search (rules, false_of, eqb-true, stands_still)
 
 -- a turn of the search: the switch is here, the balls stop growing, or the rest decides
@@ -135,9 +135,9 @@ turn here still rest = elim here
     [ true ↦ Some 0 | false ↦ elim still [ true ↦ None | false ↦ option_map suc rest ] ]
 
 ball_links_away-turn : (most : ℕ) (links : List ℕ) (from within : ℕ)
-    → ball_links_away (suc most) links from within ≡ turn (has within from)
-    (grown_ball links within == within) (ball_links_away most links from (grown_ball links within))
-unfolding ball_links_away
+    → route_ball_links_away (suc most) links from within ≡ turn (has within from)
+    (grown_route_ball links within == within) (route_ball_links_away most links from (grown_route_ball links within))
+unfolding route_ball_links_away
 ball_links_away-turn most links from within = refl
 
 turn_here : (here still : Bool) (rest : Option ℕ) → here ≡ true → turn here still rest ≡ Some 0
@@ -153,24 +153,24 @@ turn_none : (here still : Bool) (rest : Option ℕ) → here ≡ false → rest 
 turn_none here still rest e none = search rules
 
 away_found : (most : ℕ) (links : List ℕ) (target j k from : ℕ) → k < most →
-    IsRouteLinksAway links target (j + k) from → ball_links_away most links from (ball links target j) ≡ Some k
-unfolding ball
+    IsRouteLinksAway links target (j + k) from → route_ball_links_away most links from (route_ball links target j) ≡ Some k
+unfolding route_ball
 away_found zero links target j k from fits away = absurd (omega arith)
 away_found (suc most) links target j zero from fits away =
-    ball_links_away-turn most links from (ball links target j)
-    ∙ turn_here _ _ _ (ap (λ n. has (ball links target n) from) (omega arith) ∙ away.here)
+    ball_links_away-turn most links from (route_ball links target j)
+    ∙ turn_here _ _ _ (ap (λ n. has (route_ball links target n) from) (omega arith) ∙ away.here)
 away_found (suc most) links target j (suc k) from fits away =
-    ball_links_away-turn most links from (ball links target j)
+    ball_links_away-turn most links from (route_ball links target j)
     ∙ turn_on _ _ _ (away.later j (omega arith)) (grows links target j k from away)
     ∙ ap (option_map suc) (away_found most links target (suc j) k from (omega arith)
     (subst (λ (n : ℕ). IsRouteLinksAway links target n from) (omega arith) away))
 
 none_found : (most : ℕ) (links : List ℕ) (target j from : ℕ) → j + most ≤ 64 →
-    IsOutOfReach links target from → ball_links_away most links from (ball links target j) ≡ None
-unfolding ball_links_away IsOutOfReach ball
+    IsOutOfFailoverReach links target from → route_ball_links_away most links from (route_ball links target j) ≡ None
+unfolding route_ball_links_away IsOutOfFailoverReach route_ball
 none_found zero links target j from fits out = refl
 none_found (suc most) links target j from fits out =
-    ball_links_away-turn most links from (ball links target j) ∙ turn_none _ _ _ (out j (omega arith))
+    ball_links_away-turn most links from (route_ball links target j) ∙ turn_none _ _ _ (out j (omega arith))
     (none_found most links target (suc j) from (omega arith) out)
 
 -- ---- the route to one target
@@ -183,8 +183,8 @@ guarded test route = elim test [ true ↦ route | false ↦ None ]
 
 route_to-guarded : (links : List ℕ) (from target : ℕ) → route_to links from target
     ≡ guarded (nat_lt from 64 && nat_lt target 64) (option_map (λ k. from
-    ∷ route_path_after links target k from) (ball_links_away 64 links from (ball links target 0)))
-unfolding route_to guarded ball
+    ∷ route_path_after links target k from) (route_ball_links_away 64 links from (route_ball links target 0)))
+unfolding route_to guarded route_ball
 route_to-guarded links from target = refl
 
 guarded_true : (test : Bool) (route : Option (List ℕ)) → test ≡ true → guarded test route ≡ route
@@ -208,7 +208,7 @@ route_to-away links from target k from_fits target_fits fits away =
     from fits (subst (λ (n : ℕ). IsRouteLinksAway links target n from) (omega arith) away))
 
 pub route_to-out : (links : List ℕ) (from target : ℕ) → from < 64 → target < 64 →
-    IsOutOfReach links target from → route_to links from target ≡ None
+    IsOutOfFailoverReach links target from → route_to links from target ≡ None
 route_to-out links from target from_fits target_fits out =
     search (rules, route_to-guarded, guarded_true, both_below, none_found)
 
@@ -223,14 +223,14 @@ route_to-above links from target h =
 -- ---- away or out of reach
 
 later_or_away : (links : List ℕ) (target from k : ℕ) →
-    ((j : ℕ) → j < k → has (ball links target j) from ≡ false) → (b : Bool) →
-    has (ball links target k) from ≡ b →
-    IsRouteLinksAway links target k from ⊎ ((j : ℕ) → j < suc k → has (ball links target j) from ≡ false)
+    ((j : ℕ) → j < k → has (route_ball links target j) from ≡ false) → (b : Bool) →
+    has (route_ball links target k) from ≡ b →
+    IsRouteLinksAway links target k from ⊎ ((j : ℕ) → j < suc k → has (route_ball links target j) from ≡ false)
 later_or_away links target from k before b e = search rules
 
 search_up_to : (links : List ℕ) (target from k : ℕ) →
     ((i : ℕ) × (i < k) × IsRouteLinksAway links target i from)
-    ⊎ ((j : ℕ) → j < k → has (ball links target j) from ≡ false)
+    ⊎ ((j : ℕ) → j < k → has (route_ball links target j) from ≡ false)
 search_up_to links target from zero = inr (λ j less. absurd (omega arith))
 search_up_to links target from (suc k) = elim (search_up_to links target from k) [
   | inl found ↦ inl (found.0, omega arith, found.2)
@@ -239,15 +239,15 @@ search_up_to links target from (suc k) = elim (search_up_to links target from k)
 ]
 
 pub away_or_out : (links : List ℕ) (target from : ℕ) →
-    ((k : ℕ) × (k < 64) × IsRouteLinksAway links target k from) ⊎ IsOutOfReach links target from
-unfolding IsOutOfReach
+    ((k : ℕ) × (k < 64) × IsRouteLinksAway links target k from) ⊎ IsOutOfFailoverReach links target from
+unfolding IsOutOfFailoverReach
 away_or_out links target from = search_up_to links target from 64
 
 -- ---- a way that meets a switch again
 
 pub straight_path : (links : List ℕ) (from target : ℕ) (rest : List ℕ) → length links ≡ 64 →
-    from < 64 → LinksLeadTo links target from rest → IsReachable links from target
-unfolding IsReachable
+    from < 64 → FailoverLinksLeadTo links target from rest → IsFailoverReachable links from target
+unfolding IsFailoverReachable
 straight_path links from target rest rows fits leads =
     elim (search_up_to links target from (suc (length rest))) [
       | inl found ↦ (
@@ -262,22 +262,22 @@ straight_path links from target rest rows fits leads =
 -- ---- the function gives the defined route
 
 stray : (links : List ℕ) (from target : ℕ) → (from < 64 → target < 64 → ⊥) → (path : List ℕ) →
-    IsPath links from target path → ⊥
-unfolding IsPath
+    IsFailoverPath links from target path → ⊥
+unfolding IsFailoverPath
 stray links from target h path h5 = search (rules, target_below)
 
 unreachable : (links : List ℕ) (from target : ℕ) → (from < 64 → target < 64 → ⊥) →
-    ¬ IsReachable links from target
-unfolding IsReachable
+    ¬ IsFailoverReachable links from target
+unfolding IsFailoverReachable
 unreachable links from target h = λ reach. stray links from target h reach.0 reach.1
 
 -- the least path to the target, or none where it isn't reachable
 abbrev IsAnswer : List ℕ → ℕ → ℕ → Option (List ℕ) → Type 0
-IsAnswer links from target route = IsSomeAnd route (IsLeastPath links from target)
-    ⊎ (¬ IsReachable links from target × (route ≡ None))
+IsAnswer links from target route = IsSomeAnd route (IsLeastFailoverPath links from target)
+    ⊎ (¬ IsFailoverReachable links from target × (route ≡ None))
 
 some_answer : (links : List ℕ) (from target : ℕ) (route : Option (List ℕ)) (path : List ℕ) →
-    IsLeastPath links from target path → route ≡ Some path → IsAnswer links from target route
+    IsLeastFailoverPath links from target path → route ≡ Some path → IsAnswer links from target route
 some_answer links from target route path least e = inl (rw e least)
 
 answer_within : (links : List ℕ) (from target : ℕ) → length links ≡ 64 → from < 64 → target < 64 →
@@ -328,7 +328,7 @@ first_route_is_route links from (target ∷ targets) rows =
 
 -- ---- there is one route
 
-same_lists : (xs ys : List ℕ) → length xs ≡ length ys → IsPathAtMost xs ys → IsPathAtMost ys xs → xs ≡ ys
+same_lists : (xs ys : List ℕ) → length xs ≡ length ys → IsFailoverPathAtMost xs ys → IsFailoverPathAtMost ys xs → xs ≡ ys
 same_lists [] [] long less more = refl
 same_lists [] (y ∷ ys) long less more = absurd (omega arith)
 same_lists (x ∷ xs) [] long less more = absurd (omega arith)
@@ -342,20 +342,20 @@ same_lists (x ∷ xs) (y ∷ ys) long less more = elim less [
 ]
 
 one_least_path : (links : List ℕ) (from target : ℕ) (a b : List ℕ) →
-    IsLeastPath links from target a → IsLeastPath links from target b → a ≡ b
+    IsLeastFailoverPath links from target a → IsLeastFailoverPath links from target b → a ≡ b
 one_least_path links from target a b one other =
     let long : length a ≡ length b = omega (arith, one.fewest, other.fewest) in
     same_lists a b long (one.least b other.path (sym long)) (other.least a one.path long)
 
 reached_by : (links : List ℕ) (from target : ℕ) (route : Option (List ℕ)) →
-    IsSomeAnd route (IsLeastPath links from target) → IsReachable links from target
-unfolding IsReachable
+    IsSomeAnd route (IsLeastFailoverPath links from target) → IsFailoverReachable links from target
+unfolding IsFailoverReachable
 reached_by links from target None least = absurd least
 reached_by links from target (Some path) least = (path, least.path)
 
 same_some : (links : List ℕ) (from target : ℕ) (one other : Option (List ℕ)) →
-    IsSomeAnd one (IsLeastPath links from target) →
-    IsSomeAnd other (IsLeastPath links from target) → one ≡ other
+    IsSomeAnd one (IsLeastFailoverPath links from target) →
+    IsSomeAnd other (IsLeastFailoverPath links from target) → one ≡ other
 same_some links from target one other a b = search (rules, one_least_path)
 
 pub one_route : (links : List ℕ) (from : ℕ) (targets : List ℕ) (one other : Option (List ℕ)) →
@@ -376,16 +376,16 @@ one_route links from (target ∷ targets) one other a b = elim a [
 -- ---- over the known links
 
 pub length-known_links : (adverts : List (Option Advert)) (at near : ℕ) (down : List ℕ) →
-    length (known_links adverts at near down) ≡ 64
-unfolding known_links switches
+    length (failover_known_links adverts at near down) ≡ 64
+unfolding failover_known_links switches
 length-known_links adverts at near down = refl
 
 pub known_route_is_route : (adverts : List (Option Advert)) (from : ℕ) (targets : List ℕ) (near : ℕ)
-    (down : List ℕ) → IsRoute (known_links adverts from near down) from targets
+    (down : List ℕ) → IsRoute (failover_known_links adverts from near down) from targets
     (route_of adverts from targets near down)
 unfolding route_of
 known_route_is_route adverts from targets near down =
-    first_route_is_route (known_links adverts from near down) from targets
+    first_route_is_route (failover_known_links adverts from near down) from targets
     (length-known_links adverts from near down)
 
 -- ---- target by target
@@ -406,14 +406,14 @@ unfolding first_route
 first_route-none links from = refl
 
 pub none_after : (links : List ℕ) (target k at : ℕ) → 64 ≤ k →
-    ((j : ℕ) → j < k → has (ball links target j) at ≡ false) → IsOutOfReach links target at
-unfolding IsOutOfReach
+    ((j : ℕ) → j < k → has (route_ball links target j) at ≡ false) → IsOutOfFailoverReach links target at
+unfolding IsOutOfFailoverReach
 none_after links target k at most before = λ j less. before j (omega arith)
 
 -- ---- a route is a list of distinct switches
 
 least_is_list : (links : List ℕ) (from target : ℕ) (route : Option (List ℕ)) →
-    IsSomeAnd route (IsLeastPath links from target) → IfSome route IsRouteList
+    IsSomeAnd route (IsLeastFailoverPath links from target) → IfSome route IsRouteList
 least_is_list links from target route least = search (rules, path_is_route_list)
 
 none_is_list : (route : Option (List ℕ)) → route ≡ None → IfSome route IsRouteList

@@ -2,7 +2,7 @@
 use Rattle.std.proofs.Common.{◌<◌, ◌^◌, ◌∙◌, ◌≡◌, ◌⊎◌, Bool, List, ap, arith, bit_or, bit_xor, false, get_or, inl, inr, length, refl, sym, true, ℕ, rules}
 use Rattle.base.proofs.Exports.{cases_eq, has-or, has-xor_other, has-zero, or_lt, pow_below, same_from_decides, same_masks, xor_lt}
 use Rattle.base.specs.Exports.{has}
-use Rattle.failover.specs.Exports.{IsBallEdge, grown_ball, least_neighbour_in}
+use Rattle.failover.specs.Exports.{IsRouteBallEdge, grown_route_ball, least_route_neighbour_in}
 use Rattle.failover.proofs.RouteLinkBalls.{added_is_nearer, apart_tests, or_cases, or_left, or_right, true_of, wider_gains, wider_keeps, wider_lt}
 use Rattle.failover.proofs.RouteRowLoop.{has_less-same, has_both, has_first}
 
@@ -16,8 +16,8 @@ pub record IsWideSoFar (links : List ℕ) (ball wide rest : ℕ) : Type 0 where
   pub wide_fits : wide < 2 ^ 64
   pub rest_fits : rest < 2 ^ 64
   pub inside : (k : ℕ) → k < 64 → has rest k ≡ true → has ball k ≡ true
-  pub sound : (j : ℕ) → j < 64 → has wide j ≡ true → has (grown_ball links ball) j ≡ true
-  pub left : (j : ℕ) → j < 64 → has (grown_ball links ball) j ≡ true → (has wide j ≡ true)
+  pub sound : (j : ℕ) → j < 64 → has wide j ≡ true → has (grown_route_ball links ball) j ≡ true
+  pub left : (j : ℕ) → j < 64 → has (grown_route_ball links ball) j ≡ true → (has wide j ≡ true)
       ⊎ ((k : ℕ) × (has (get_or links j 0) k ≡ true) × (has rest k ≡ true))
 
 holds_or_not : (b : Bool) → (b ≡ true) ⊎ (b ≡ false)
@@ -25,7 +25,7 @@ holds_or_not true = inl refl
 holds_or_not false = inr refl
 
 pub wide_begins : (links : List ℕ) (ball edge : ℕ) → length links ≡ 64 → AreBothWays links
-    → ball < 2 ^ 64 → edge < 2 ^ 64 → IsBallEdge links ball edge → IsWideSoFar links ball ball edge
+    → ball < 2 ^ 64 → edge < 2 ^ 64 → IsRouteBallEdge links ball edge → IsWideSoFar links ball ball edge
 wide_begins links ball edge rows both fits edge_fits is_edge = record {
   wide_fits = fits;
   rest_fits = edge_fits;
@@ -35,7 +35,7 @@ wide_begins links ball edge rows both fits edge_fits is_edge = record {
     | inl there ↦ inl there
     | inr absent ↦ (let near = added_is_nearer links ball j (omega arith) fits h absent in
         inr (
-          least_neighbour_in links ball j,
+          least_route_neighbour_in links ball j,
           near.joined,
           true_of _ (λ out. apart_tests _
               (is_edge.inner _ j near.below below near.inside out (both _ j ∙ near.joined)) absent),
@@ -70,10 +70,10 @@ wide_goes_on links ball wide rest at gone rows both so_far here fits row_fits go
 })
 
 pub wide_ends : (links : List ℕ) (ball wide rest : ℕ) → length links ≡ 64 → ball < 2 ^ 64
-    → IsWideSoFar links ball wide rest → rest ≡ 0 → wide ≡ grown_ball links ball
+    → IsWideSoFar links ball wide rest → rest ≡ 0 → wide ≡ grown_route_ball links ball
 wide_ends links ball wide rest rows fits so_far none =
     same_masks wide _ so_far.wide_fits (wider_lt links ball (omega arith) fits)
-    (λ j below. same_from_decides {P = has (grown_ball links ball) j ≡ true} _ _ (
+    (λ j below. same_from_decides {P = has (grown_route_ball links ball) j ≡ true} _ _ (
       so_far.sound j below,
       λ h. elim (so_far.left j below h) [
         | inl there ↦ there
@@ -83,11 +83,11 @@ wide_ends links ball wide rest rows fits so_far none =
 
 -- ---- edges
 
-pub edge_first : (links : List ℕ) (ball : ℕ) → IsBallEdge links ball ball
+pub edge_first : (links : List ℕ) (ball : ℕ) → IsRouteBallEdge links ball ball
 edge_first links ball = search rules
 
 -- what a widening adds is the edge of the wider ball
 pub edge_next : (links : List ℕ) (ball wide : ℕ) → length links ≡ 64 → AreBothWays links →
-    wide ≡ grown_ball links ball → IsBallEdge links wide (bit_xor ball wide)
+    wide ≡ grown_route_ball links ball → IsRouteBallEdge links wide (bit_xor ball wide)
 edge_next links ball wide rows both e =
     search (rules, holds_or_not, wider_keeps, has_first, wider_gains, has_both)

@@ -5,8 +5,8 @@ use Rattle.base.specs.Exports.{option_map_or, switches}
 use Rattle.failover.specs.declared.advert.Advert.{Advert}
 
 -- (boot, seq) is greater, the boot compared first
-abbrev pub is_newer : Advert → Advert → Bool
-is_newer one other = nat_lt other.boot one.boot ||
+abbrev pub is_newer_advert : Advert → Advert → Bool
+is_newer_advert one other = nat_lt other.boot one.boot ||
     ((other.boot == one.boot) && nat_lt other.seq one.seq)
 
 -- the advert of an origin, if adverts are at the places of their origins
@@ -14,18 +14,18 @@ abbrev pub held_advert : List (Option Advert) → ℕ → Option Advert
 held_advert adverts origin = slice_index_or adverts origin None
 
 -- its origin is below 64, and there is none of that origin, or this one is newer
-unfoldable pub is_news : List (Option Advert) → Advert → Bool
-is_news adverts advert = nat_lt advert.origin 64 && option_map_or (is_newer advert)
+unfoldable pub is_advert_news : List (Option Advert) → Advert → Bool
+is_advert_news adverts advert = nat_lt advert.origin 64 && option_map_or (is_newer_advert advert)
     (held_advert adverts advert.origin) true
 
 -- the adverts after this one was heard
 unfoldable pub adverts_after_hearing : List (Option Advert) → Advert → List (Option Advert)
 adverts_after_hearing adverts advert =
-    if is_news adverts advert then slice_set adverts advert.origin (Some advert) else adverts
+    if is_advert_news adverts advert then slice_set adverts advert.origin (Some advert) else adverts
 
 -- the adverts after these were heard, one after another
-abbrev pub after_hearing_all : List (Option Advert) → List Advert → List (Option Advert)
-after_hearing_all adverts heard = fold adverts_after_hearing adverts heard
+abbrev pub adverts_after_hearing_all : List (Option Advert) → List Advert → List (Option Advert)
+adverts_after_hearing_all adverts heard = fold adverts_after_hearing adverts heard
 
 abbrev pub no_adverts : List (Option Advert)
 no_adverts = replicate 64 None
@@ -35,10 +35,10 @@ abbrev pub first_advert : ℕ → ℕ → Advert
 first_advert origin up = record { origin = origin; boot = 1; seq = 1; up = up }
 
 -- the first advert of a switch, if its number is below this one
-abbrev pub first_of : List ℕ → ℕ → ℕ → Option Advert
-first_of near count origin = if nat_lt origin count then Some
+abbrev pub first_failover_advert_below : List ℕ → ℕ → ℕ → Option Advert
+first_failover_advert_below near count origin = if nat_lt origin count then Some
     (first_advert origin (slice_index near origin)) else None
 
 -- the first adverts of the switches below a number
 unfoldable pub first_adverts : List ℕ → ℕ → List (Option Advert)
-first_adverts near count = map (first_of near count) switches
+first_adverts near count = map (first_failover_advert_below near count) switches

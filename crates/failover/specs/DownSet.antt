@@ -4,7 +4,7 @@ use Rattle.std.specs.Prelude.{◌&&◌, ◌<◌, ◌==◌, ◌||◌, ◌≡◌, 
 use Rattle.base.specs.Exports.{has}
 
 -- each mask has only greater switches, so equal sets are equal lists
-pub record IsDownLinkSet (links : List ℕ) : Type 0 where
+pub record IsFailoverDownLinkSet (links : List ℕ) : Type 0 where
   pub masks : length links ≡ 64
   pub above : (k x : ℕ) → IsTrue (has (slice_index links k) x) → k < x
   pub switches : (k x : ℕ) → IsTrue (has (slice_index links k) x) → x < 64

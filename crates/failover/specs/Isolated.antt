@@ -7,12 +7,12 @@ use Rattle.failover.specs.Newest.{AreAdvertsByOrigin}
 use Rattle.base.specs.Exports.{has, switches}
 
 -- the origin's advert, if there is one, names this neighbour
-unfoldable pub names_neighbour : List (Option Advert) → ℕ → ℕ → Bool
-names_neighbour adverts origin other = has (neighbours_named_by_advert (held_advert adverts origin)) other
+unfoldable pub advert_names_neighbour : List (Option Advert) → ℕ → ℕ → Bool
+advert_names_neighbour adverts origin other = has (neighbours_named_by_advert (held_advert adverts origin)) other
 
 -- the target is not the switch `at`, and no link that `at` knows ends at it
-unfoldable pub is_isolated : List (Option Advert) → ℕ → ℕ → ℕ → List ℕ → Bool
-is_isolated adverts at target near down =
+unfoldable pub is_failover_target_isolated : List (Option Advert) → ℕ → ℕ → ℕ → List ℕ → Bool
+is_failover_target_isolated adverts at target near down =
     not (target == at) && (route_links_at (neighbours_by_adverts adverts at near) down target == 0)
 
 -- what is in a database: each advert at the place of its origin, and the neighbours that it names

@@ -1,5 +1,5 @@
 ghost use Rattle.std.specs.Prelude.{◌≡◌};
-ghost use Rattle.failover.specs.Adverts.{is_newer};
+ghost use Rattle.failover.specs.Adverts.{is_newer_advert};
 
 /// What a switch says about its links, sent to all other switches.
 #[derive(Clone, Copy, Debug, PartialEq, Eq)]
@@ -17,7 +17,7 @@ pub struct Advert {
 impl Advert {
     /// Whether (boot, seq) is greater than the other's, the boot compared first.
     pub fn is_newer(&self, other: &Advert) -> bool
-        ensures { result ≡ is_newer self.now other.now }
+        ensures { result ≡ is_newer_advert self.now other.now }
     {
         self.boot > other.boot || (self.boot == other.boot && self.seq > other.seq)
     }

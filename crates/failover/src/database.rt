@@ -1,6 +1,6 @@
 ghost use Rattle.std.specs.Prelude.{◌≡◌, ◌<◌, map, ◌↔◌, slice_set, IfSome, IsTrue};
 ghost use Rattle.std.specs.Bool.{OnTrue};
-ghost use Rattle.failover.specs.Exports.{IsIsolated, IsRoute, IsRouteList, adverts_after_hearing, first_adverts, first_of, held_advert, is_isolated, is_news, known_links, neighbours_named_by_advert, no_adverts, route_of};
+ghost use Rattle.failover.specs.Exports.{IsFailoverTargetIsolated, IsRoute, IsRouteList, adverts_after_hearing, first_adverts, first_failover_advert_below, held_advert, is_failover_target_isolated, is_advert_news, failover_known_links, neighbours_named_by_advert, no_adverts, route_of};
 
 use crate::advert::Advert;
 use crate::down_set::DownSet;
@@ -67,7 +67,7 @@ impl Database {
 
     /// Keeps the advert and returns true exactly if it is news. Otherwise nothing changes.
     pub fn hear(&mut self, advert: &Advert) -> bool
-        ensures news { result ≡ is_news self.old advert.now }
+        ensures news { result ≡ is_advert_news self.old advert.now }
         ensures after { self.new ≡ adverts_after_hearing self.old advert.now }
     {
         if !self.is_news(advert) {
@@ -80,9 +80,9 @@ impl Database {
 
     /// Whether the advert is news: its origin is below 64, and there is none of that origin, or
     /// this one is newer.
-    #[tactic(auto, unfolding(crate::specs::Adverts::is_news))]
+    #[tactic(auto, unfolding(crate::specs::Adverts::is_advert_news))]
     pub fn is_news(&self, advert: &Advert) -> bool
-        ensures news { result ≡ is_news self.now advert.now }
+        ensures news { result ≡ is_advert_news self.now advert.now }
         ensures switch { OnTrue result (advert.now.origin < 64) }
     {
         advert.origin < MAX_SWITCHES
@@ -113,7 +113,7 @@ impl Database {
     /// switch by its advert, and if it isn't in `down` (RFC 2328, section 16.1).
     pub fn route(&self, from: u32, targets: &Targets, near: u64, down: &DownSet) -> Option<Route>
         ensures value { result ≡ route_of self.now from targets.now near down.now }
-        ensures route { IsRoute (known_links self.now from near down.now) from targets.now result }
+        ensures route { IsRoute (failover_known_links self.now from near down.now) from targets.now result }
         ensures list { IfSome result IsRouteList }
     {
         let mut neighbours = self.named;
@@ -122,11 +122,11 @@ impl Database {
     }
 
     /// Whether the target is another switch, and no known link ends at it.
-    #[tactic(auto, unfolding(crate::specs::Isolated::is_isolated))]
+    #[tactic(auto, unfolding(crate::specs::Isolated::is_failover_target_isolated))]
     pub fn isolated(&self, at: u32, target: u32, near: u64, down: &DownSet) -> bool
-        ensures value { result ≡ is_isolated self.now at target near down.now }
+        ensures value { result ≡ is_failover_target_isolated self.now at target near down.now }
         ensures isolated { IsTrue result ↔
-            IsIsolated (known_links self.now at near down.now) at target }
+            IsFailoverTargetIsolated (failover_known_links self.now at near down.now) at target }
     {
         if target == at {
             return false;
@@ -170,7 +170,7 @@ fn neighbours_named_by_advert(advert: &Option<Advert>) -> u64
 // The first advert of a switch; `None` if there is no switch of this number.
 fn first_advert(near: &[u64; 64], switches: u32, origin: u32) -> Option<Advert>
     requires { origin < 64 }
-    ensures { result ≡ first_of near.now switches origin }
+    ensures { result ≡ first_failover_advert_below near.now switches origin }
 {
     (origin < switches).then_some(Advert {
         origin,

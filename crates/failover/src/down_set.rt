@@ -1,5 +1,5 @@
 ghost use Rattle.std.specs.Prelude.{◌≡◌, ◌≢◌, ◌<◌, ◌||◌, ℕ, false};
-ghost use Rattle.failover.specs.Exports.{has_route_link, is_failover_link_of, no_links, with_link};
+ghost use Rattle.failover.specs.Exports.{link_set_has, is_failover_link_of, no_failover_links, with_failover_link};
 
 use base::{MAX_SWITCHES, has, only_if};
 use std::marker::Model;
@@ -17,24 +17,24 @@ const _: () = prove!(size_of::<DownSet>() <= 512);
 
 impl Model for DownSet {
     ghost use Rattle.std.specs.Prelude.{List, ℕ};
-    ghost use Rattle.failover.specs.DownSet.{IsDownLinkSet};
+    ghost use Rattle.failover.specs.DownSet.{IsFailoverDownLinkSet};
 
     ghost Value = { List ℕ };
 
     ghost view = { λ d. d.masks };
 
-    ghost invariant = { λ d. IsDownLinkSet d.masks };
+    ghost invariant = { λ d. IsFailoverDownLinkSet d.masks };
 
     ghost inverse = { λ masks. record { masks = masks } };
 }
 
 impl DownSet {
-    ghost use Rattle.failover.specs.DownSet.{IsDownLinkSet};
+    ghost use Rattle.failover.specs.DownSet.{IsFailoverDownLinkSet};
 
     /// The empty set.
     pub fn empty() -> DownSet
-        ensures value { result ≡ no_links }
-        ensures links { (x y : ℕ) → has_route_link result x y ≡ false }
+        ensures value { result ≡ no_failover_links }
+        ensures links { (x y : ℕ) → link_set_has result x y ≡ false }
     {
         DownSet { masks: [0; 64] }
     }
@@ -44,9 +44,9 @@ impl DownSet {
         requires different { one ≢ two }
         requires first { one < 64 }
         requires second { two < 64 }
-        ensures value { self.new ≡ with_link self.old one two }
+        ensures value { self.new ≡ with_failover_link self.old one two }
         ensures links { (x y : ℕ) →
-            has_route_link self.new x y ≡ (has_route_link self.old x y || is_failover_link_of one two x y) }
+            link_set_has self.new x y ≡ (link_set_has self.old x y || is_failover_link_of one two x y) }
     {
         let low = one.min(two);
         let high = one.max(two);
@@ -55,8 +55,8 @@ impl DownSet {
 
     /// Whether the link of these two switches, in either order, is in the set.
     pub fn has(&self, one: u32, two: u32) -> bool
-        ensures link { result ≡ has_route_link self.now one two }
-        ensures set { IsDownLinkSet self.now }
+        ensures link { result ≡ link_set_has self.now one two }
+        ensures set { IsFailoverDownLinkSet self.now }
     {
         let masks = &self.masks;
         if one >= MAX_SWITCHES || two >= MAX_SWITCHES {

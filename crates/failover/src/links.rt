@@ -1,6 +1,6 @@
 ghost use Rattle.std.specs.Prelude.{◌≡◌, ◌<◌, ◌==◌, bit_and, slice_index, true};
 ghost use Rattle.base.specs.Masks.{has};
-ghost use Rattle.failover.specs.Links.{is_route_link, route_links_at};
+ghost use Rattle.failover.specs.Links.{is_known_route_link, route_links_at};
 
 use crate::down_set::DownSet;
 use base::{MAX_SWITCHES, has, only_if};
@@ -22,12 +22,12 @@ pub fn links_within(neighbours: &[u64; 64], down: &DownSet, one: u32, within: u6
 }
 
 // Whether there is a link from `one` to `other`, which `one` names.
-#[tactic(auto, unfolding(crate::specs::Links::is_route_link))]
+#[tactic(auto, unfolding(crate::specs::Links::is_known_route_link))]
 fn is_link_to(neighbours: &[u64; 64], down: &DownSet, one: u32, other: u32) -> bool
     requires one { one < 64 }
     requires other { other < 64 }
     requires named { has (slice_index neighbours.now one) other ≡ true }
-    ensures { result ≡ is_route_link neighbours.now down.now one other }
+    ensures { result ≡ is_known_route_link neighbours.now down.now one other }
 {
     one != other && has(neighbours[other as usize], one) && !down.has(one, other)
 }

@@ -1,5 +1,5 @@
 ghost use Rattle.std.specs.Prelude.{◌≡◌, ◌<◌, ◌∷◌, IfSome, IfNone};
-ghost use Rattle.failover.specs.Exports.{AreBalls, IsRouteLinksAway, IsBallEdge, IsOutOfReach, IsRouteList, path_by_balls, first_route, advertised_links_of_each, route_to, grown_ball};
+ghost use Rattle.failover.specs.Exports.{AreRouteBalls, IsRouteLinksAway, IsRouteBallEdge, IsOutOfFailoverReach, IsRouteList, route_path_by_balls, first_route, advertised_links_of_each, route_to, grown_route_ball};
 
 use crate::down_set::DownSet;
 use crate::links::links_within;
@@ -50,8 +50,8 @@ fn distance(
     requires from { from < 64 }
     requires target { target < 64 }
     ensures away { IfSome result (λ k. IsRouteLinksAway (advertised_links_of_each neighbours.now down.now) target k from) }
-    ensures balls { IfSome result (AreBalls (advertised_links_of_each neighbours.now down.now) target balls.new) }
-    ensures none { IfNone result (IsOutOfReach (advertised_links_of_each neighbours.now down.now) target from) }
+    ensures balls { IfSome result (AreRouteBalls (advertised_links_of_each neighbours.now down.now) target balls.new) }
+    ensures none { IfNone result (IsOutOfFailoverReach (advertised_links_of_each neighbours.now down.now) target from) }
 {
     let mut ball = only_if(true, target);
     let mut edge = ball;
@@ -78,8 +78,8 @@ fn distance(
 // The ball, and the switches to which a switch of it has a link. Only the edge is searched, because
 // the links of all others stay within the ball.
 fn widened_route_ball(neighbours: &[u64; 64], down: &DownSet, ball: u64, edge: u64) -> u64
-    requires { IsBallEdge (advertised_links_of_each neighbours.now down.now) ball edge }
-    ensures { result ≡ grown_ball (advertised_links_of_each neighbours.now down.now) ball }
+    requires { IsRouteBallEdge (advertised_links_of_each neighbours.now down.now) ball edge }
+    ensures { result ≡ grown_route_ball (advertised_links_of_each neighbours.now down.now) ball }
 {
     let mut wide = ball;
     let mut rest = edge;
@@ -100,8 +100,8 @@ fn walk_failover_route(
     from: u32,
 ) -> Route
     requires { IsRouteList
-        (from ∷ path_by_balls (advertised_links_of_each neighbours.now down.now) balls.now distance from) }
-    ensures { result ≡ from ∷ path_by_balls (advertised_links_of_each neighbours.now down.now) balls.now
+        (from ∷ route_path_by_balls (advertised_links_of_each neighbours.now down.now) balls.now distance from) }
+    ensures { result ≡ from ∷ route_path_by_balls (advertised_links_of_each neighbours.now down.now) balls.now
         distance from }
 {
     let mut switches = [0; 64];

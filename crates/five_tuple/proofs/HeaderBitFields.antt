@@ -3,7 +3,7 @@ use Rattle.std.proofs.Common.{◌%◌, ◌*◌, ◌+◌, ◌/◌, ◌<◌, ◌^�
 use Rattle.std.proofs.lemmas.Nat.{or_shifted, xor_shr, and_le_l, and_le_r}
 use Rattle.std.proofs.lemmas.Bool.Decides.{same_from_decides, Decides-eqb}
 use Rattle.five_tuple.specs.declared.header.Header.{Header}
-use Rattle.five_tuple.specs.Exports.{header_numbered, number_of}
+use Rattle.five_tuple.specs.Exports.{header_numbered, header_number_of}
 use Rattle.std.specs.Int.Bits.{xor_self, xor_add_and}
 
 -- a field is joined below a number that has only zeros there
@@ -44,10 +44,10 @@ same_high_bits a b k =
 
 -- to unpack what packs fields gives the header back
 pub header_numbered-number_of : (h : Header) (n : ℕ) → h.fields.src < 2 ^ 32 → h.fields.dst < 2 ^ 32
-    → h.fields.sport < 2 ^ 16 → h.fields.dport < 2 ^ 16 → h.fields.proto < 2 ^ 8 → n ≡ number_of h
+    → h.fields.sport < 2 ^ 16 → h.fields.dport < 2 ^ 16 → h.fields.proto < 2 ^ 8 → n ≡ header_number_of h
     → header_numbered n ≡ h
 header_numbered-number_of h n hs hd hp hq hr e = search rules
 
 -- the number of the header that a number packs
-pub number_back : (n : ℕ) → n < 2 ^ 104 → number_of (header_numbered n) ≡ n
+pub number_back : (n : ℕ) → n < 2 ^ 104 → header_number_of (header_numbered n) ≡ n
 number_back n h = omega arith

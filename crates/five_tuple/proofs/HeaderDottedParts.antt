@@ -6,7 +6,7 @@ use Rattle.std.specs.Str.Parse.{digits_value}
 use Rattle.std.proofs.lemmas.Bool.{and_cases, and_parts, cases_lt, both_ways, not-false, not-true}
 use Rattle.std.proofs.lemmas.List.Quantifiers.{position-Some}
 use Rattle.std.proofs.lemmas.List.Splits.{slice_split_at}
-use Rattle.five_tuple.specs.Exports.{IsAddressByteBefore, LacksAddressByte, address_from_bytes, address_of, has_leading_zero, number_up_to, text_parts_round_byte}
+use Rattle.five_tuple.specs.Exports.{IsAddressByteBefore, LacksAddressByte, address_from_bytes, address_of, tuple_text_has_leading_zero, tuple_number_up_to, tuple_text_parts_round_byte}
 use Rattle.five_tuple.proofs.HeaderWrittenNumbers.{accepted, leading_zero, no_digit, other_byte, too_large}
 use Rattle.five_tuple.proofs.HeaderPartReadings.{address_reads}
 use Rattle.five_tuple.proofs.HeaderSplitParts.{digits_are_one_part, digits_lack, parts_at, parts_none}
@@ -25,7 +25,7 @@ head [] = []
 head (first ∷ others) = first
 
 first_part : (text part next : List ℕ) (others : List (List ℕ))
-    → text_parts_round_byte 46 text ≡ part ∷ next ∷ others → IsUpToDot text part
+    → tuple_text_parts_round_byte 46 text ≡ part ∷ next ∷ others → IsUpToDot text part
 unfolding head
 first_part text part next others parts = by_place (position (λ b. b == 46) text) refl where
   by_place : (o : Option ℕ) → position (λ b. b == 46) text ≡ o → IsUpToDot text part
@@ -90,8 +90,8 @@ lacks_dot text digits part next others parts =
 
 dotted : (text : List ℕ) (place : ℕ) → place < length text
     → list_all is_ascii_digit (take place text) ≡ true → get_or text place 0 ≡ 46
-    → text_parts_round_byte 46 text ≡ take place text ∷ text_parts_round_byte 46 (drop (place + 1) text)
-dotted text place within digits dot = ap (text_parts_round_byte 46) whole
+    → tuple_text_parts_round_byte 46 text ≡ take place text ∷ tuple_text_parts_round_byte 46 (drop (place + 1) text)
+dotted text place within digits dot = ap (tuple_text_parts_round_byte 46) whole
     ∙ slice_split_at (λ b. b == 46) (take place text) (get_or text place 0) (drop (place + 1) text)
     (digits_lack 46 (take place text) refl digits) (eq-eqb _ _ dot)
   where
@@ -100,16 +100,16 @@ dotted text place within digits dot = ap (text_parts_round_byte 46) whole
 
 pub lacks_plain : (text : List ℕ) (place : ℕ) → place < length text
     → list_all is_ascii_digit (take place text) ≡ true → get_or text place 0 ≡ 46
-    → (nat_lt 0 (length (take place text)) && not (has_leading_zero (take place text))) ≡ false
+    → (nat_lt 0 (length (take place text)) && not (tuple_text_has_leading_zero (take place text))) ≡ false
     → LacksAddressByte text
 unfolding head
 lacks_plain text place within digits dot other part next others parts =
-    ap (number_up_to 255) (ap head (sym parts ∙ dotted text place within digits dot))
+    ap (tuple_number_up_to 255) (ap head (sym parts ∙ dotted text place within digits dot))
     ∙ sym (by_cause (and_cases _ _ other))
   where
     by_cause : (nat_lt 0 (length (take place text)) ≡ false)
-        ⊎ (not (has_leading_zero (take place text)) ≡ false)
-        → None ≡ number_up_to 255 (take place text)
+        ⊎ (not (tuple_text_has_leading_zero (take place text)) ≡ false)
+        → None ≡ tuple_number_up_to 255 (take place text)
     by_cause (inl empty) = no_digit 255 (take place text) (none_of (ltb-false _ _ empty)) where
       none_of : length (take place text) ≤ 0 → length (take place text) ≡ 0
       none_of few = omega arith
@@ -117,7 +117,7 @@ lacks_plain text place within digits dot other part next others parts =
 
 pub byte_before : (text : List ℕ) (place number : ℕ) → place < length text
     → list_all is_ascii_digit (take place text) ≡ true → get_or text place 0 ≡ 46
-    → (nat_lt 0 (length (take place text)) && not (has_leading_zero (take place text))) ≡ true
+    → (nat_lt 0 (length (take place text)) && not (tuple_text_has_leading_zero (take place text))) ≡ true
     → number ≡ digits_value 10 (take place text) → number ≤ 255
     → IsAddressByteBefore text number (drop (place + 1) text)
 byte_before text place number within digits dot plain value small = record {
@@ -127,7 +127,7 @@ byte_before text place number within digits dot plain value small = record {
       (subst (λ n. n ≤ 255) value small)) ∙ ap Some (sym value);
 } where
   both : (nat_lt 0 (length (take place text)) ≡ true)
-      × (not (has_leading_zero (take place text)) ≡ true)
+      × (not (tuple_text_has_leading_zero (take place text)) ≡ true)
   both = and_parts _ _ plain
 
 -- ---- four parts
@@ -156,10 +156,10 @@ lacks_third text rest left first second before then lacks = search (rules, no_th
 -- the last part is read as a number
 pub four_parts : (text rest left end : List ℕ) (first second third : ℕ)
     → IsAddressByteBefore text first rest → IsAddressByteBefore rest second left → IsAddressByteBefore left third end
-    → address_of text ≡ address_from_bytes (Some first) (Some second) (Some third) (number_up_to 255 end)
+    → address_of text ≡ address_from_bytes (Some first) (Some second) (Some third) (tuple_number_up_to 255 end)
 four_parts text rest left end first second third a b c =
     address_reads text a.part b.part c.part end rest left a.parts b.parts c.parts
-    ∙ ap (λ n. address_from_bytes n (number_up_to 255 b.part) (number_up_to 255 c.part)
-    (number_up_to 255 end)) a.number
-    ∙ ap (λ n. address_from_bytes (Some first) n (number_up_to 255 c.part) (number_up_to 255 end))
-    b.number ∙ ap (λ n. address_from_bytes (Some first) (Some second) n (number_up_to 255 end)) c.number
+    ∙ ap (λ n. address_from_bytes n (tuple_number_up_to 255 b.part) (tuple_number_up_to 255 c.part)
+    (tuple_number_up_to 255 end)) a.number
+    ∙ ap (λ n. address_from_bytes (Some first) n (tuple_number_up_to 255 c.part) (tuple_number_up_to 255 end))
+    b.number ∙ ap (λ n. address_from_bytes (Some first) (Some second) n (tuple_number_up_to 255 end)) c.number

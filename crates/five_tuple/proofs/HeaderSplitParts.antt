@@ -7,16 +7,16 @@ use Rattle.std.proofs.lemmas.Option.{cond_some, none-some}
 use Rattle.std.proofs.lemmas.List.Splits.{slice_split_first, slice_split_none, length-slice_split}
 use Rattle.std.proofs.lemmas.List.Sums.{fails_before_first}
 use Rattle.std.specs.Char.{is_ascii_digit}
-use Rattle.five_tuple.specs.Exports.{number_up_to, text_parts_round_byte}
+use Rattle.five_tuple.specs.Exports.{tuple_number_up_to, tuple_text_parts_round_byte}
 
 -- the first such byte is at this place
 pub parts_at : (byte : ℕ) (text : List ℕ) (at : ℕ) → position (λ b. b == byte) text ≡ Some at
-    → text_parts_round_byte byte text ≡ take at text ∷ text_parts_round_byte byte (drop (at + 1) text)
+    → tuple_text_parts_round_byte byte text ≡ take at text ∷ tuple_text_parts_round_byte byte (drop (at + 1) text)
 parts_at byte text at e = search (rules, cond_some, slice_split_first, ltb-true)
 
 -- there is no such byte
 pub parts_none : (byte : ℕ) (text : List ℕ) → position (λ b. b == byte) text ≡ None
-    → text_parts_round_byte byte text ≡ text ∷ []
+    → tuple_text_parts_round_byte byte text ≡ text ∷ []
 parts_none byte text e =
     let l = false_from_ne_true (ltb (position_or_len (λ b. b == byte) text) (length text))
     (λ t. none-some (position_or_len (λ b. b == byte) text) (sym e
@@ -31,12 +31,12 @@ parts_nonempty [] h = absurd (omega arith)
 parts_nonempty (q ∷ more) h = (q, more, refl)
 
 cut_cases_at : (byte : ℕ) (text : List ℕ) (o : Option ℕ) → position (λ b. b == byte) text ≡ o
-    → (text_parts_round_byte byte text ≡ text ∷ [])
-    ⊎ ((p q : List ℕ) × (more : List (List ℕ)) × (text_parts_round_byte byte text ≡ p ∷ q ∷ more))
+    → (tuple_text_parts_round_byte byte text ≡ text ∷ [])
+    ⊎ ((p q : List ℕ) × (more : List (List ℕ)) × (tuple_text_parts_round_byte byte text ≡ p ∷ q ∷ more))
 cut_cases_at byte text None e = inl (parts_none byte text e)
 cut_cases_at byte text (Some at) e =
     let rest = drop (at + 1) text in
-    let w = parts_nonempty (text_parts_round_byte byte rest) (omega (arith, length-slice_split)) in
+    let w = parts_nonempty (tuple_text_parts_round_byte byte rest) (omega (arith, length-slice_split)) in
     inr (take at text, w.0, w.1, parts_at byte text at e ∙ ap (λ xs. take at text ∷ xs) w.2)
 
 -- digits have no other byte among them
@@ -46,23 +46,23 @@ digits_lack byte text other digits k d h = false_from_ne_true _ (λ same. both_w
     (list_all_at is_ascii_digit text k d h (ap is_ascii_digit (eqb-true _ _ same) ∙ other)) digits)
 
 pub digits_are_one_part : (byte : ℕ) (text : List ℕ) → is_ascii_digit byte ≡ false
-    → list_all is_ascii_digit text ≡ true → text_parts_round_byte byte text ≡ text ∷ []
+    → list_all is_ascii_digit text ≡ true → tuple_text_parts_round_byte byte text ≡ text ∷ []
 digits_are_one_part byte text other digits = search (rules, slice_split_none, digits_lack)
 
 -- a number has no other byte in it, so it is one part
 number_is_one_part : (byte most : ℕ) (text : List ℕ) (n : ℕ) → is_ascii_digit byte ≡ false
-    → number_up_to most text ≡ Some n → text_parts_round_byte byte text ≡ text ∷ []
-unfolding number_up_to
+    → tuple_number_up_to most text ≡ Some n → tuple_text_parts_round_byte byte text ≡ text ∷ []
+unfolding tuple_number_up_to
 number_is_one_part byte most text n other e = search (rules, cond_some, digits_are_one_part)
 
 last_part_at : (byte most : ℕ) (text : List ℕ) → is_ascii_digit byte ≡ false → (o : Option ℕ)
-    → number_up_to most text ≡ o → (text_parts_round_byte byte text ≡ text ∷ [])
-    ⊎ ((p q : List ℕ) × (more : List (List ℕ)) × (text_parts_round_byte byte text ≡ p ∷ q ∷ more)
-    × (number_up_to most text ≡ None))
+    → tuple_number_up_to most text ≡ o → (tuple_text_parts_round_byte byte text ≡ text ∷ [])
+    ⊎ ((p q : List ℕ) × (more : List (List ℕ)) × (tuple_text_parts_round_byte byte text ≡ p ∷ q ∷ more)
+    × (tuple_number_up_to most text ≡ None))
 last_part_at byte most text other o e = search (rules, number_is_one_part, cut_cases_at)
 
 -- the last part: one where it is a number, whatever bytes stand in it else
 pub last_part : (byte most : ℕ) (text : List ℕ) → is_ascii_digit byte ≡ false
-    → (text_parts_round_byte byte text ≡ text ∷ []) ⊎ ((p q : List ℕ) × (more : List (List ℕ))
-    × (text_parts_round_byte byte text ≡ p ∷ q ∷ more) × (number_up_to most text ≡ None))
-last_part byte most text other = last_part_at byte most text other (number_up_to most text) refl
+    → (tuple_text_parts_round_byte byte text ≡ text ∷ []) ⊎ ((p q : List ℕ) × (more : List (List ℕ))
+    × (tuple_text_parts_round_byte byte text ≡ p ∷ q ∷ more) × (tuple_number_up_to most text ≡ None))
+last_part byte most text other = last_part_at byte most text other (tuple_number_up_to most text) refl

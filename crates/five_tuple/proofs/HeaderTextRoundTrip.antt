@@ -13,7 +13,7 @@ use Rattle.std.proofs.lemmas.Option.{none-some}
 use Rattle.std.proofs.lemmas.Slice.Eq.{bytes_eq-Decides}
 use Rattle.std.proofs.lemmas.Str.Parse.{IsNumeralModel, numerals_by_value}
 use Rattle.five_tuple.specs.declared.matching.Proto.{Proto}
-use Rattle.five_tuple.specs.Exports.{AddressBlock, IsAddressBlock, IsPortRange, IsProtocol, PortRangeValue, address_of, address_text, address_block_round, has_leading_zero, number_up_to, text_parts_round_byte, prefix_of, prefix_text, proto_number_of, proto_number_text, proto_of, proto_text, range_of, range_text}
+use Rattle.five_tuple.specs.Exports.{AddressBlock, IsAddressBlock, IsPortRange, IsProtocol, PortRangeValue, address_of, address_text, address_block_round, tuple_text_has_leading_zero, tuple_number_up_to, tuple_text_parts_round_byte, address_prefix_of, address_prefix_text, proto_number_of, proto_number_text, proto_of, proto_text, port_range_of, port_range_text}
 use Rattle.five_tuple.proofs.HeaderWrittenNumbers.{accepted}
 use Rattle.five_tuple.proofs.HeaderSplitParts.{digits_lack, digits_are_one_part}
 use Rattle.five_tuple.proofs.HeaderPartReadings.{address_reads, block_reads, range_reads}
@@ -24,11 +24,11 @@ own = numerals_by_value _ (search rules)
 pub decimal_is_digits : (n : ℕ) → n < 2 ^ 64 → list_all is_ascii_digit (decimal n) ≡ true
 decimal_is_digits n h = digits_decimal own n h
 
-no_leading_zero : (n : ℕ) → n < 2 ^ 64 → has_leading_zero (decimal n) ≡ false
+no_leading_zero : (n : ℕ) → n < 2 ^ 64 → tuple_text_has_leading_zero (decimal n) ≡ false
 no_leading_zero n h = search (rules, ne_eqb, first_decimal, decimal_digit)
 
 -- a printed number is read back
-pub number_back : (most n : ℕ) → n ≤ most → n < 2 ^ 64 → number_up_to most (decimal n) ≡ Some n
+pub number_back : (most n : ℕ) → n ≤ most → n < 2 ^ 64 → tuple_number_up_to most (decimal n) ≡ Some n
 number_back most n l h = let value = digits_value-decimal own n h in
     sym (accepted most (decimal n) (decimal_nonempty n h) (no_leading_zero n h)
     (decimal_is_digits n h) (omega arith)) ∙ ap Some value
@@ -50,11 +50,11 @@ first_digit n rest h = let some = decimal_nonempty n h in
 
 -- a part of digits is taken off at the byte after it
 part_off : (byte n : ℕ) (rest : List ℕ) → n < 2 ^ 64 → is_ascii_digit byte ≡ false
-    → text_parts_round_byte byte (decimal n ++ byte ∷ rest) ≡ decimal n ∷ text_parts_round_byte byte rest
+    → tuple_text_parts_round_byte byte (decimal n ++ byte ∷ rest) ≡ decimal n ∷ tuple_text_parts_round_byte byte rest
 part_off byte n rest h other = slice_split_at (λ b. b == byte) (decimal n) byte rest
     (digits_lack byte (decimal n) other (decimal_is_digits n h)) (eq-eqb byte byte refl)
 
-whole : (byte n : ℕ) → n < 2 ^ 64 → is_ascii_digit byte ≡ false → text_parts_round_byte byte (decimal n)
+whole : (byte n : ℕ) → n < 2 ^ 64 → is_ascii_digit byte ≡ false → tuple_text_parts_round_byte byte (decimal n)
     ≡ decimal n ∷ []
 whole byte n h other = digits_are_one_part byte (decimal n) other (decimal_is_digits n h)
 
@@ -113,8 +113,8 @@ block_same p v = search rules
 block_at_zero : (p : AddressBlock) → IsAddressBlock p → p.len ≡ 0 → address_block_round 0 0 ≡ p
 block_at_zero p v e = search rules
 
-pub prefix_back : (p : AddressBlock) → IsAddressBlock p → prefix_of (prefix_text p) ≡ Some p
-unfolding prefix_text prefix_of
+pub prefix_back : (p : AddressBlock) → IsAddressBlock p → address_prefix_of (address_prefix_text p) ≡ Some p
+unfolding address_prefix_text address_prefix_of
 prefix_back p v = elim (cases_Bool (p.len == 0)) [
   | inl e ↦ rw e (ap Some (block_at_zero p v (eqb-true p.len 0 e)))
   | inr e ↦ let text = address_text p.address ++ 47 ∷ decimal p.len in
@@ -137,8 +137,8 @@ number_no_keyword : (n c : ℕ) (keyword : List ℕ) → n < 2 ^ 64 → is_ascii
 number_no_keyword n c keyword h other = no_keyword (decimal n) keyword c
     (digit_first (decimal n) (decimal_nonempty n h) (decimal_is_digits n h)) other
 
-one_port_back : (n : ℕ) → n < 2 ^ 16 → range_of (decimal n) ≡ Some (record { low = n; high = n })
-unfolding range_of
+one_port_back : (n : ℕ) → n < 2 ^ 16 → port_range_of (decimal n) ≡ Some (record { low = n; high = n })
+unfolding port_range_of
 one_port_back n h = rw (
   number_no_keyword n 97 (110 ∷ 121 ∷ []) (omega arith) refl,
   whole 45 n (omega arith) refl,
@@ -146,9 +146,9 @@ one_port_back n h = rw (
   le-leb n n (omega arith),
 )
 
-two_ports_back : (m n : ℕ) → m ≤ n → n < 2 ^ 16 → range_of (decimal m ++ 45 ∷ decimal n) ≡ Some
+two_ports_back : (m n : ℕ) → m ≤ n → n < 2 ^ 16 → port_range_of (decimal m ++ 45 ∷ decimal n) ≡ Some
     (record { low = m; high = n })
-unfolding range_of
+unfolding port_range_of
 two_ports_back m n l h =
     let read = range_reads (decimal m ++ 45 ∷ decimal n) (decimal m) (decimal n)
     (part_off 45 m (decimal n) (omega arith) refl) in
@@ -166,12 +166,12 @@ made_ports : (low high : ℕ) (r : PortRangeValue) → low ≡ r.low → high �
 made_ports low high r e f = rw (e, f)
 
 every_port_back : (r : PortRangeValue) → r.low ≡ 0 → r.high ≡ 65535
-    → range_of (codes "any") ≡ Some r
-unfolding range_of
+    → port_range_of (codes "any") ≡ Some r
+unfolding port_range_of
 every_port_back r e f = ap Some (made_ports 0 65535 r (sym e) (sym f))
 
-pub range_back : (r : PortRangeValue) → IsPortRange r → range_of (range_text r) ≡ Some r
-unfolding range_text range_of
+pub range_back : (r : PortRangeValue) → IsPortRange r → port_range_of (port_range_text r) ≡ Some r
+unfolding port_range_text port_range_of
 range_back r v =
     search (rules, cases_Bool, every_port_back, eqb-true, one_port_back, two_ports_back)
 
@@ -182,7 +182,7 @@ proto_number_back n h = search (rules, cases_Bool, eqb-true, number_no_keyword, 
 -- `any` is no protocol's name
 not_any : (text : List ℕ) (n : ℕ) → proto_number_of text ≡ Some n → bytes_eq text (codes "any")
     ≡ false
-unfolding proto_number_of number_up_to
+unfolding proto_number_of tuple_number_up_to
 not_any text n h = search (rules, false_from_ne_true, bytes_eq-Decides, none-some)
 
 pub proto_back : (p : Proto) → IsProtocol p → proto_of (proto_text p) ≡ Some p

@@ -6,7 +6,7 @@ use Rattle.std.proofs.lemmas.Bool.{cond_both, or_left}
 use Rattle.std.proofs.lemmas.List.Elements.{All-append, All-cons, All-weaker}
 use Rattle.std.proofs.lemmas.List.Sums.{AllPass-from_list_all}
 use Rattle.five_tuple.specs.declared.matching.Proto.{Proto}
-use Rattle.five_tuple.specs.Exports.{AddressBlock, IsAddressBlock, IsPortRange, IsProtocol, PortRangeValue, address_text, is_plain_tuple_char, prefix_text, proto_number_text, proto_text, range_text}
+use Rattle.five_tuple.specs.Exports.{AddressBlock, IsAddressBlock, IsPortRange, IsProtocol, PortRangeValue, address_text, is_plain_tuple_char, address_prefix_text, proto_number_text, proto_text, port_range_text}
 use Rattle.five_tuple.proofs.HeaderTextRoundTrip.{decimal_is_digits}
 
 abbrev IsPlain : List ℕ → Type 0
@@ -36,15 +36,15 @@ plain_address a fits = plain_pair 46 _ _ refl (plain_number (a / 2 ^ 24) (omega 
     (plain_pair 46 _ _ refl (plain_number (a / 2 ^ 16 % 2 ^ 8) (omega arith)) (plain_pair 46 _ _
     refl (plain_number (a / 2 ^ 8 % 2 ^ 8) (omega arith)) (plain_number (a % 2 ^ 8) (omega arith))))
 
-pub plain_prefix : (p : AddressBlock) → IsAddressBlock p → IsPlain (prefix_text p)
-unfolding prefix_text
+pub plain_prefix : (p : AddressBlock) → IsAddressBlock p → IsPlain (address_prefix_text p)
+unfolding address_prefix_text
 plain_prefix p sound =
     cond_both (p.len == 0) _ _ IsPlain (λ _. plain_tested (codes "any") refl)
     (λ _. plain_pair 47 (address_text p.address) (decimal p.len) refl
     (plain_address p.address sound.address) (plain_number p.len (omega (arith, sound.len))))
 
-pub plain_range : (r : PortRangeValue) → IsPortRange r → IsPlain (range_text r)
-unfolding range_text
+pub plain_range : (r : PortRangeValue) → IsPortRange r → IsPlain (port_range_text r)
+unfolding port_range_text
 plain_range r sound = let low = plain_number r.low (omega (arith, sound.ordered, sound.bound)) in
     cond_both (r.low == 0 && r.high == 65535) _ _ IsPlain (λ _. plain_tested (codes "any") refl)
     (λ _. cond_both (r.low == r.high) _ _ IsPlain (λ _. low) (λ _. plain_pair 45 (decimal r.low)

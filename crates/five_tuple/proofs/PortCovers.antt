@@ -8,9 +8,9 @@ use Rattle.std.proofs.lemmas.List.Elements.{All-cons}
 use Rattle.std.proofs.lemmas.List.Kept.{AllPairs-cons}
 use Rattle.std.proofs.lemmas.Nat.{and_le_l, mod-mul-add, mod-pow-add, pow_below, shr_split}
 use Rattle.std.proofs.lemmas.Nat.Bits.{and_high_mask}
-use Rattle.five_tuple.specs.Exports.{AreTuplePortBlocksApart, IsAlignedPortBlock, IsPortCover, IsLargestPortBlock, IsPortBlock, block_holds}
+use Rattle.five_tuple.specs.Exports.{AreTuplePortBlocksApart, IsAlignedTuplePortBlock, IsTuplePortCover, IsLargestTuplePortBlock, IsTuplePortBlock, tuple_port_block_holds}
 
-pub exponent_small : (first high e : ℕ) → IsAlignedPortBlock first high e → high < 2 ^ 16 → e ≤ 16
+pub exponent_small : (first high e : ℕ) → IsAlignedTuplePortBlock first high e → high < 2 ^ 16 → e ≤ 16
 exponent_small first high e b h = elim (cases_lt 16 e) [
   | inl more ↦ absurd (omega (arith, pow_below 16 e more, b.fits))
   | inr most ↦ most
@@ -29,7 +29,7 @@ in_block port first e aligned =
     )
 
 holds_is : (port first e : ℕ) → first % 2 ^ e ≡ 0 → e ≤ 16 → port < 2 ^ 16
-    → block_holds port (first, 2 ^ 16 - 2 ^ e) ≡ (leb first port && ltb port (first + 2 ^ e))
+    → tuple_port_block_holds port (first, 2 ^ 16 - 2 ^ e) ≡ (leb first port && ltb port (first + 2 ^ e))
 holds_is port first e aligned small bound = let inside = in_block port first e aligned in
     ap (λ n. n == first) (and_high_mask 16 e small port bound)
     ∙ same_from_decides (eqb (port / 2 ^ e * 2 ^ e) first)
@@ -46,48 +46,48 @@ none_left : (low high port : ℕ) → high < low → false ≡ (leb low port && 
 none_left low high port h = grind (arith, nat_tests)
 
 -- some block holds the port just where the range does
-pub exact : (low high : ℕ) (xs : List (ℕ × ℕ)) → IsPortCover low high xs → high < 2 ^ 16 → (port : ℕ)
-    → port < 2 ^ 16 → list_any (block_holds port) xs ≡ (nat_le low port && nat_le port high)
+pub exact : (low high : ℕ) (xs : List (ℕ × ℕ)) → IsTuplePortCover low high xs → high < 2 ^ 16 → (port : ℕ)
+    → port < 2 ^ 16 → list_any (tuple_port_block_holds port) xs ≡ (nat_le low port && nat_le port high)
 exact low high [] c h port p = none_left low high port c
 exact low high (b ∷ bs) (e, l, same, rest) h port p =
-    let head = ap (block_holds port) same ∙ holds_is port low e l.block.aligned
+    let head = ap (tuple_port_block_holds port) same ∙ holds_is port low e l.block.aligned
     (exponent_small low high e l.block h) p in
     rw (head, exact (low + 2 ^ e) high bs rest h port p)
     (join_ranges low (low + 2 ^ e) high port (omega arith) l.block.fits)
 
 -- each block begins at the low end or above
-from_low : (low high : ℕ) (xs : List (ℕ × ℕ)) → IsPortCover low high xs → All (λ b. low ≤ b.0) xs
+from_low : (low high : ℕ) (xs : List (ℕ × ℕ)) → IsTuplePortCover low high xs → All (λ b. low ≤ b.0) xs
 from_low low high [] c = λ k d h. absurd (omega arith)
 from_low low high (b ∷ bs) (e, l, same, rest) = All-cons (λ b. low ≤ b.0) b bs
     (rw same (omega arith)) (λ k d h. omega (arith, from_low (low + 2 ^ e) high bs rest k d h))
 
-pub ascending : (low high : ℕ) (xs : List (ℕ × ℕ)) → IsPortCover low high xs
+pub ascending : (low high : ℕ) (xs : List (ℕ × ℕ)) → IsTuplePortCover low high xs
     → AllPairs (λ a b. a.0 < b.0) xs
 ascending low high [] c = λ i j d h k. absurd (omega arith)
 ascending low high (b ∷ bs) (e, l, same, rest) =
     search (rules, AllPairs-cons, from_low, ascending (low + 2 ^ e) high bs rest)
 
-apart : (first high e : ℕ) → IsAlignedPortBlock first high e → high < 2 ^ 16 → (b : ℕ × ℕ)
+apart : (first high e : ℕ) → IsAlignedTuplePortBlock first high e → high < 2 ^ 16 → (b : ℕ × ℕ)
     → first + 2 ^ e ≤ b.0 → AreTuplePortBlocksApart (first, 2 ^ 16 - 2 ^ e) b
 apart first high e block h b above port p held other =
     let below = and_parts (leb first port) (ltb port (first + 2 ^ e))
     (sym (holds_is port first e block.aligned (exponent_small first high e block h) p) ∙ held) in
     omega (arith, ltb-true, eqb-true (bit_and port b.1) b.0 other, and_le_l port b.1)
 
-pub disjoint : (low high : ℕ) (xs : List (ℕ × ℕ)) → IsPortCover low high xs → high < 2 ^ 16
+pub disjoint : (low high : ℕ) (xs : List (ℕ × ℕ)) → IsTuplePortCover low high xs → high < 2 ^ 16
     → AllPairs AreTuplePortBlocksApart xs
 disjoint low high [] c h = λ i j d u k. absurd (omega arith)
 disjoint low high (b ∷ bs) (e, l, same, rest) h = AllPairs-cons AreTuplePortBlocksApart b bs
     (λ k d u. rw same (apart low high e l.block h _ (from_low (low + 2 ^ e) high bs rest k d u)))
     (disjoint (low + 2 ^ e) high bs rest h)
 
-pub masked : (low high : ℕ) (xs : List (ℕ × ℕ)) → IsPortCover low high xs → high < 2 ^ 16
-    → All IsPortBlock xs
+pub masked : (low high : ℕ) (xs : List (ℕ × ℕ)) → IsTuplePortCover low high xs → high < 2 ^ 16
+    → All IsTuplePortBlock xs
 masked low high [] c h = λ k d u. absurd (omega arith)
 masked low high (b ∷ bs) (e, l, same, rest) h =
     let pos = pow_pos e in
     let first : low < 2 ^ 16 = omega (arith, l.block.fits) in
-    All-cons IsPortBlock b bs
+    All-cons IsTuplePortBlock b bs
     (rw same (record {
       value = first;
       mask = omega arith;
@@ -124,7 +124,7 @@ aligned_rise n m h odd =
     ]
 
 -- where a block of 2 ^ m fits and none of twice that size
-same_size : (m low high e : ℕ) → IsLargestPortBlock low high e → low % 2 ^ m ≡ 0
+same_size : (m low high e : ℕ) → IsLargestTuplePortBlock low high e → low % 2 ^ m ≡ 0
     → low + 2 ^ m ≤ high + 1 → high + 1 < low + 2 ^ suc m → e ≡ m
 same_size m low high e l aligned fits ends =
     let least : m ≤ e = l.largest m (record { aligned = aligned; fits = fits }) in
@@ -135,7 +135,7 @@ same_size m low high e l aligned fits ends =
     ]
 
 -- where twice the block would be aligned, it does not fit
-ends_before : (low high e : ℕ) → IsLargestPortBlock low high e → low % 2 ^ suc e ≡ 0
+ends_before : (low high e : ℕ) → IsLargestTuplePortBlock low high e → low % 2 ^ suc e ≡ 0
     → high + 1 < low + 2 ^ suc e
 ends_before low high e l aligned = search rules
 
@@ -143,7 +143,7 @@ ends_before low high e l aligned = search rules
 multiple_large : (n m : ℕ) → 0 < n → n % 2 ^ m ≡ 0 → 2 ^ m ≤ n
 multiple_large n m pos aligned = search (rules, mod-eq_of_lt)
 
-exponent_at_even : (low high e : ℕ) → IsAlignedPortBlock low high e → 0 < low → high < 2 ^ 16
+exponent_at_even : (low high e : ℕ) → IsAlignedTuplePortBlock low high e → 0 < low → high < 2 ^ 16
     → low % 2 ^ suc e ≡ 0 → e ≤ 14
 exponent_at_even low high e block pos h even = elim (cases_lt 14 e) [
   | inl more ↦ let p : 2 ^ 16 ≤ 2 ^ suc e = pow-le-pow_right (omega arith) {i = 16} {j = suc e}
@@ -157,7 +157,7 @@ exponent_past : (low e t : ℕ) → low % 2 ^ t ≡ 0 → (low % 2 ^ suc e ≡ 0
 exponent_past low e t aligned odd = search (rules, aligned_down)
 
 -- what is left is shorter than the alignment: each further block is smaller than the one before it
-falling : (m low high : ℕ) (xs : List (ℕ × ℕ)) → IsPortCover low high xs → low % 2 ^ m ≡ 0
+falling : (m low high : ℕ) (xs : List (ℕ × ℕ)) → IsTuplePortCover low high xs → low % 2 ^ m ≡ 0
     → high + 1 < low + 2 ^ m → length xs ≤ m
 falling m low high [] c aligned h = omega arith
 falling zero low high (b ∷ bs) (e, l, same, rest) aligned h = search rules
@@ -168,18 +168,18 @@ falling (suc m) low high (b ∷ bs) (e, l, same, rest) aligned h =
       | inr longer ↦ let size : e ≡ m = same_size m low high e l here longer h in
           omega (
             arith,
-            falling m (low + 2 ^ m) high bs (subst (λ k. IsPortCover (low + 2 ^ k) high bs) size rest)
+            falling m (low + 2 ^ m) high bs (subst (λ k. IsTuplePortCover (low + 2 ^ k) high bs) size rest)
                 (aligned_next low m here) (omega (arith, pow-suc 2 m)),
           )
     ]
 
-none_past : (low high : ℕ) (xs : List (ℕ × ℕ)) → IsPortCover low high xs → high < low → length xs ≡ 0
+none_past : (low high : ℕ) (xs : List (ℕ × ℕ)) → IsTuplePortCover low high xs → high < low → length xs ≡ 0
 none_past low high [] c h = refl
 none_past low high (b ∷ bs) (e, l, same, rest) h = absurd (omega (arith, l.block.fits, pow_pos e))
 
 -- the blocks grow with the alignment of the place where they begin, until one does not fit, and
 -- then they fall
-rising : (xs : List (ℕ × ℕ)) (t low high : ℕ) → IsPortCover low high xs → 0 < low → high < 2 ^ 16
+rising : (xs : List (ℕ × ℕ)) (t low high : ℕ) → IsTuplePortCover low high xs → 0 < low → high < 2 ^ 16
     → t ≤ 15 → low % 2 ^ t ≡ 0 → length xs + t ≤ 30
 rising [] t low high c pos h small aligned = omega arith
 rising (b ∷ bs) t low high (e, l, same, rest) pos h small aligned =
@@ -208,7 +208,7 @@ rising (b ∷ bs) t low high (e, l, same, rest) pos h small aligned =
     ]
 
 -- a range that begins at port 0
-few_from_zero : (xs : List (ℕ × ℕ)) (low high : ℕ) → IsPortCover low high xs → low ≡ 0 → high < 2 ^ 16
+few_from_zero : (xs : List (ℕ × ℕ)) (low high : ℕ) → IsTuplePortCover low high xs → low ≡ 0 → high < 2 ^ 16
     → length xs ≤ 30
 few_from_zero [] low high c zero_low h = omega arith
 few_from_zero (b ∷ bs) low high (e, l, same, rest) zero_low h =
@@ -223,29 +223,29 @@ few_from_zero (b ∷ bs) low high (e, l, same, rest) zero_low h =
           omega (arith, none_past (low + 2 ^ e) high bs rest (omega arith))
     ]
 
-pub few : (low high : ℕ) (xs : List (ℕ × ℕ)) → IsPortCover low high xs → high < 2 ^ 16 → length xs ≤ 30
+pub few : (low high : ℕ) (xs : List (ℕ × ℕ)) → IsTuplePortCover low high xs → high < 2 ^ 16 → length xs ≤ 30
 few low high xs c h = elim (cases_lt 0 low) [
   | inl pos ↦ omega (arith, rising xs 0 low high c pos h (omega arith) (mod-one low))
   | inr none ↦ few_from_zero xs low high c (omega arith) h
 ]
 
 -- no two lists cover one range
-pub same_cover : (low high : ℕ) (xs ys : List (ℕ × ℕ)) → IsPortCover low high xs → IsPortCover low high ys
+pub same_cover : (low high : ℕ) (xs ys : List (ℕ × ℕ)) → IsTuplePortCover low high xs → IsTuplePortCover low high ys
     → xs ≡ ys
 same_cover low high [] [] c d = refl
 same_cover low high [] (y ∷ ys) c (e, l, same, rest) = absurd (omega (arith, l.block.fits, pow_pos))
 same_cover low high (x ∷ xs) [] (e, l, same, rest) d = absurd (omega (arith, l.block.fits, pow_pos))
 same_cover low high (x ∷ xs) (y ∷ ys) (e, l, same, rest) (f, m, also, tail) =
     let size : f ≡ e = omega (arith, l.largest f m.block, m.largest e l.block) in
-    let other = subst (λ k. IsPortCover (low + 2 ^ k) high ys) size tail in
+    let other = subst (λ k. IsTuplePortCover (low + 2 ^ k) high ys) size tail in
     let heads = ap {B = ℕ × ℕ} (λ k. (low, 2 ^ 16 - 2 ^ k)) size in
     cc (same_cover (low + 2 ^ e) high xs ys rest other)
 
 -- one more block, where a cover of what is left completes the blocks before it
 pub one_more : (low high next e size : ℕ) (blocks pushed more : List (ℕ × ℕ))
-    → IsLargestPortBlock next high e → size ≡ 2 ^ e
-    → ((rest : List (ℕ × ℕ)) → IsPortCover next high rest → IsPortCover low high (blocks ++ rest))
-    → pushed ≡ blocks ++ (next, 2 ^ 16 - size) ∷ [] → IsPortCover (next + size) high more
-    → IsPortCover low high (pushed ++ more)
+    → IsLargestTuplePortBlock next high e → size ≡ 2 ^ e
+    → ((rest : List (ℕ × ℕ)) → IsTuplePortCover next high rest → IsTuplePortCover low high (blocks ++ rest))
+    → pushed ≡ blocks ++ (next, 2 ^ 16 - size) ∷ [] → IsTuplePortCover (next + size) high more
+    → IsTuplePortCover low high (pushed ++ more)
 one_more low high next e size blocks pushed more l is completes push tail =
     search (rules, append_assoc)

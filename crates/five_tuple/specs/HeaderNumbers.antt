@@ -2,7 +2,7 @@
 use Rattle.std.specs.Prelude.{◌%◌, ◌&&◌, ◌/◌, ◌==◌, ◌^◌, Bool, ℕ}
 use Rattle.five_tuple.specs.declared.header.Fields.{Fields}
 use Rattle.five_tuple.specs.declared.header.Header.{Header}
-use Rattle.five_tuple.specs.Header.{fields_of, number_of}
+use Rattle.five_tuple.specs.Header.{header_fields_of, header_number_of}
 
 abbrev pub header_of : Fields → Header
 header_of fields = record { fields = fields }
@@ -19,7 +19,7 @@ header_numbered n = header_of (record {
 
 -- five numbers at the places that the fields have in a header's number
 abbrev pub packed_header_number : ℕ → ℕ → ℕ → ℕ → ℕ → ℕ
-packed_header_number src dst sport dport proto = number_of (header_of (record {
+packed_header_number src dst sport dport proto = header_number_of (header_of (record {
   src = src;
   dst = dst;
   sport = sport;
@@ -28,10 +28,10 @@ packed_header_number src dst sport dport proto = number_of (header_of (record {
 }))
 
 -- the same fields: what `==` and the keys of maps compare
-abbrev pub fields_eq : Fields → Fields → Bool
-fields_eq a b =
+abbrev pub header_fields_eq : Fields → Fields → Bool
+header_fields_eq a b =
     (a.src == b.src) && (a.dst == b.dst) && (a.sport == b.sport) && (a.dport == b.dport)
     && (a.proto == b.proto)
 
 abbrev pub header_eq : Header → Header → Bool
-header_eq a b = fields_eq (fields_of a) (fields_of b)
+header_eq a b = header_fields_eq (header_fields_of a) (header_fields_of b)

@@ -16,7 +16,7 @@ proto_number_text n =
     (if n == 17 then codes "udp" else decimal n))
 
 -- both addresses, both ports and the protocol, separated by blanks
-unfoldable pub fields_text : Fields → List ℕ
-fields_text x =
+unfoldable pub header_fields_text : Fields → List ℕ
+header_fields_text x =
     join_with_byte 32 (address_text x.src ∷ address_text x.dst ∷ decimal x.sport ∷ decimal x.dport
     ∷ proto_number_text x.proto ∷ [])

@@ -12,14 +12,14 @@ abbrev pub is_plain_tuple_char : ℕ → Bool
 is_plain_tuple_char c = is_ascii_digit c || is_ascii_lowercase c || c == 45 || c == 46 || c == 47
 
 -- every address, or the block's address, a slash and its length (RFC 4632, section 3.1)
-unfoldable pub prefix_text : AddressBlock → List ℕ
-prefix_text p =
+unfoldable pub address_prefix_text : AddressBlock → List ℕ
+address_prefix_text p =
     if p.len == 0 then codes "any" else
     join_with_byte 47 (address_text p.address ∷ decimal p.len ∷ [])
 
 -- every port, one port, or both ends
-unfoldable pub range_text : PortRangeValue → List ℕ
-range_text r =
+unfoldable pub port_range_text : PortRangeValue → List ℕ
+port_range_text r =
     if r.low == 0 && r.high == 65535 then codes "any" else
     (if r.low == r.high then decimal r.low else
     join_with_byte 45 (decimal r.low ∷ decimal r.high ∷ []))

@@ -1,5 +1,5 @@
 ghost use Rattle.std.specs.Prelude.{◌≡◌, ◌^◌, ◌<◌};
-ghost use Rattle.five_tuple.specs.Exports.{HeaderLaws, IsHeader, fields_of, header_numbered, header_of, number_of};
+ghost use Rattle.five_tuple.specs.Exports.{HeaderLaws, IsHeader, header_fields_of, header_numbered, header_of, header_number_of};
 
 /// The five fields of a packet: IPv4 addresses (RFC 791), ports (RFC 768, RFC 793) and protocol.
 ///
@@ -37,14 +37,14 @@ impl Header {
 
     /// The fields of this header; `pack` makes the same header of them.
     pub fn fields(&self) -> Fields
-        ensures { result ≡ fields_of self.now }
+        ensures { result ≡ header_fields_of self.now }
     {
         self.fields
     }
 
     /// The number that packs the fields. Each number below 2^104 belongs to exactly one header.
     pub fn number(&self) -> u128
-        ensures number { result ≡ number_of self.now }
+        ensures number { result ≡ header_number_of self.now }
         ensures bound { result < 2 ^ 104 }
         ensures back { header_numbered result ≡ self.now }
         ensures header { IsHeader self.now }

@@ -6,13 +6,14 @@
 //! each printed form is read back. At most 30 blocks cover a range: they have exactly its ports,
 //! each in one block. Laws, functions with an empty body, ensure the same if no call runs.
 //!
-//! A caller, which imports `option_map` from std, `prefix_matches` from `specs/Header.antt` and
-//! `prefix_of` from `specs/Texts.antt`:
+//! A caller, which imports `option_map` from std, `address_prefix_matches` from `specs/Header.antt`
+//! and `address_prefix_of` from `specs/Texts.antt`:
 //!
 //! ```rust
 //! /// Whether a packet goes to the block of addresses that the text names, if it names one.
 //! pub fn goes_to(packet: &Fields, block: &[u8]) -> Option<bool>
-//!     ensures { result ≡ option_map (λ p. prefix_matches p packet.now.dst) (prefix_of block.now) }
+//!     ensures { result ≡ option_map (λ p. address_prefix_matches p packet.now.dst)
+//!         (address_prefix_of block.now) }
 //! {
 //!     let block = read_prefix(block)?;
 //!     Some(block.matches(packet.dst))

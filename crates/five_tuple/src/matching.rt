@@ -1,5 +1,5 @@
 ghost use Rattle.std.specs.Prelude.{◌≡◌, ◌≤◌};
-ghost use Rattle.five_tuple.specs.Exports.{IsAddressBlock, address_block_round, prefix_matches, proto_matches, range_matches};
+ghost use Rattle.five_tuple.specs.Exports.{IsAddressBlock, address_block_round, address_prefix_matches, proto_matches, port_range_matches};
 
 use std::marker::Model;
 
@@ -44,7 +44,7 @@ impl Prefix {
 
     /// Whether the address lies in this block.
     pub fn matches(&self, address: u32) -> bool
-        ensures { result ≡ prefix_matches self.now address }
+        ensures { result ≡ address_prefix_matches self.now address }
     {
         self.len == 0 || (address ^ self.address) >> (32 - self.len) == 0
     }
@@ -73,7 +73,7 @@ impl Model for PortRange {
 impl PortRange {
     /// Whether the port lies in this range.
     pub fn matches(&self, port: u16) -> bool
-        ensures { result ≡ range_matches self.now port }
+        ensures { result ≡ port_range_matches self.now port }
     {
         self.low <= port && port <= self.high
     }

@@ -1,5 +1,5 @@
 ghost use Rattle.std.specs.Prelude.{◌≡◌, ◌+◌, ◌≤◌, ◌<◌, ◌^◌, IfOk, length};
-ghost use Rattle.five_tuple.specs.Exports.{PortCoverLaws, IsPortRangeCover, IsLargestPortBlock, IsPortRange, cover_of};
+ghost use Rattle.five_tuple.specs.Exports.{TuplePortCoverLaws, IsPortRangeCover, IsLargestTuplePortBlock, IsPortRange, port_range_cover_of};
 
 use crate::matching::PortRange;
 use std::alloc::{AllocError, Global};
@@ -13,7 +13,7 @@ pub type PortBlock = (u16, u16);
 fn largest_tuple_port_block(first: u32, high: u32) -> u32
     requires ordered { first ≤ high }
     requires high { high < 2 ^ 16 }
-    ensures largest { IsLargestPortBlock first high result }
+    ensures largest { IsLargestTuplePortBlock first high result }
     ensures bound { result ≤ 16 }
 {
     let aligned = first.trailing_zeros();
@@ -32,13 +32,13 @@ pub struct Blocks {
 
 impl Iterator for Blocks {
     ghost use Rattle.std.specs.Iterator.{YieldsFirst, item_count};
-    ghost use Rattle.five_tuple.specs.Blocks.{port_blocks_left};
+    ghost use Rattle.five_tuple.specs.Blocks.{tuple_port_blocks_left};
 
     type Item = PortBlock;
 
-    ghost next_gives = { YieldsFirst port_blocks_left };
+    ghost next_gives = { YieldsFirst tuple_port_blocks_left };
 
-    ghost remaining = { item_count port_blocks_left };
+    ghost remaining = { item_count tuple_port_blocks_left };
 
     fn next(&mut self) -> Option<PortBlock> {
         if self.next > self.high {
@@ -52,11 +52,11 @@ impl Iterator for Blocks {
 }
 
 impl PortRange {
-    ghost use Rattle.five_tuple.specs.Blocks.{port_blocks_left};
+    ghost use Rattle.five_tuple.specs.Blocks.{tuple_port_blocks_left};
 
     /// The blocks of this range, one after another, as `cover` lists them.
     pub fn blocks(&self) -> Blocks
-        ensures blocks { port_blocks_left result ≡ cover_of self.now }
+        ensures blocks { tuple_port_blocks_left result ≡ port_range_cover_of self.now }
         ensures sound { IsPortRange self.now }
     {
         Blocks {
@@ -74,14 +74,14 @@ impl PortRange {
 /// # Errors
 /// Only out of memory.
 pub fn cover(alloc: Global, range: &PortRange) -> Result<Vec<PortBlock>, AllocError>
-    ensures cover { IfOk result (λ v. v.items ≡ cover_of range.now) }
+    ensures cover { IfOk result (λ v. v.items ≡ port_range_cover_of range.now) }
     ensures blocks { IfOk result (λ v. IsPortRangeCover range.now v.items) }
 {
     collect_tuple_port_blocks(alloc, range)
 }
 
 fn collect_tuple_port_blocks(alloc: Global, range: &PortRange) -> Result<Vec<PortBlock>, AllocError>
-    ensures blocks { IfOk result (λ v. v.items ≡ cover_of range.now) }
+    ensures blocks { IfOk result (λ v. v.items ≡ port_range_cover_of range.now) }
     ensures sound { IsPortRange range.now }
 {
     range.blocks().collect(alloc)
@@ -89,7 +89,7 @@ fn collect_tuple_port_blocks(alloc: Global, range: &PortRange) -> Result<Vec<Por
 
 /// The number of blocks that `cover` lists, without making a list.
 pub fn count_tuple_port_blocks(range: &PortRange) -> u32
-    ensures count { result ≡ length (cover_of range.now) }
+    ensures count { result ≡ length (port_range_cover_of range.now) }
     ensures few { result ≤ 30 }
 {
     range.blocks().count() as u32
@@ -98,5 +98,5 @@ pub fn count_tuple_port_blocks(range: &PortRange) -> u32
 /// The blocks of a range are exactly its ports, and each is the largest that begins at the first
 /// port not yet covered.
 pub fn tuple_port_cover_laws()
-    ensures { PortCoverLaws }
+    ensures { TuplePortCoverLaws }
 {}

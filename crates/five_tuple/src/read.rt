@@ -1,5 +1,5 @@
 ghost use Rattle.std.specs.Prelude.{◌≡◌, ◌≤◌, ◌<◌, ◌^◌, ◌∷◌, [], ◌==◌, ◌&&◌, nat_lt, not, length, IfSome, MatchOption, position};
-ghost use Rattle.five_tuple.specs.Exports.{IsAddressBlock, IsAddressByteBefore, IsPortRange, IsProtocol, LacksAddressByte, address_of, tuple_fields_from, has_leading_zero, number_up_to, tuple_fields_of, text_parts_round_byte, prefix_of, proto_number_of, proto_of, range_from, range_of};
+ghost use Rattle.five_tuple.specs.Exports.{IsAddressBlock, IsAddressByteBefore, IsPortRange, IsProtocol, LacksAddressByte, address_of, tuple_fields_from, tuple_text_has_leading_zero, tuple_number_up_to, tuple_fields_of, tuple_text_parts_round_byte, address_prefix_of, proto_number_of, proto_of, port_range_from, port_range_of};
 
 use crate::header::Fields;
 use crate::matching::{PortRange, Prefix, Proto};
@@ -8,7 +8,7 @@ use crate::matching::{PortRange, Prefix, Proto};
 ///
 /// A number has no sign, and begins with 0 only if 0 is its only digit.
 pub fn read_number(text: &[u8], most: u64) -> Option<u64>
-    ensures value { result ≡ number_up_to most text.now }
+    ensures value { result ≡ tuple_number_up_to most text.now }
     ensures bound { IfSome result (λ n. n ≤ most) }
 {
     if text.is_empty() {
@@ -34,7 +34,7 @@ pub fn read_number(text: &[u8], most: u64) -> Option<u64>
 
 /// Whether the text begins with a zero that isn't its only digit.
 fn has_leading_zero(text: &[u8]) -> bool
-    ensures { result ≡ has_leading_zero text.now }
+    ensures { result ≡ tuple_text_has_leading_zero text.now }
 {
     text.len() > 1 && text[0] == b'0'
 }
@@ -49,15 +49,15 @@ fn place_in_tuple_text(text: &[u8], byte: u8) -> Option<usize>
 /// The text before and after the first `byte`; `None` if there is none.
 fn cut(text: &[u8], byte: u8) -> Option<(&[u8], &[u8])>
     ensures { MatchOption result
-        (text_parts_round_byte byte text.now ≡ text.now ∷ [])
-        (λ r. text_parts_round_byte byte text.now ≡ r.0.now ∷ text_parts_round_byte byte r.1.now) }
+        (tuple_text_parts_round_byte byte text.now ≡ text.now ∷ [])
+        (λ r. tuple_text_parts_round_byte byte text.now ≡ r.0.now ∷ tuple_text_parts_round_byte byte r.1.now) }
 {
     let at = place_in_tuple_text(text, byte)?;
     Some((&text[..at], &text[at + 1..]))
 }
 
 fn read_tuple_byte(text: &[u8]) -> Option<u8>
-    ensures { result ≡ number_up_to 255 text.now }
+    ensures { result ≡ tuple_number_up_to 255 text.now }
 {
     let number = read_number(text, 255)?;
     Some(number as u8)
@@ -65,7 +65,7 @@ fn read_tuple_byte(text: &[u8]) -> Option<u8>
 
 /// The port, from 0 to 65535, that the text writes; `None` for any other text.
 pub fn read_port(text: &[u8]) -> Option<u16>
-    ensures value { result ≡ number_up_to 65535 text.now }
+    ensures value { result ≡ tuple_number_up_to 65535 text.now }
     ensures bound { IfSome result (λ port. port < 2 ^ 16) }
 {
     let number = read_number(text, 65535)?;
@@ -73,8 +73,8 @@ pub fn read_port(text: &[u8]) -> Option<u16>
 }
 
 /// Whether there are digits, without a leading zero.
-fn are_tuple_field_digits(digits: &[u8]) -> bool
-    ensures { result ≡ (nat_lt 0 (length digits.now) && not (has_leading_zero digits.now)) }
+fn is_unpadded_tuple_field(digits: &[u8]) -> bool
+    ensures { result ≡ (nat_lt 0 (length digits.now) && not (tuple_text_has_leading_zero digits.now)) }
 {
     !digits.is_empty() && !has_leading_zero(digits)
 }
@@ -90,7 +90,7 @@ fn address_byte_before_dot(text: &[u8]) -> Option<(u8, &[u8])>
             if *byte != b'.' {
                 return None;
             }
-            if !are_tuple_field_digits(&text[..place]) {
+            if !is_unpadded_tuple_field(&text[..place]) {
                 return None;
             }
             return Some((number as u8, &text[place + 1..]));
@@ -118,9 +118,9 @@ pub fn read_address(text: &[u8]) -> Option<u32>
 ///
 /// `any` is every address, an address without a length is only itself, and after a slash comes the
 /// block's length, at most 32 (RFC 4632, section 3.1). Its bits beyond the length are cleared.
-#[tactic(auto, using(crate::proofs::HeaderPartReadings::block_reads), unfolding(crate::specs::Texts::prefix_of))]
+#[tactic(auto, using(crate::proofs::HeaderPartReadings::block_reads), unfolding(crate::specs::Texts::address_prefix_of))]
 pub fn read_prefix(text: &[u8]) -> Option<Prefix>
-    ensures value { result ≡ prefix_of text.now }
+    ensures value { result ≡ address_prefix_of text.now }
     ensures valid { IfSome result IsAddressBlock }
 {
     if text == b"any".as_slice() {
@@ -140,7 +140,7 @@ pub fn read_prefix(text: &[u8]) -> Option<Prefix>
 }
 
 fn range_from(low: Option<u16>, high: Option<u16>) -> Option<PortRange>
-    ensures { result ≡ range_from low high }
+    ensures { result ≡ port_range_from low high }
 {
     let (low, high) = (low?, high?);
     if low <= high {
@@ -154,9 +154,9 @@ fn range_from(low: Option<u16>, high: Option<u16>) -> Option<PortRange>
 ///
 /// `any` is every port, a number is one port, and two joined by a dash are the ends, the first at
 /// most the second.
-#[tactic(auto, unfolding(crate::specs::Texts::range_of))]
+#[tactic(auto, unfolding(crate::specs::Texts::port_range_of))]
 pub fn read_range(text: &[u8]) -> Option<PortRange>
-    ensures value { result ≡ range_of text.now }
+    ensures value { result ≡ port_range_of text.now }
     ensures valid { IfSome result IsPortRange }
 {
     if text == b"any".as_slice() {

@@ -2,7 +2,7 @@
 
 ghost use Rattle.std.specs.Prelude.{ℕ, ◌≡◌, ◌≤◌, ◌<◌, ◌^◌, Some, decimal, IfOk};
 ghost use Rattle.five_tuple.specs.declared.matching.Proto.{Proto};
-ghost use Rattle.five_tuple.specs.Exports.{AddressBlock, IsAddressBlock, IsPortRange, IsProtocol, PlainTupleTextLaws, PortRangeValue, address_of, address_text, fields_text, number_up_to, prefix_of, prefix_text, proto_number_of, proto_number_text, proto_of, proto_text, range_of, range_text};
+ghost use Rattle.five_tuple.specs.Exports.{AddressBlock, IsAddressBlock, IsPortRange, IsProtocol, PlainTupleTextLaws, PortRangeValue, address_of, address_text, header_fields_text, tuple_number_up_to, address_prefix_of, address_prefix_text, proto_number_of, proto_number_text, proto_of, proto_text, port_range_of, port_range_text};
 
 use crate::header::Fields;
 use crate::matching::{PortRange, Prefix, Proto};
@@ -42,9 +42,9 @@ impl fmt::Display for Protocol {
 }
 
 /// Printed as `any` if it is every address, otherwise as the address, a slash and the length.
-#[tactic(auto, unfolding(crate::specs::RowPrinting::prefix_text))]
+#[tactic(auto, unfolding(crate::specs::RowPrinting::address_prefix_text))]
 impl fmt::Display for Prefix {
-    ghost output = { λ p. Some (prefix_text p) };
+    ghost output = { λ p. Some (address_prefix_text p) };
 
     fn fmt<W: fmt::Write>(&self, f: &mut fmt::Formatter<W>) -> fmt::Result {
         let Prefix { address, len } = *self;
@@ -59,9 +59,9 @@ impl fmt::Display for Prefix {
 
 /// Printed as `any` if it is every port, as one number if it is one port, otherwise as both ends
 /// joined by a dash.
-#[tactic(auto, unfolding(crate::specs::RowPrinting::range_text))]
+#[tactic(auto, unfolding(crate::specs::RowPrinting::port_range_text))]
 impl fmt::Display for PortRange {
-    ghost output = { λ r. Some (range_text r) };
+    ghost output = { λ r. Some (port_range_text r) };
 
     fn fmt<W: fmt::Write>(&self, f: &mut fmt::Formatter<W>) -> fmt::Result {
         let PortRange { low, high } = *self;
@@ -92,9 +92,9 @@ impl fmt::Display for Proto {
 }
 
 /// Printed as both addresses, both ports and the protocol, separated by blanks.
-#[tactic(auto, unfolding(crate::specs::Printing::fields_text))]
+#[tactic(auto, unfolding(crate::specs::Printing::header_fields_text))]
 impl fmt::Display for Fields {
-    ghost output = { λ x. Some (fields_text x) };
+    ghost output = { λ x. Some (header_fields_text x) };
 
     fn fmt<W: fmt::Write>(&self, f: &mut fmt::Formatter<W>) -> fmt::Result {
         let src = Address(self.src);
@@ -116,8 +116,8 @@ pub fn write_address(alloc: Global, address: u32) -> Result<Vec<u8>, AllocError>
 
 /// The block: `any` if it is every address, otherwise its address, a slash and its length.
 pub fn write_prefix(alloc: Global, prefix: &Prefix) -> Result<Vec<u8>, AllocError>
-    ensures text { IfOk result (λ t. t.items ≡ prefix_text prefix.now) }
-    ensures read_back { IfOk result (λ t. prefix_of t.items ≡ Some prefix.now) }
+    ensures text { IfOk result (λ t. t.items ≡ address_prefix_text prefix.now) }
+    ensures read_back { IfOk result (λ t. address_prefix_of t.items ≡ Some prefix.now) }
 {
     // For the proof: reading a field yields the invariant `IsAddressBlock`.
     let _ = &prefix.len;
@@ -127,8 +127,8 @@ pub fn write_prefix(alloc: Global, prefix: &Prefix) -> Result<Vec<u8>, AllocErro
 /// The range: `any` if it is every port, one number if it is one port, otherwise both ends joined
 /// by a dash.
 pub fn write_range(alloc: Global, range: &PortRange) -> Result<Vec<u8>, AllocError>
-    ensures text { IfOk result (λ t. t.items ≡ range_text range.now) }
-    ensures read_back { IfOk result (λ t. range_of t.items ≡ Some range.now) }
+    ensures text { IfOk result (λ t. t.items ≡ port_range_text range.now) }
+    ensures read_back { IfOk result (λ t. port_range_of t.items ≡ Some range.now) }
 {
     // For the proof: reading a field yields the invariant `IsPortRange`.
     let _ = &range.low;
@@ -149,10 +149,10 @@ pub fn write_proto(alloc: Global, proto: &Proto) -> Result<Vec<u8>, AllocError>
 
 /// Each printed form is read back to what it prints: a law about the texts only.
 pub fn tuple_fields_read_back()
-    ensures number { (most n : ℕ) → n ≤ most → n < 2 ^ 64 → number_up_to most (decimal n) ≡ Some n }
+    ensures number { (most n : ℕ) → n ≤ most → n < 2 ^ 64 → tuple_number_up_to most (decimal n) ≡ Some n }
     ensures address { (a : ℕ) → a < 2 ^ 32 → address_of (address_text a) ≡ Some a }
-    ensures prefix { (p : AddressBlock) → IsAddressBlock p → prefix_of (prefix_text p) ≡ Some p }
-    ensures range { (r : PortRangeValue) → IsPortRange r → range_of (range_text r) ≡ Some r }
+    ensures prefix { (p : AddressBlock) → IsAddressBlock p → address_prefix_of (address_prefix_text p) ≡ Some p }
+    ensures range { (r : PortRangeValue) → IsPortRange r → port_range_of (port_range_text r) ≡ Some r }
     ensures proto_number { (n : ℕ) → n < 2 ^ 8 → proto_number_of (proto_number_text n) ≡ Some n }
     ensures proto { (p : Proto) → IsProtocol p → proto_of (proto_text p) ≡ Some p }
 {}

@@ -8,7 +8,7 @@ use Rattle.indexmap.specs.IndexMap.{insert_entry}
 use Rattle.meters.specs.declared.flows.FlowRecord.{FlowRecord}
 use Rattle.policy_rules.specs.declared.packet.Leaving.{Leaving}
 use Rattle.flow_export.specs.Counts.{flow_count_of_header, flow_packet_counts}
-use Rattle.flow_export.specs.Flows.{flows, headers_of, flow_packets_of}
+use Rattle.flow_export.specs.Flows.{flows, exported_flow_headers_of, flow_packets_of}
 
 -- ---- equal headers
 
@@ -111,12 +111,12 @@ others_differ x [] differ = tt
 others_differ x (h ∷ rest) differ = differ_kept x h (others x rest) (header_eq x h)
     (none_of_others h x rest differ.0) (others_differ x rest differ.1)
 
-headers_differ : (held : List Leaving) → Differ (headers_of held)
+headers_differ : (held : List Leaving) → Differ (exported_flow_headers_of held)
 unfolding Differ
 headers_differ [] = tt
 headers_differ (one ∷ more) = (
-  others_lack one.header (headers_of more),
-  others_differ one.header (headers_of more) (headers_differ more),
+  others_lack one.header (exported_flow_headers_of more),
+  others_differ one.header (exported_flow_headers_of more) (headers_differ more),
 )
 
 -- ---- the headers of a list with one more leaving
@@ -141,12 +141,12 @@ behind x h rest false false is there =
     cc (apart_last x h rest (apart h x is), has_others h x rest is, there)
 
 headers_on : (held : List Leaving) (one : Leaving)
-    → headers_of (held ++ one ∷ []) ≡ with_header (headers_of held) one.header
+    → exported_flow_headers_of (held ++ one ∷ []) ≡ with_header (exported_flow_headers_of held) one.header
 headers_on [] one = refl
 headers_on (first ∷ held) one =
     ap (λ rest. first.header ∷ others first.header rest) (headers_on held one)
-    ∙ behind first.header one.header (headers_of held) (header_eq one.header first.header)
-    (is_among one.header (headers_of held)) refl refl
+    ∙ behind first.header one.header (exported_flow_headers_of held) (header_eq one.header first.header)
+    (is_among one.header (exported_flow_headers_of held)) refl refl
 
 -- ---- counts
 
@@ -201,21 +201,21 @@ packets_on : (held : List Leaving) (one : Leaving) (h : Header)
     → flow_packets_of (held ++ one ∷ []) h ≡ flow_packets_of held h + cond (header_eq one.header h) 1 0
 packets_on held one h = sum_by_push (λ (two : Leaving). cond (header_eq two.header h) 1 0) held one
 
-no_packets : (held : List Leaving) (h : Header) → is_among h (headers_of held) ≡ false
+no_packets : (held : List Leaving) (h : Header) → is_among h (exported_flow_headers_of held) ≡ false
     → flow_packets_of held h ≡ 0
 no_packets [] h none = refl
 no_packets (one ∷ held) h none =
     let parts = or_parts (header_eq h one.header) _ none in
     let rest = no_packets held h
-    (sym (has_others h one.header (headers_of held) parts.0) ∙ parts.1) in
+    (sym (has_others h one.header (exported_flow_headers_of held) parts.0) ∙ parts.1) in
     sum_by-cons (λ (two : Leaving). cond (header_eq two.header h) 1 0) one held
     ∙ ap (λ b. cond b 1 0 + flow_packets_of held h) (apart h one.header parts.0) ∙ omega (arith, rest)
 
 pub count_is : (h : Header) (held : List Leaving) → flow_count_of_header h (flow_packet_counts held) ≡ flow_packets_of held h
 count_is h held =
-    looked_up h (flow_packets_of held) (headers_of held) ∙ found (is_among h (headers_of held)) refl
+    looked_up h (flow_packets_of held) (exported_flow_headers_of held) ∙ found (is_among h (exported_flow_headers_of held)) refl
   where
-    found : (b : Bool) → is_among h (headers_of held) ≡ b → cond b (flow_packets_of held h) 0 ≡ flow_packets_of held h
+    found : (b : Bool) → is_among h (exported_flow_headers_of held) ≡ b → cond b (flow_packets_of held h) 0 ≡ flow_packets_of held h
     found true there = refl
     found false none = sym (no_packets held h none)
 
@@ -231,10 +231,10 @@ counts_on held one =
     let stays : (g : Header) → header_eq h g ≡ false
     → flow_packets_of (held ++ one ∷ []) g ≡ flow_packets_of held g =
     λ g is. packets_on held one g ∙ ap (λ b. flow_packets_of held g + cond b 1 0) is ∙ omega arith in
-    ap (λ n. insert_entry header_eq (counted (flow_packets_of held) (headers_of held)) h (n + 1))
+    ap (λ n. insert_entry header_eq (counted (flow_packets_of held) (exported_flow_headers_of held)) h (n + 1))
     (count_is h held)
     ∙ counted_on h (flow_packets_of held) (flow_packets_of (held ++ one ∷ [])) (packets_on held one h
-    ∙ ap (λ b. flow_packets_of held h + cond b 1 0) (itself h)) stays (headers_of held)
+    ∙ ap (λ b. flow_packets_of held h + cond b 1 0) (itself h)) stays (exported_flow_headers_of held)
     (headers_differ held)
     ∙ ap (counted (flow_packets_of (held ++ one ∷ []))) (sym (headers_on held one))
 
@@ -250,7 +250,7 @@ recorded port count (h ∷ rest) = cc (recorded port count rest)
 
 pub records_are : (port : ℕ) (held : List Leaving)
     → map (record_at port) (flow_packet_counts held) ≡ flows port held
-records_are port held = recorded port (flow_packets_of held) (headers_of held)
+records_are port held = recorded port (flow_packets_of held) (exported_flow_headers_of held)
 
 pub counts_after : (old new : List (Header × ℕ)) (held more : List Leaving) (one : Leaving)
     → old ≡ flow_packet_counts held

@@ -1,7 +1,7 @@
 ghost use Rattle.std.specs.Prelude.{◌≡◌, ◌+◌, ◌<◌, ◌≤◌, ◌^◌, [], ◌∷◌, ◌++◌, length, nat_le, OnErr, OnOk};
 ghost use Rattle.five_tuple.specs.HeaderNumbers.{header_eq};
 ghost use Rattle.flow_export.specs.Counts.{flow_count_of_header};
-ghost use Rattle.flow_export.specs.Flows.{IsFlowMeter, flows, headers_of};
+ghost use Rattle.flow_export.specs.Flows.{IsFlowMeter, flows, exported_flow_headers_of};
 ghost use Rattle.indexmap.specs.IndexMap.{insert_entry};
 
 use five_tuple::Header;
@@ -62,7 +62,7 @@ impl FlowMeter {
 
     // Whether its list is complete.
     fn is_ended(&self) -> bool
-        ensures { result ≡ nat_le self.now.most (length (headers_of self.now.held)) }
+        ensures { result ≡ nat_le self.now.most (length (exported_flow_headers_of self.now.held)) }
     {
         self.most as usize <= self.counts.len()
     }
@@ -72,7 +72,7 @@ impl Meter for FlowMeter {
     ghost seen = { λ m. record {
       port = m.port;
       held = m.held;
-      is_ended = λ held. nat_le m.most (length (headers_of held));
+      is_ended = λ held. nat_le m.most (length (exported_flow_headers_of held));
       recorded = flows m.port;
     } };
 

@@ -1,7 +1,7 @@
 //! The text of flow records.
 ghost use Rattle.std.specs.Prelude.{◌≡◌, ◌++◌, OnOk};
 ghost use Rattle.std.specs.String.{string_bytes};
-ghost use Rattle.flow_export.specs.Lines.{exported_flow_line, flow_lines};
+ghost use Rattle.flow_export.specs.Lines.{exported_flow_line, exported_flow_lines};
 
 use meters::FlowRecord;
 use std::alloc::AllocError;
@@ -13,7 +13,7 @@ use std::fmt::Write;
 /// Only out of memory.
 pub fn push_flows(text: &mut String, records: &[FlowRecord]) -> Result<(), AllocError>
     ensures { OnOk result (string_bytes text.new
-        ≡ string_bytes text.old ++ flow_lines records.now) }
+        ≡ string_bytes text.old ++ exported_flow_lines records.now) }
 {
     for record in records {
         push_flow(text, record)?;

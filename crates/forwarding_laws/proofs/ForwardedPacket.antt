@@ -3,33 +3,33 @@
 use Rattle.std.proofs.Common.{[], ◌++◌, ◌+◌, ◌-◌, ◌<◌, ◌==◌, ◌∙◌, ◌∷◌, ◌≡◌, ◌≤◌, ◌⊎◌, Contains, IsTrue, List, None, Option, Some, ap, append_assoc, arith, eq-eqb, false, find, inl, inr, length, option_map, refl, subst, sym, take, true, ℕ}
 use Rattle.base.proofs.Exports.{All-contains, find_none, get_or-range_with_len, length-range_with_len, range_with_len}
 use Rattle.five_tuple.specs.Exports.{IsHeader}
-use Rattle.update_machine.specs.Exports.{AreAllMachineEventSteps, Decision, JournalItemsHaveCauses, Header, Hop, IsQuietMachineJournal, IsSetting, Item, Packet, Row, Setting, Step, StepOfRow, journal_after_steps, count_of, journal_decision_of, machine_item_gives_header, journal_packet_header, is_packet, is_up, journal_items_then, machine_lookup_items, journal_next_hop, journal_next_packet, next_travelling, machine_packet_items, journal_packets, piece, policy_at, serves, setting_switches_of, travels, journal_version_count}
-use Rattle.policy_rules.specs.Exports.{IsFirstMatch, scan}
+use Rattle.update_machine.specs.Exports.{AreAllMachineEventSteps, Decision, JournalItemsHaveCauses, Header, Hop, IsQuietMachineJournal, IsMachineSetting, Item, Packet, Row, Setting, Step, MachineStepOfRow, journal_after_steps, machine_count_of, journal_decision_of, machine_item_gives_header, journal_packet_header, is_machine_packet_entry, is_up, journal_items_then, machine_lookup_items, journal_next_hop, journal_next_packet, next_travelling, machine_packet_items, journal_packets, piece, machine_policy_at, serves, machine_switches_of, travels_in_journal, journal_version_count}
+use Rattle.policy_rules.specs.Exports.{IsFirstPolicyMatch, scan}
 use Rattle.policy_rules.proofs.PolicyRulesCallerLemmas.{first_match-scan}
-use Rattle.steps.specs.Exports.{HasSwitch}
+use Rattle.steps.specs.Exports.{StepSwitchExists}
 use Rattle.update_machine.proofs.Exports.{count_of_append, last_given_append, switch_keeps}
 use Rattle.convergence_laws.proofs.Exports.{Behind, Both, ControlLawHoldsAtEnds, NamesOwn, fact_on, have_both, have_rest, moves, stays_itself, stays_on}
-use Rattle.convergence_laws.specs.Exports.{ConvergedGetStuckApart, HasConverged, IsNetworkUpdateConverged}
-use Rattle.packet_laws.specs.Exports.{AllPacketFactsKept, PacketLawHoldsBetween, IsUnknownPacket, StrongCause, hit_in, packet_steps_played, packet_facts_of}
+use Rattle.convergence_laws.specs.Exports.{ConvergedGetStuckApart, HasConverged, IsNetworkUpdated}
+use Rattle.packet_laws.specs.Exports.{AllPacketFactsKept, PacketLawHoldsBetween, IsUnknownPacket, PacketStrongCause, packet_decision_hit, packet_steps_played, packet_facts_of}
 use Rattle.packet_laws.proofs.Exports.{IsSettled, IsWayItem, Past, all_kept, all_right, between, decision_out, found_in, kept_before, numbered, packet_more, piece_settled, standing_more, strongly_caused, travels_more, ways_of_all}
-use Rattle.forwarding_laws.specs.Exports.{ForwardingFindsNoTarget, HasNetworkComeToRest, IsForwardedByNewest, ForwardsWhenQuiet}
+use Rattle.forwarding_laws.specs.Exports.{ForwardingFindsNoTarget, HasNetworkComeToRest, IsForwardedByNewest, NetworkForwards}
 use Rattle.forwarding_laws.proofs.ForwardingFollowed.{Fate, Follows, IsEnded, IsFollowed, follows_on, mark_more, step_more, undecided_by}
 use Rattle.forwarding_laws.proofs.RecoverySecondRounds.{MarksStay, Passes, hop_passes, marks_stay, packet_passes}
 use Rattle.net_file.specs.Exports.{IsNet}
 
 -- ---- items of a settled journal
 
-module _ (setting : Setting) (is : IsSetting setting) where
+module _ (setting : Setting) (is : IsMachineSetting setting) where
   -- the last items of a settled journal are followed, if they are those of packets
   are_followed : (before items : List Item) → IsSettled setting (before ++ items)
       → JournalItemsHaveCauses (Passes setting) before items
       → JournalItemsHaveCauses (IsFollowed setting) before items
   are_followed before items settled passes = have_both (Passes setting)
-      (Both (Behind (Past (IsWayItem setting)) (AllPacketFactsKept setting)) (StrongCause setting)) before
+      (Both (Behind (Past (IsWayItem setting)) (AllPacketFactsKept setting)) (PacketStrongCause setting)) before
       items passes
-      (have_both (Behind (Past (IsWayItem setting)) (AllPacketFactsKept setting)) (StrongCause setting) before
+      (have_both (Behind (Past (IsWayItem setting)) (AllPacketFactsKept setting)) (PacketStrongCause setting) before
       items (have_rest (Behind (Past (IsWayItem setting)) (AllPacketFactsKept setting)) [] before items
-      (kept_before setting (before ++ items) is settled.causes)) (have_rest (StrongCause setting) []
+      (kept_before setting (before ++ items) is settled.causes)) (have_rest (PacketStrongCause setting) []
       before items (strongly_caused setting (before ++ items) is settled.causes)))
 
 -- ---- numbers of a range
@@ -47,11 +47,11 @@ unmapped (Some k) none = absurd cc
 
 -- behind all hops of a drain no packet travels
 none_travels : (now : List Item) (i : ℕ) → journal_next_hop now ≡ None → 1 ≤ i → i < journal_next_packet now
-    → travels now i ≡ false
+    → travels_in_journal now i ≡ false
 unfolding journal_next_packet next_travelling
-none_travels now i none above below = All-contains (λ k. travels now k ≡ false) (journal_packets now) i
-    (find_none (travels now) (journal_packets now) (unmapped (find (travels now) (journal_packets now)) none))
-    (in_range 1 (count_of is_packet now) i above (omega (arith, below)))
+none_travels now i none above below = All-contains (λ k. travels_in_journal now k ≡ false) (journal_packets now) i
+    (find_none (travels_in_journal now) (journal_packets now) (unmapped (find (travels_in_journal now) (journal_packets now)) none))
+    (in_range 1 (machine_count_of is_machine_packet_entry now) i above (omega (arith, below)))
 
 header_by : (before : List Item) (next : Item) (i : ℕ) (header : Header)
     → machine_item_gives_header i next ≡ Some header → journal_packet_header (before ++ next ∷ []) i ≡ Some header
@@ -63,12 +63,12 @@ number_more : (before : List Item) (i s : ℕ) (header : Header)
     → journal_next_packet (before ++ Item.Entered i s header ∷ []) ≡ journal_next_packet before + 1
 unfolding journal_next_packet
 number_more before i s header =
-    rw (count_of_append is_packet before (Item.Entered i s header ∷ [])) (omega arith)
+    rw (count_of_append is_machine_packet_entry before (Item.Entered i s header ∷ [])) (omega arith)
 
-serves_there : (setting : Setting) (journal : List Item) (s : ℕ) → IsNetworkUpdateConverged setting journal
-    → HasSwitch setting.net s → IsTrue (is_up journal s) → IsTrue (serves journal s)
+serves_there : (setting : Setting) (journal : List Item) (s : ℕ) → IsNetworkUpdated setting journal
+    → StepSwitchExists setting.net s → IsTrue (is_up journal s) → IsTrue (serves journal s)
 serves_there setting journal s updated there up =
-    All-contains (λ k. IsTrue (is_up journal k) → IsTrue (serves journal k)) (setting_switches_of setting) s
+    All-contains (λ k. IsTrue (is_up journal k) → IsTrue (serves journal k)) (machine_switches_of setting) s
     updated.serving (in_range 0 (length setting.net.switches) s (omega arith) (omega arith)) up
 
 -- ---- as it enters
@@ -104,7 +104,7 @@ module _ (setting : Setting) (journal : List Item) (row s : ℕ) (header : Heade
     plan = λ v. refl;
   })
 
-  started : IsSetting setting → IsSettled setting journal → Follows setting journal s i header begun
+  started : IsMachineSetting setting → IsSettled setting journal → Follows setting journal s i header begun
   started is settled =
       let new : IsUnknownPacket (packet_facts_of journal i) =
       (all_kept setting journal is settled.causes).unknown i (omega arith) in record {
@@ -146,8 +146,8 @@ module _ (setting : Setting) (journal : List Item) (row s : ℕ) (header : Heade
       ∙ append_assoc journal (coming ∷ []) (entering ∷ lookups)
 
   -- behind its step
-  followed_in : IsSetting setting → HasConverged setting journal → IsNetworkUpdateConverged setting journal
-      → IsSettled setting journal → HasSwitch setting.net s → IsHeader header
+  followed_in : IsMachineSetting setting → HasConverged setting journal → IsNetworkUpdated setting journal
+      → IsSettled setting journal → StepSwitchExists setting.net s → IsHeader header
       → IsTrue (is_up journal s)
       → Follows setting journal s i header (journal ++ piece setting journal row (Packet s header))
   followed_in is converged updated settled there sound up =
@@ -178,8 +178,8 @@ record IsDrained (setting : Setting) (journal : List Item) (s i : ℕ) (header :
   none : journal_next_hop after ≡ None
 
 drained : (setting : Setting) (journal : List Item) (s i : ℕ) (header : Header) (later : ℕ)
-    (before : List Item) (hops : List StepOfRow) → IsSetting setting
-    → HasConverged setting journal → IsNetworkUpdateConverged setting journal
+    (before : List Item) (hops : List MachineStepOfRow) → IsMachineSetting setting
+    → HasConverged setting journal → IsNetworkUpdated setting journal
     → AreAllMachineEventSteps setting journal_next_hop later before hops → IsSettled setting before
     → Follows setting journal s i header before
     → IsDrained setting journal s i header (journal_after_steps setting before hops)
@@ -200,16 +200,16 @@ drained setting journal s i header later before (first ∷ hops) is converged up
 -- ---- its end
 
 ended_so : (setting : Setting) (journal : List Item) (s i : ℕ) (header : Header)
-    (after : List Item) → IsSetting setting → IsDrained setting journal s i header after
+    (after : List Item) → IsMachineSetting setting → IsDrained setting journal s i header after
     → IsForwardedByNewest setting journal after i s header ⊎ ForwardingFindsNoTarget setting journal after i s header
 ended_so setting journal s i header after is drained = by drained.follows.fate where
   forwarded : IsEnded setting journal s i after → IsForwardedByNewest setting journal after i s header
   forwarded ended =
       let decision : Decision = ended.decision in
       let newest = drained.follows.version decision ended.decided in
-      let rows : List Row = policy_at setting journal (journal_version_count journal) in
-      let first : scan rows header ≡ hit_in decision =
-      ap (λ v. scan (policy_at setting journal v) header) (sym newest)
+      let rows : List Row = machine_policy_at setting journal (journal_version_count journal) in
+      let first : scan rows header ≡ packet_decision_hit decision =
+      ap (λ v. scan (machine_policy_at setting journal v) header) (sym newest)
       ∙ ap (λ these. scan these header) (sym (drained.follows.marks.policy decision.version))
       ∙ (all_right setting after is drained.settled.causes i header decision
       drained.follows.entered ended.decided).first_match in record {
@@ -221,7 +221,7 @@ ended_so setting journal s i header after is drained = by drained.follows.fate w
             rule = decision.rule;
             action = decision.action;
           })) newest;
-          first_match = subst (IsFirstMatch rows header) first (first_match-scan rows header);
+          first_match = subst (IsFirstPolicyMatch rows header) first (first_match-scan rows header);
         };
         ends = ended.ends;
       }
@@ -233,9 +233,9 @@ ended_so setting journal s i header after is drained = by drained.follows.fate w
       absurd (cc (none_travels after i drained.none own.0 own.1))
   by (inr ended) = elim ended.how [ inl decided ↦ inl (forwarded decided) | inr finds ↦ inr finds ]
 
-pub forwards : (setting : Setting) (journal : List Item) → IsSetting setting
-    → IsSettled setting journal → HasConverged setting journal → IsNetworkUpdateConverged setting journal
-    → ForwardsWhenQuiet setting journal
+pub forwards : (setting : Setting) (journal : List Item) → IsMachineSetting setting
+    → IsSettled setting journal → HasConverged setting journal → IsNetworkUpdated setting journal
+    → NetworkForwards setting journal
 forwards setting journal is settled converged updated row later s header hops there sound up all =
     let entered : List Item = journal ++ piece setting journal row (Packet s header) in
     ended_so setting journal s (journal_next_packet journal) header (journal_after_steps setting entered hops) is
@@ -276,12 +276,12 @@ both_between One Other Holds follow one other = record {
 -- ---- journals of networks that have converged
 
 abbrev ForwardsBy : Setting → List Item → Type 0
-ForwardsBy setting journal = IsSetting setting → HasConverged setting journal
-    → IsNetworkUpdateConverged setting journal → ForwardsWhenQuiet setting journal
+ForwardsBy setting journal = IsMachineSetting setting → HasConverged setting journal
+    → IsNetworkUpdated setting journal → NetworkForwards setting journal
 
 pub converged_forward : PacketLawHoldsBetween ForwardsBy
 converged_forward = between (λ setting journal. HasConverged setting journal
-    → IsNetworkUpdateConverged setting journal → ForwardsWhenQuiet setting journal) (λ setting journal is settled
+    → IsNetworkUpdated setting journal → NetworkForwards setting journal) (λ setting journal is settled
     converged updated. forwards setting journal is settled converged updated)
 
 -- ---- quiet journals
@@ -291,16 +291,16 @@ Converges setting journal =
     IsNet setting.net → IsQuietMachineJournal setting journal → HasConverged setting journal
 
 abbrev Updates : Setting → List Item → Type 0
-Updates setting journal = IsQuietMachineJournal setting journal → IsNetworkUpdateConverged setting journal
+Updates setting journal = IsQuietMachineJournal setting journal → IsNetworkUpdated setting journal
 
 abbrev Parts : Setting → List Item → Type 0
 Parts setting journal = IsNet setting.net → IsQuietMachineJournal setting journal → ConvergedGetStuckApart setting journal
 
 abbrev Forwards : Setting → List Item → Type 0
-Forwards setting journal = IsSetting setting → IsQuietMachineJournal setting journal → ForwardsWhenQuiet setting journal
+Forwards setting journal = IsMachineSetting setting → IsQuietMachineJournal setting journal → NetworkForwards setting journal
 
 abbrev Rests : Setting → List Item → Type 0
-Rests setting journal = IsSetting setting → IsQuietMachineJournal setting journal → HasNetworkComeToRest setting journal
+Rests setting journal = IsMachineSetting setting → IsQuietMachineJournal setting journal → HasNetworkComeToRest setting journal
 
 abbrev Known : Setting → List Item → Type 0
 Known setting journal = Converges setting journal × Updates setting journal

@@ -2,13 +2,13 @@
 use Rattle.std.proofs.Common.{[], if◌then◌else◌, ◌++◌, ◌<◌, ◌==◌, ◌∙◌, ◌∷◌, ◌≡◌, ◌⊎◌, All, Bool, IsFalse, IsTrue, List, None, Some, ap, arith, eq-eqb, eqb-true, false, find, inl, inr, ne_eqb, option_map, refl, subst, sym, true, unwrap_or, ℕ}
 use Rattle.base.proofs.Exports.{Contains-append_left, Contains-push, option_or, some_same}
 use Rattle.base.specs.Exports.{has}
-use Rattle.update_machine.specs.Exports.{Action, Cause, Crash, Decision, Exit, Header, IsSetting, Item, Leaving, Leg, Lose, Seek, Setting, Step, journal_decision_of, machine_item_gives_decision, machine_item_gives_header, machine_item_gives_standing, machine_item_gives_step, machine_item_gives_travelling, journal_packet_header, journal_next_packet, journal_plan_at, journal_present_step, journal_retired_mark, journal_route_from, standing, journal_leg_targets, travels, journal_version_count}
+use Rattle.update_machine.specs.Exports.{Action, Cause, Crash, Decision, Exit, Header, IsMachineSetting, Item, Leaving, Leg, Lose, Seek, Setting, Step, journal_decision_of, machine_item_gives_decision, machine_item_gives_header, machine_item_gives_standing, machine_item_gives_step, machine_item_gives_travelling, journal_packet_header, journal_next_packet, journal_plan_at, journal_present_step, journal_retired_mark, journal_route_from, journal_standing_of, journal_leg_targets, travels_in_journal, journal_version_count}
 use Rattle.net_file.specs.Exports.{IsNet}
-use Rattle.policy_rules.specs.Exports.{Hosted, is_in_policy_partition}
+use Rattle.policy_rules.specs.Exports.{HostedPolicyPartition, is_in_policy_partition}
 use Rattle.update_machine.proofs.Exports.{folded_append, last_given_append}
 use Rattle.convergence_laws.proofs.Exports.{AreKept, Behind, Both, StaysSo, moves, reach_more, stays_on}
-use Rattle.convergence_laws.specs.Exports.{AreConvergenceUnusableLinks, HasConverged, IsNetworkUpdateConverged, Reaches}
-use Rattle.packet_laws.specs.Exports.{AllPacketFactsKept, FurtherCause, HasPacketItemCause, PacketSeeksRightly, StrongCause, changes_packet_entry_mark, entry_mark}
+use Rattle.convergence_laws.specs.Exports.{AreConvergenceUnusableLinks, HasConverged, IsNetworkUpdated, ConvergenceReaches}
+use Rattle.packet_laws.specs.Exports.{AllPacketFactsKept, PacketFurtherCause, HasPacketItemCause, PacketSeeksRightly, PacketStrongCause, changes_packet_entry_mark, packet_entry_mark}
 use Rattle.packet_laws.proofs.Exports.{Before, IsWayItem, Past, here_known, known_before, knows, packet_more, standing_more, stands_known, travels_more}
 use Rattle.forwarding_laws.specs.Exports.{ForwardedEndsBy, ForwardingFindsNoTarget, IsForwardingStuckApart}
 use Rattle.forwarding_laws.proofs.RecoverySecondRounds.{MarksStay, Passes, apart_from, marks_stay, passes_walks}
@@ -28,8 +28,8 @@ unfolding journal_present_step
 step_more before next = last_given_append machine_item_gives_step before (next ∷ [])
 
 pub mark_more : (before : List Item) (next : Item) (i : ℕ)
-    → entry_mark (before ++ next ∷ []) i ≡ changes_packet_entry_mark i before (entry_mark before i) next
-unfolding entry_mark
+    → packet_entry_mark (before ++ next ∷ []) i ≡ changes_packet_entry_mark i before (packet_entry_mark before i) next
+unfolding packet_entry_mark
 mark_more before next i = folded_append (changes_packet_entry_mark i) 0 before (next ∷ [])
 
 -- ---- what is true of it
@@ -42,12 +42,12 @@ pub record IsEnded (setting : Setting) (journal : List Item) (s i : ℕ) (now : 
 
 pub record HasEnded (setting : Setting) (journal : List Item) (s i : ℕ) (header : Header)
     (now : List Item) : Type 0 where
-  pub ended : IsFalse (travels now i)
+  pub ended : IsFalse (travels_in_journal now i)
   pub how : IsEnded setting journal s i now ⊎ ForwardingFindsNoTarget setting journal now i s header
 
 abbrev pub Fate : Setting → List Item → ℕ → ℕ → Header → List Item → Type 0
 Fate setting journal s i header now =
-    IsTrue (travels now i) ⊎ HasEnded setting journal s i header now
+    IsTrue (travels_in_journal now i) ⊎ HasEnded setting journal s i header now
 
 pub record Follows (setting : Setting) (journal : List Item) (s i : ℕ) (header : Header)
     (now : List Item) : Type 0 where
@@ -56,8 +56,8 @@ pub record Follows (setting : Setting) (journal : List Item) (s i : ℕ) (header
   pub step : (step : Step) → journal_present_step now ≡ Some step → IsTrue (moves step)
   pub number : i < journal_next_packet now
   pub entered : journal_packet_header now i ≡ Some header
-  pub mark : entry_mark now i ≡ journal_retired_mark journal
-  pub at : (t : ℕ) → standing now i ≡ Some t → Reaches setting journal s t
+  pub mark : packet_entry_mark now i ≡ journal_retired_mark journal
+  pub at : (t : ℕ) → journal_standing_of now i ≡ Some t → ConvergenceReaches setting journal s t
   pub version : (decision : Decision) → journal_decision_of now i ≡ Some decision
       → decision.version ≡ journal_version_count journal
   pub fate : Fate setting journal s i header now
@@ -65,7 +65,7 @@ pub record Follows (setting : Setting) (journal : List Item) (s i : ℕ) (header
 -- an item of packets, with its causes behind a journal of which all is known
 abbrev pub IsFollowed : Setting → List Item → Item → Type 0
 IsFollowed setting = Both (Passes setting)
-    (Both (Behind (Past (IsWayItem setting)) (AllPacketFactsKept setting)) (StrongCause setting))
+    (Both (Behind (Past (IsWayItem setting)) (AllPacketFactsKept setting)) (PacketStrongCause setting))
 
 -- ---- another packet enters
 
@@ -85,10 +85,10 @@ module _ (setting : Setting) (journal : List Item) (s i : ℕ) (header : Header)
     by next way = follows.entered
 
   mark_on : (next : Item) → HasPacketItemCause setting before next
-      → entry_mark (before ++ next ∷ []) i ≡ journal_retired_mark journal
+      → packet_entry_mark (before ++ next ∷ []) i ≡ journal_retired_mark journal
   mark_on next way = mark_more before next i ∙ by next way where
     by : (next : Item) → HasPacketItemCause setting before next
-        → changes_packet_entry_mark i before (entry_mark before i) next ≡ journal_retired_mark journal
+        → changes_packet_entry_mark i before (packet_entry_mark before i) next ≡ journal_retired_mark journal
     by (Item.Entered packet t other) way =
         cc (comes_other packet i (journal_next_packet before) way.0.number follows.number, follows.mark)
     by next way = follows.mark
@@ -104,31 +104,31 @@ module _ (setting : Setting) (journal : List Item) (s i : ℕ) (header : Header)
   -- ---- where it is
 
   at_on : Before setting before → (next : Item) → HasPacketItemCause setting before next → (t : ℕ)
-      → standing (before ++ next ∷ []) i ≡ Some t → Reaches setting journal s t
+      → journal_standing_of (before ++ next ∷ []) i ≡ Some t → ConvergenceReaches setting journal s t
   at_on known next way t stands = by next way (sym (standing_more before next i) ∙ stands) where
     by : (next : Item) → HasPacketItemCause setting before next
-        → option_or (machine_item_gives_standing i next) (standing before i) ≡ Some t
-        → Reaches setting journal s t
+        → option_or (machine_item_gives_standing i next) (journal_standing_of before i) ≡ Some t
+        → ConvergenceReaches setting journal s t
     by (Item.Entered packet u other) way is = follows.at t
-        (sym (ap (λ b. option_or (if b then Some u else None) (standing before i))
+        (sym (ap (λ b. option_or (if b then Some u else None) (journal_standing_of before i))
         (comes_other packet i (journal_next_packet before) way.0.number follows.number)) ∙ is)
     by (Item.Hopped packet u) way is = by_name (packet == i) refl is where
       by_name : (b : Bool) → (packet == i) ≡ b
-          → option_or (if b then Some u else None) (standing before i) ≡ Some t
-          → Reaches setting journal s t
+          → option_or (if b then Some u else None) (journal_standing_of before i) ≡ Some t
+          → ConvergenceReaches setting journal s t
       by_name false other is = follows.at t is
       by_name true same is =
-          let from = subst (λ k. standing before k ≡ Some way.switch) (eqb-true packet i same)
+          let from = subst (λ k. journal_standing_of before k ≡ Some way.switch) (eqb-true packet i same)
           (stands_known setting before packet way.switch (knows setting before packet known)
           way.at) in
-          subst (Reaches setting journal s) (cc is)
+          subst (ConvergenceReaches setting journal s) (cc is)
           (reach_more setting journal s way.switch u (follows.at way.switch from)
           (ap (λ mask. has mask u) (sym (follows.stays.links way.switch)) ∙ way.usable))
     by next way is = follows.at t is
 
   -- ---- its version
 
-  newest : IsNetworkUpdateConverged setting journal → (version : ℕ) → PacketSeeksRightly before i version
+  newest : IsNetworkUpdated setting journal → (version : ℕ) → PacketSeeksRightly before i version
       → version ≡ journal_version_count journal
   newest updated version rightly = omega (
     arith,
@@ -140,14 +140,14 @@ module _ (setting : Setting) (journal : List Item) (s i : ℕ) (header : Header)
     updated.retired,
   )
 
-  version_on : IsNetworkUpdateConverged setting journal → (next : Item) → FurtherCause setting before next
+  version_on : IsNetworkUpdated setting journal → (next : Item) → PacketFurtherCause setting before next
       → (decision : Decision) → journal_decision_of (before ++ next ∷ []) i ≡ Some decision
       → decision.version ≡ journal_version_count journal
   unfolding journal_decision_of
   version_on updated next further decision decided =
       by next further (sym (last_given_append (machine_item_gives_decision i) before (next ∷ [])) ∙ decided)
     where
-      by : (next : Item) → FurtherCause setting before next
+      by : (next : Item) → PacketFurtherCause setting before next
           → option_or (machine_item_gives_decision i next) (journal_decision_of before i) ≡ Some decision
           → decision.version ≡ journal_version_count journal
       by (Item.Decided packet version rule act how) further is = by_name (packet == i) refl is where
@@ -166,7 +166,7 @@ module _ (setting : Setting) (journal : List Item) (s i : ℕ) (header : Header)
   -- ---- how it ends
 
   -- what an item leaves that doesn't decide or end it
-  fate_on : (next : Item) → travels (before ++ next ∷ []) i ≡ travels before i
+  fate_on : (next : Item) → travels_in_journal (before ++ next ∷ []) i ≡ travels_in_journal before i
       → journal_decision_of (before ++ next ∷ []) i ≡ journal_decision_of before i
       → Fate setting journal s i header (before ++ next ∷ [])
   fate_on next same_travels same_decision = by follows.fate where
@@ -220,15 +220,15 @@ module _ (setting : Setting) (journal : List Item) (s i : ℕ) (header : Header)
   pass_on : (next : Item) → machine_item_gives_travelling i next ≡ None → machine_item_gives_decision i next ≡ None
       → Fate setting journal s i header (before ++ next ∷ [])
   pass_on next travelling decides = fate_on next
-      (travels_more before next i ∙ ap (λ o. unwrap_or o (travels before i)) travelling)
+      (travels_more before next i ∙ ap (λ o. unwrap_or o (travels_in_journal before i)) travelling)
       (undecided_by before next i decides)
 
   -- the packet doesn't travel behind an item that ends it, which decides nothing
   ended_by : (next : Item) → machine_item_gives_travelling i next ≡ Some false → machine_item_gives_decision i next ≡ None
-      → IsFalse (travels (before ++ next ∷ []) i)
+      → IsFalse (travels_in_journal (before ++ next ∷ []) i)
       × (journal_decision_of (before ++ next ∷ []) i ≡ journal_decision_of before i)
   ended_by next ends decides = (
-    travels_more before next i ∙ ap (λ o. unwrap_or o (travels before i)) ends,
+    travels_more before next i ∙ ap (λ o. unwrap_or o (travels_in_journal before i)) ends,
     undecided_by before next i decides,
   )
 
@@ -247,7 +247,7 @@ module _ (setting : Setting) (journal : List Item) (s i : ℕ) (header : Header)
         });
       })
 
-  left : (port : ℕ) (leaving : Leaving) → FurtherCause setting before (Item.Left i port leaving)
+  left : (port : ℕ) (leaving : Leaving) → PacketFurtherCause setting before (Item.Left i port leaving)
       → Fate setting journal s i header (before ++ Item.Left i port leaving ∷ [])
   left port leaving leaves = let now = ended_by (Item.Left i port leaving) (rw own refl) refl in
       inr (record {
@@ -280,8 +280,8 @@ module _ (setting : Setting) (journal : List Item) (s i : ℕ) (header : Header)
   -- what is stuck reaches no target
   stuck_apart : IsNet setting.net → HasConverged setting journal → Before setting before → (t : ℕ)
       (cause : Cause) (leg : Leg) (down : List ℕ)
-      → StrongCause setting before (Item.Stuck i t cause leg down)
-      → All (λ target. Reaches setting journal s target → ⊥) (journal_leg_targets setting journal leg)
+      → PacketStrongCause setting before (Item.Stuck i t cause leg down)
+      → All (λ target. ConvergenceReaches setting journal s target → ⊥) (journal_leg_targets setting journal leg)
   stuck_apart net converged known t cause leg down strong =
       let here = here_known setting before i t (knows setting before i known) strong.0.at in
       let targets : List ℕ = journal_leg_targets setting journal leg in
@@ -291,9 +291,9 @@ module _ (setting : Setting) (journal : List Item) (s i : ℕ) (header : Header)
       (sym (follows.stays.routes t targets down) ∙ ap (λ all. journal_route_from setting before t all down)
       (sym (follows.stays.targets leg)) ∙ strong.1.no_route))
 
-  stuck : IsNet setting.net → HasConverged setting journal → IsNetworkUpdateConverged setting journal
+  stuck : IsNet setting.net → HasConverged setting journal → IsNetworkUpdated setting journal
       → Before setting before → (t : ℕ) (cause : Cause) (leg : Leg) (down : List ℕ)
-      → StrongCause setting before (Item.Stuck i t cause leg down)
+      → PacketStrongCause setting before (Item.Stuck i t cause leg down)
       → Fate setting journal s i header (before ++ Item.Stuck i t cause leg down ∷ [])
   stuck net converged updated known t cause leg down strong =
       let now = ended_by (Item.Stuck i t cause leg down) (rw own refl) refl in
@@ -302,10 +302,10 @@ module _ (setting : Setting) (journal : List Item) (s i : ℕ) (header : Header)
         how = by_leg leg strong now.1 (stuck_apart net converged known t cause leg down strong);
       })
     where
-      by_leg : (leg : Leg) → StrongCause setting before (Item.Stuck i t cause leg down)
+      by_leg : (leg : Leg) → PacketStrongCause setting before (Item.Stuck i t cause leg down)
           → (let after = before ++ Item.Stuck i t cause leg down ∷ [] in
           journal_decision_of after i ≡ journal_decision_of before i
-          → All (λ target. Reaches setting journal s target → ⊥) (journal_leg_targets setting journal leg)
+          → All (λ target. ConvergenceReaches setting journal s target → ⊥) (journal_leg_targets setting journal leg)
           → IsEnded setting journal s i after ⊎ ForwardingFindsNoTarget setting journal after i s header)
       by_leg (Exit port) strong same apart =
           let decision : Decision = strong.1.stuck.own_leg.0 in
@@ -329,12 +329,12 @@ module _ (setting : Setting) (journal : List Item) (s i : ℕ) (header : Header)
           inr (record {
             undecided = same ∙ strong.1.rightly.undecided;
             partition = partition;
-            own = ap (λ v. option_map (λ (p : Hosted). p.0.number)
-                (find (λ (p : Hosted). is_in_policy_partition header p.0) (journal_plan_at setting journal v))) (sym current)
-                ∙ ap (λ plan. option_map (λ (p : Hosted). p.0.number)
-                (find (λ (p : Hosted). is_in_policy_partition header p.0) plan)) (sym (follows.marks.plan version))
-                ∙ ap (λ h. option_map (λ (p : Hosted). p.0.number)
-                (find (λ (p : Hosted). is_in_policy_partition h p.0) (journal_plan_at setting before version)))
+            own = ap (λ v. option_map (λ (p : HostedPolicyPartition). p.0.number)
+                (find (λ (p : HostedPolicyPartition). is_in_policy_partition header p.0) (journal_plan_at setting journal v))) (sym current)
+                ∙ ap (λ plan. option_map (λ (p : HostedPolicyPartition). p.0.number)
+                (find (λ (p : HostedPolicyPartition). is_in_policy_partition header p.0) plan)) (sym (follows.marks.plan version))
+                ∙ ap (λ h. option_map (λ (p : HostedPolicyPartition). p.0.number)
+                (find (λ (p : HostedPolicyPartition). is_in_policy_partition h p.0) (journal_plan_at setting before version)))
                 (sym (some_same (journal_packet_header before i) found.0 header found.1 follows.entered))
                 ∙ found.2;
             stuck = subst (λ v. IsForwardingStuckApart setting journal (before ++ next ∷ []) i s
@@ -359,8 +359,8 @@ module _ (setting : Setting) (journal : List Item) (s i : ℕ) (header : Header)
     by true same = let is : packet ≡ i = eqb-true packet i same in
         subst (λ k. Fate setting journal s i header (before ++ next k ∷ [])) (sym is) (own is)
 
-  fate_next : IsNet setting.net → HasConverged setting journal → IsNetworkUpdateConverged setting journal
-      → Before setting before → (next : Item) → StrongCause setting before next
+  fate_next : IsNet setting.net → HasConverged setting journal → IsNetworkUpdated setting journal
+      → Before setting before → (next : Item) → PacketStrongCause setting before next
       → Fate setting journal s i header (before ++ next ∷ [])
   fate_next net converged updated known (Item.Entered packet t other) strong =
       let apart = comes_other packet i (journal_next_packet before) strong.0.0.number follows.number in
@@ -383,16 +383,16 @@ module _ (setting : Setting) (journal : List Item) (s i : ℕ) (header : Header)
       of_packet (λ k. Item.Decided k version rule act how) packet
       (λ apart. pass_on (Item.Decided packet version rule act how) refl (rw apart refl))
       (λ is. inl (travels_more before (Item.Decided i version rule act how) i
-      ∙ subst (λ k. IsTrue (travels before k)) is strong.0.at.travelling))
+      ∙ subst (λ k. IsTrue (travels_in_journal before k)) is strong.0.at.travelling))
   fate_next net converged updated known next strong = pass_on next refl refl
 
 -- each item of packets keeps it
 pub follows_on : (setting : Setting) (journal : List Item) (s i : ℕ) (header : Header)
-    → IsSetting setting → HasConverged setting journal → IsNetworkUpdateConverged setting journal
+    → IsMachineSetting setting → HasConverged setting journal → IsNetworkUpdated setting journal
     → AreKept (IsFollowed setting) (Follows setting journal s i header)
 follows_on setting journal s i header is converged updated before next cause follows =
     let known = known_before setting is before next cause.second.first in
-    let strong : StrongCause setting before next = cause.second.second in record {
+    let strong : PacketStrongCause setting before next = cause.second.second in record {
       stays = stays_on setting journal is.net i before next
           (passes_walks setting before next cause.first) follows.stays;
       marks = marks_stay setting journal before next cause.first follows.marks;

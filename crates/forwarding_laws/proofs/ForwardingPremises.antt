@@ -2,17 +2,17 @@
 -- computed; and three that recover, though their networks aren't quiet.
 use Rattle.std.proofs.Common.{[], ◌&&◌, ◌++◌, ◌+◌, ◌==◌, ◌||◌, ◌∙◌, ◌∷◌, ◌≡◌, ◌⊎◌, Bool, Contains, IsTrue, List, None, Ok, Option, Some, ap, append-nil, arith, codes, drop, false, inl, inr, map, not, option_map, refl, suc, sym, take, true, true≢false, zero, ℕ}
 use Rattle.base.proofs.Exports.{All-cons, All-from_recursion, All-nil, and_parts}
-use Rattle.failover.specs.Exports.{no_links, with_link}
-use Rattle.update_machine.specs.Exports.{Advertise, Answers, AreAllMachineEventSteps, AreMachineMessagesReceived, AreMachineSteps, Body, Confirm, Crash, Deliver, Event, Flush, Forget, JournalItemsHaveCauses, Hop, Installed, IsQuietMachineJournal, IsJournalMessageReceived, IsJournalMessageReplaced, Item, LinkDown, LinkUp, Lose, Message, NoAuthority, One, Packet, Place, MachineMessageReplaces, Resend, Restart, Seek, Setting, Step, StepOfRow, Update, journal_after_steps, is_machine_later_body, is_up, is_waited_for, journal_next_delivery, next_waiting, piece, was_delivered}
-use Rattle.steps.specs.Exports.{HasSwitch}
+use Rattle.failover.specs.Exports.{no_failover_links, with_failover_link}
+use Rattle.update_machine.specs.Exports.{Advertise, Answers, AreAllMachineEventSteps, AreMachineMessagesReceived, AreMachineSteps, Body, Confirm, Crash, Deliver, Event, Flush, Forget, JournalItemsHaveCauses, Hop, Installed, IsQuietMachineJournal, IsJournalMessageReceived, IsJournalMessageReplaced, Item, LinkDown, LinkUp, Lose, Message, NoAuthority, One, Packet, Place, MachineMessageReplaces, Resend, Restart, Seek, Setting, Step, MachineStepOfRow, Update, journal_after_steps, is_machine_later_body, is_up, is_waited_for_in_journal, journal_next_delivery, next_waiting, piece, was_delivered_in_journal}
+use Rattle.steps.specs.Exports.{StepSwitchExists}
 use Rattle.update_machine.proofs.Exports.{advert, at, by_action, left_by, network, one, open_net, out_or_drop, plan_p, plan_q, switch, to, to_controller}
-use Rattle.convergence_laws.specs.Exports.{IsNetworkUpdateConverged}
+use Rattle.convergence_laws.specs.Exports.{IsNetworkUpdated}
 use Rattle.forwarding_laws.specs.Exports.{RolloutAccountsForAll, ForwardingRecoveryAsksEach, ForwardingDropsNothing, EndsInRecovery, RolloutEndsRightly, RolloutFailsNothing, RolloutHasItem, HoldNewestAlone, NoneIsStuck, NothingFailsInRollout}
 use Rattle.forwarding_laws.proofs.RecoveredNetworks.{recovered_updated}
 
 -- ---- schedules of single steps, and such that end in a flush
 
-abbrev numbered : ℕ → List Step → List StepOfRow
+abbrev numbered : ℕ → List Step → List MachineStepOfRow
 numbered row [] = []
 numbered row (step ∷ steps) = at row step ∷ numbered (row + 1) steps
 
@@ -32,7 +32,7 @@ row_behind row [] = row
 row_behind row (step ∷ steps) = row_behind (row + 1) steps
 
 flushed : (setting : Setting) (row : ℕ) (steps : List Step) (before : List Item)
-    (deliveries : List StepOfRow) → AreAllMachineEventSteps setting journal_next_delivery (row_behind row steps)
+    (deliveries : List MachineStepOfRow) → AreAllMachineEventSteps setting journal_next_delivery (row_behind row steps)
     (journal_after_steps setting before (numbered row steps)) deliveries
     → AreMachineSteps setting row (map One steps ++ Flush ∷ []) before (numbered row steps ++ deliveries)
 flushed setting row [] before deliveries all =
@@ -47,7 +47,7 @@ flushed setting row (step ∷ steps) before deliveries all = (
 
 -- ---- a flush, computed
 
-abbrev flush : ℕ → Setting → ℕ → List Item → List StepOfRow
+abbrev flush : ℕ → Setting → ℕ → List Item → List MachineStepOfRow
 flush zero setting row before = []
 flush (suc n) setting row before = elim (next_waiting before) [
   | None ↦ []
@@ -62,7 +62,7 @@ all_flushed zero setting row before none = none
 all_flushed (suc n) setting row before none =
     by_next (next_waiting before) refl (all_flushed n setting row) none
   where
-    steps_of : Option ℕ → List StepOfRow
+    steps_of : Option ℕ → List MachineStepOfRow
     steps_of o = elim o [
       | None ↦ []
       | Some i ↦ at row (Deliver i)
@@ -101,7 +101,7 @@ without_resends = record {
   written = refl;
 }
 
-not_without_resends : IsNetworkUpdateConverged open_net tables_lost_journal → ⊥
+not_without_resends : IsNetworkUpdated open_net tables_lost_journal → ⊥
 unfolding left_by
 not_without_resends updated = not_current updated.current
 
@@ -119,7 +119,7 @@ without_flush = record {
   written = refl;
 }
 
-not_without_flush : IsNetworkUpdateConverged open_net undelivered_journal → ⊥
+not_without_flush : IsNetworkUpdated open_net undelivered_journal → ⊥
 unfolding left_by
 not_without_flush updated = not_current updated.current
 
@@ -130,7 +130,7 @@ unconfirmed = Crash 0 ∷ Update 2 ∷ Resend 0 ∷ Resend 1 ∷ []
 abbrev unconfirmed_front : List Item
 unconfirmed_front = journal_after_steps open_net [] (numbered 1 unconfirmed)
 
-abbrev unconfirmed_flush : List StepOfRow
+abbrev unconfirmed_flush : List MachineStepOfRow
 unconfirmed_flush = flush 24 open_net 5 unconfirmed_front
 
 abbrev unconfirmed_journal : List Item
@@ -145,7 +145,7 @@ without_confirms = record {
   written = refl;
 }
 
-not_without_confirms : IsNetworkUpdateConverged open_net unconfirmed_journal → ⊥
+not_without_confirms : IsNetworkUpdated open_net unconfirmed_journal → ⊥
 unfolding left_by
 not_without_confirms updated = not_current updated.current
 
@@ -160,7 +160,7 @@ asks_both step = record {
   is_one : Event → Type 0
   is_one row = (s : ℕ) × (row ≡ One (step s))
 
-  by_switch : (s : ℕ) → HasSwitch open_net.net s
+  by_switch : (s : ℕ) → StepSwitchExists open_net.net s
       → Contains (One (step 0) ∷ One (step 1) ∷ []) (One (step s))
   by_switch zero there = (0, omega arith, refl)
   by_switch (suc zero) there = (1, omega arith, refl)
@@ -211,7 +211,7 @@ unreplaced test message passes (_ ∷ after) none replaced =
 -- and where it wasn't delivered, it wasn't received
 unreceived : (test : Message → Bool) (number : ℕ) (message : Message)
     → ((later : Message) → MachineMessageReplaces later message → IsTrue (test later))
-    → (after : List Item) → IsTrue (none_pass test after) → was_delivered after number ≡ false
+    → (after : List Item) → IsTrue (none_pass test after) → was_delivered_in_journal after number ≡ false
     → IsJournalMessageReceived number message after → ⊥
 unreceived test number message passes after none lacks (inl came) = true≢false (sym came ∙ lacks)
 unreceived test number message passes after none lacks (inr replaced) =
@@ -224,7 +224,7 @@ advert_lost = LinkDown 0 1 ∷ LinkUp 0 1 ∷ Forget 1 ∷ LinkDown 0 1 ∷ reci
 abbrev advert_lost_front : List Item
 advert_lost_front = journal_after_steps open_net [] (numbered 1 advert_lost)
 
-abbrev advert_lost_flush : List StepOfRow
+abbrev advert_lost_flush : List MachineStepOfRow
 advert_lost_flush = flush 24 open_net 9 advert_lost_front
 
 abbrev advert_lost_journal : List Item
@@ -239,7 +239,7 @@ with_advert_lost = record {
   written = refl;
 }
 
-recovered_without_advert : IsNetworkUpdateConverged open_net advert_lost_journal
+recovered_without_advert : IsNetworkUpdated open_net advert_lost_journal
 recovered_without_advert =
     recovered_updated open_net (map One advert_lost ++ Flush ∷ []) advert_lost_journal
     (in_recovery (take 4 advert_lost)) with_advert_lost
@@ -280,7 +280,7 @@ origin_gone = LinkDown 0 1 ∷ LinkUp 0 1 ∷ Forget 1 ∷ Crash 0 ∷ recipe
 abbrev origin_gone_front : List Item
 origin_gone_front = journal_after_steps open_net [] (numbered 1 origin_gone)
 
-abbrev origin_gone_flush : List StepOfRow
+abbrev origin_gone_flush : List MachineStepOfRow
 origin_gone_flush = flush 24 open_net 9 origin_gone_front
 
 abbrev origin_gone_journal : List Item
@@ -295,7 +295,7 @@ with_origin_gone = record {
   written = refl;
 }
 
-recovered_without_origin : IsNetworkUpdateConverged open_net origin_gone_journal
+recovered_without_origin : IsNetworkUpdated open_net origin_gone_journal
 recovered_without_origin =
     recovered_updated open_net (map One origin_gone ++ Flush ∷ []) origin_gone_journal
     (in_recovery (take 4 origin_gone)) with_origin_gone
@@ -313,7 +313,7 @@ answer_lost = Update 2 ∷ Deliver 1 ∷ Deliver 1 ∷ Deliver 3 ∷ Forget 4 �
 abbrev answer_lost_front : List Item
 answer_lost_front = journal_after_steps open_net [] (numbered 1 answer_lost)
 
-abbrev answer_lost_flush : List StepOfRow
+abbrev answer_lost_flush : List MachineStepOfRow
 answer_lost_flush = flush 24 open_net 10 answer_lost_front
 
 abbrev answer_lost_journal : List Item
@@ -328,7 +328,7 @@ with_answer_lost = record {
   written = refl;
 }
 
-recovered_without_answer : IsNetworkUpdateConverged open_net answer_lost_journal
+recovered_without_answer : IsNetworkUpdated open_net answer_lost_journal
 recovered_without_answer =
     recovered_updated open_net (map One answer_lost ++ Flush ∷ []) answer_lost_journal
     (in_recovery (take 5 answer_lost)) with_answer_lost
@@ -372,7 +372,7 @@ joining = Crash 0 ∷ Restart 0 ∷ Deliver 1 ∷ Deliver 2 ∷ Update 2 ∷ Del
 abbrev joining_front : List Item
 joining_front = journal_after_steps open_net [] (numbered 1 joining)
 
-abbrev joining_flush : List StepOfRow
+abbrev joining_flush : List MachineStepOfRow
 joining_flush = flush 24 open_net 15 joining_front
 
 abbrev joining_journal : List Item
@@ -400,15 +400,15 @@ not_after_one_round newest = not_held (newest 0 1 (omega arith) refl)
 -- nor does it help that this network is quiet
 abbrev all_delivered : List Item → Bool
 all_delivered [] = true
-all_delivered (Item.Sent number message ∷ after) = was_delivered after number && all_delivered after
+all_delivered (Item.Sent number message ∷ after) = was_delivered_in_journal after number && all_delivered after
 all_delivered (_ ∷ after) = all_delivered after
 
 all_received : (setting : Setting) (journal items : List Item) → IsTrue (all_delivered items)
     → AreMachineMessagesReceived setting journal items
 all_received setting journal [] all = tt
 all_received setting journal (Item.Sent number message ∷ after) all = (
-  λ s there m. inl (and_parts (was_delivered after number) _ all).0,
-  all_received setting journal after (and_parts (was_delivered after number) _ all).1,
+  λ s there m. inl (and_parts (was_delivered_in_journal after number) _ all).0,
+  all_received setting journal after (and_parts (was_delivered_in_journal after number) _ all).1,
 )
 all_received setting journal (_ ∷ after) all = all_received setting journal after all
 
@@ -416,7 +416,7 @@ quiet_after_one_round : IsQuietMachineJournal open_net joining_journal
 unfolding left_by
 quiet_after_one_round = record {
   switches = All-from_recursion
-      (λ s. IsTrue (is_up joining_journal s || not (is_waited_for joining_journal s)))
+      (λ s. IsTrue (is_up joining_journal s || not (is_waited_for_in_journal joining_journal s)))
       (0 ∷ 1 ∷ []) (refl {a = true}, (refl {a = true}, tt));
   messages = all_received open_net joining_journal joining_journal (refl {a = true});
 }
@@ -461,7 +461,7 @@ with_link_down = record {
 not_with_link_down : NoneIsStuck link_failed_journal → ⊥
 unfolding left_by
 not_with_link_down none =
-    none 1 0 NoAuthority (Seek 1 0) (with_link no_links 0 1) (7, omega arith, refl)
+    none 1 0 NoAuthority (Seek 1 0) (with_failover_link no_failover_links 0 1) (7, omega arith, refl)
 
 -- where the links of the network lead to no target, a packet is stuck though nothing fails
 abbrev apart_net : Setting
@@ -489,7 +489,7 @@ unconnected = record {
 
 not_unconnected : NoneIsStuck cut_off_journal → ⊥
 unfolding left_by
-not_unconnected none = none 1 0 NoAuthority (Seek 1 0) no_links (2, omega arith, refl)
+not_unconnected none = none 1 0 NoAuthority (Seek 1 0) no_failover_links (2, omega arith, refl)
 
 -- and before a drain a packet still travels
 abbrev undrained_journal : List Item

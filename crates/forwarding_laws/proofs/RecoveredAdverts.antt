@@ -2,14 +2,14 @@
 -- it learnt then, and all of that was delivered.
 use Rattle.std.proofs.Common.{[], ◌++◌, ◌+◌, ◌-◌, ◌<◌, ◌==◌, ◌∙◌, ◌∷◌, ◌≡◌, ◌≢◌, ◌≤◌, Bool, IsFalse, IsTrue, List, None, Some, ap, append-nil, append_assoc, arith, false, filter, flat_map, if◌then◌else◌, inl, inr, length, map, nat_lt, not, refl, subst, sym, true, ℕ}
 use Rattle.base.proofs.Exports.{nat_tests}
-use Rattle.update_machine.specs.Exports.{Advert, Advertise, JournalItemsHaveCauses, Item, Message, Resend, Setting, StepOfRow, acked_stamp, machine_advert_to, journal_after_steps, journal_boot_of, machine_collect_for, journal_current_mark, has_acked, heard, journal_held_adverts, machine_hello_of, journal_install_for, is_member, is_over, is_up, near, journal_next_message, journal_open_for, open_version, machine_advert_of_other, own_advert, piece, machine_resend_items, journal_resent_by_controller, journal_resent_by_switch, journal_resent_to_member, journal_retired_mark, machine_sends_or_nothing, journal_stamp_for, setting_switches_in, setting_switches_of, journal_unacked_installs, journal_version_count, journal_versions_from_current}
+use Rattle.update_machine.specs.Exports.{Advert, Advertise, JournalItemsHaveCauses, Item, Message, Resend, Setting, MachineStepOfRow, acked_stamp, machine_advert_to, journal_after_steps, journal_boot_of, machine_collect_for, journal_current_mark, has_acked, heard, journal_held_adverts, machine_hello_of, journal_install_for, is_member, is_over, is_up, near, journal_next_message, journal_open_for, open_version, machine_advert_of_other, own_advert, piece, machine_resend_items, journal_resent_by_controller, journal_resent_by_switch, journal_resent_to_member, journal_retired_mark, machine_sends_or_nothing, journal_stamp_for, machine_switches_in, machine_switches_of, journal_unacked_installs, journal_version_count, journal_versions_from_current}
 use Rattle.control_laws.proofs.Exports.{behind_piece, ends_serve, later_versions, resends_any, same_seq}
 use Rattle.convergence_laws.proofs.Exports.{AreSpread, HasNews, IsGivenNew, IsHad, IsIn, IsStill, IsToldTo, Leaves, Spread, TellsOwn, as_new_itself, ends_there, had_back, heard_in_boot, held_in, in_filter, in_filter_map, in_flat_map, in_left, in_map, in_range, in_right, newest_held, next_grows, own_held, sends_tell, spread_agree, stills_leave, told_stills}
 use Rattle.forwarding_laws.proofs.RecoveryDeliveries.{IsFlushed, IsSince, sends_since, since_delivered}
 use Rattle.base.specs.Exports.{has}
 use Rattle.net_file.specs.Exports.{IsNet}
-use Rattle.steps.specs.Exports.{HasSwitch}
-use Rattle.convergence_laws.specs.Exports.{IsConvergenceAdvertAsNew, NeighboursAgree}
+use Rattle.steps.specs.Exports.{StepSwitchExists}
+use Rattle.convergence_laws.specs.Exports.{IsConvergenceAdvertAsNew, ConvergenceNeighboursAgree}
 use Rattle.update_machine.proofs.Exports.{have_append}
 use Rattle.forwarding_laws.proofs.RecoveryRows.{AreEach, IsAmong}
 
@@ -21,7 +21,7 @@ use Rattle.forwarding_laws.proofs.RecoveryRows.{AreEach, IsAmong}
 abbrev sent_by : Setting → List Item → ℕ → List Message
 sent_by setting here s = machine_hello_of here s
     ∷ flat_map (λ neighbour. map (machine_advert_to neighbour) (journal_held_adverts setting here s))
-    (setting_switches_in setting (near setting here s))
+    (machine_switches_in setting (near setting here s))
 
 pub hello_resent : (setting : Setting) (here : List Item) (s : ℕ) → IsTrue (is_up here s)
     → IsIn (machine_hello_of here s) (journal_resent_by_switch setting here s)
@@ -31,7 +31,7 @@ hello_resent setting here s up = subst (λ b. IsIn (machine_hello_of here s) (el
 ])) (sym up) (inl refl)
 
 pub advert_resent : (setting : Setting) (here : List Item) (s neighbour : ℕ) (advert : Advert)
-    → IsTrue (is_up here s) → IsIn neighbour (setting_switches_in setting (near setting here s))
+    → IsTrue (is_up here s) → IsIn neighbour (machine_switches_in setting (near setting here s))
     → IsIn advert (journal_held_adverts setting here s)
     → IsIn (machine_advert_to neighbour advert) (journal_resent_by_switch setting here s)
 advert_resent setting here s neighbour advert up linked held =
@@ -40,7 +40,7 @@ advert_resent setting here s neighbour advert up linked held =
       | true ↦ sent_by setting here s
     ])) (sym up)
     (inr (in_flat_map (λ to. map (machine_advert_to to) (journal_held_adverts setting here s)) neighbour
-    (machine_advert_to neighbour advert) (setting_switches_in setting (near setting here s)) linked
+    (machine_advert_to neighbour advert) (machine_switches_in setting (near setting here s)) linked
     (in_map (machine_advert_to neighbour) advert (journal_held_adverts setting here s) held)))
 
 -- ---- by the controller
@@ -198,7 +198,7 @@ still_piece setting at row s =
     (record { items = Item.Row row (Resend s) ∷ []; is = refl; have = (tt, tt) })
     (still_rest setting at row s)
 
-still_steps : (setting : Setting) (before : List Item) (steps : List StepOfRow)
+still_steps : (setting : Setting) (before : List Item) (steps : List MachineStepOfRow)
     → AreEach Resend steps → Stilly before (journal_after_steps setting before steps)
 still_steps setting before [] are = record { items = []; is = sym (append-nil before); have = tt }
 still_steps setting before (next ∷ steps) are =
@@ -214,7 +214,7 @@ record AskedStill (setting : Setting) (before after : List Item) (s : ℕ) : Typ
   late : journal_next_message before ≤ journal_next_message at
   rest : Stilly (at ++ piece setting at row (Resend s)) after
 
-asked_still : (setting : Setting) (s : ℕ) (before : List Item) (steps : List StepOfRow)
+asked_still : (setting : Setting) (s : ℕ) (before : List Item) (steps : List MachineStepOfRow)
     → AreEach Resend steps → IsAmong (Resend s) steps
     → AskedStill setting before (journal_after_steps setting before steps) s
 asked_still setting s before [] are is = absurd is
@@ -257,9 +257,9 @@ record IsHeldAsNew (setting : Setting) (here : List Item) (s : ℕ) (than : Adve
   as_new : IsConvergenceAdvertAsNew advert than
   held : IsIn advert (journal_held_adverts setting here s)
 
-pub resends_spread : (setting : Setting) (before : List Item) (steps : List StepOfRow)
+pub resends_spread : (setting : Setting) (before : List Item) (steps : List MachineStepOfRow)
     → IsNet setting.net → AreEach Resend steps
-    → ((s : ℕ) → HasSwitch setting.net s → IsAmong (Resend s) steps)
+    → ((s : ℕ) → StepSwitchExists setting.net s → IsAmong (Resend s) steps)
     → TellsOwn setting (journal_after_steps setting before steps)
     → Spread setting (journal_next_message before) (journal_after_steps setting before steps)
 resends_spread setting before steps net are each tells =
@@ -277,7 +277,7 @@ resends_spread setting before steps net are each tells =
           (sym asked.rest.is)
           (told_stills setting behind asked.rest.items neighbour best.advert asked.rest.have told));
     } where
-      there : HasSwitch setting.net s
+      there : StepSwitchExists setting.net s
       there = (ends_there setting after s neighbour net linked).one
 
       asked : AskedStill setting before after s
@@ -326,7 +326,7 @@ resends_spread setting before steps net are each tells =
           let fits = (ends_there setting after s neighbour net linked).other in
           in_left _ (journal_resent_by_switch setting here s) (journal_resent_by_controller setting here s)
           (advert_resent setting here s neighbour best.advert up
-          (in_filter (has (near setting here s)) neighbour (setting_switches_of setting) (in_range neighbour
+          (in_filter (has (near setting here s)) neighbour (machine_switches_of setting) (in_range neighbour
           0 (length setting.net.switches) (omega arith) (omega (arith, fits))) near_here) best.held)
 
       told : IsToldTo (journal_next_message before) behind neighbour best.advert
@@ -353,6 +353,6 @@ told_given setting before journal are s b up other told = record {
 
 pub recovered_agree : (setting : Setting) (before journal : List Item)
     → IsFlushed setting before journal → AreSpread setting (journal_next_message before) journal
-    → NeighboursAgree setting journal
+    → ConvergenceNeighboursAgree setting journal
 recovered_agree setting before journal are spread = spread_agree setting journal spread
     (λ s b there up other told. told_given setting before journal are s b up other told)

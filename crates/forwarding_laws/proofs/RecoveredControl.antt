@@ -1,8 +1,8 @@
 -- After recovery the controller knows of each switch that is up what it needs.
 use Rattle.std.proofs.Common.{[], ◌<◌, ◌∙◌, ◌≡◌, ◌≤◌, ◌⊎◌, All, Bool, IsFalse, IsTrue, List, None, Some, ap, arith, eq-eqb, false, inl, inr, length, refl, subst, sym, true, ℕ}
 use Rattle.base.proofs.Exports.{cases_lt}
-use Rattle.ctrl_msg.specs.Exports.{body_boot, to_controller}
-use Rattle.update_machine.specs.Exports.{Body, JournalItemsHaveCauses, Hello, Install, Installed, Item, Message, OpenAt, Setting, Stamp, Stamped, Tables, acked_stamp, journal_boot_of, journal_controller_heard, journal_current_mark, has_acked, is_journal_body_for_boot, is_member, is_over, is_up, journal_known_boot, journal_message_of, journal_next_message, open_version, journal_opened_at, journal_resent_by_controller, journal_resent_by_switch, sendings, serves, setting_switches_of, journal_tables_at, machine_message_to_switch, machine_touched_by, journal_version_count, was_delivered}
+use Rattle.ctrl_msg.specs.Exports.{body_boot, message_to_controller}
+use Rattle.update_machine.specs.Exports.{Body, JournalItemsHaveCauses, Hello, Install, Installed, Item, Message, OpenAt, Setting, Stamp, Stamped, Tables, acked_stamp, journal_boot_of, journal_controller_heard, journal_current_mark, has_acked, is_journal_body_for_boot, is_member, is_over, is_up, journal_known_boot, journal_message_of, journal_next_message, open_version, journal_opened_at, journal_resent_by_controller, journal_resent_by_switch, machine_sendings, serves, machine_switches_of, journal_tables_at, machine_message_to_switch, machine_touched_by, journal_version_count, was_delivered_in_journal}
 use Rattle.ternary.specs.Exports.{WordValue}
 use Rattle.update_machine.proofs.Exports.{start_laws}
 use Rattle.control_laws.specs.Exports.{HasControlItemCause, control_stamp_message_to}
@@ -28,7 +28,7 @@ pub record IsRecovered (setting : Setting) (before journal : List Item) : Type 0
   pub causes : JournalItemsHaveCauses (IsInOrder setting) [] before
   pub ready : AreReady setting journal
   pub asked : (s : ℕ) → s < length setting.net.switches → IsAsked setting before journal s
-  pub delivers : (n : ℕ) → journal_next_message before ≤ n → IsTrue (was_delivered journal n)
+  pub delivers : (n : ℕ) → journal_next_message before ≤ n → IsTrue (was_delivered_in_journal journal n)
       → IsDeliveredIn setting before journal n
 
 -- and what is known then of a switch that is up, where its known boot is that of the end
@@ -91,12 +91,12 @@ module _ (setting : Setting) (before journal : List Item)
       are.flushed sent.number sent.boot (machine_message_to_switch s body) sent.late sent.is))
       ((each_in (IsTraced journal)
       (record { number = sent.number; message = machine_message_to_switch s body; boot = sent.boot })
-      (sendings journal) are.flushed.traced.each sent.is).message) up own
+      (machine_sendings journal) are.flushed.traced.each sent.is).message) up own
     where
       own : IsTrue (is_journal_body_for_boot (journal_boot_of journal s) body)
       own = rw of (eq-eqb (journal_boot_of journal s) (journal_boot_of journal s) refl)
 
-  told : (body : Body) → IsSince since journal (to_controller body)
+  told : (body : Body) → IsSince since journal (message_to_controller body)
       → IsIn body (journal_controller_heard journal)
   told body sent = since_told setting before journal are.flushed body sent
 
@@ -108,7 +108,7 @@ module _ (setting : Setting) (before journal : List Item)
       let asked = are.asked s there in
       let left = stays setting asked.here journal asked.rest in
       let heard = told (Hello s (journal_boot_of journal s))
-      (subst (λ b. IsSince since journal (to_controller (Hello s b))) (sym (left.boot s))
+      (subst (λ b. IsSince since journal (message_to_controller (Hello s b))) (sym (left.boot s))
       (asked.sends _ (in_left _ _ _ (hello_resent setting asked.here s (sym (left.up s) ∙ up))))) in
       let below = are.ready.recorded.known.boots.known s in
       omega (arith, hello_known journal s (journal_boot_of journal s) heard, below)
@@ -322,7 +322,7 @@ module _ (setting : Setting) (before journal : List Item)
         ]
   ]
 
-  pub recovered_caught : All (IsConfirmed before) (setting_switches_of setting) → IsCaughtUp setting journal
+  pub recovered_caught : All (IsConfirmed before) (machine_switches_of setting) → IsCaughtUp setting journal
   recovered_caught confirmed = record {
     switches = all_confirmed_on setting before journal calm confirmed;
     known = known_own;

@@ -1,15 +1,15 @@
 -- Recovery, of each journal that answers a schedule that ends in it.
 use Rattle.std.proofs.Common.{[], ◌++◌, ◌∙◌, ◌∷◌, ◌≡◌, ◌≤◌, ◌⊎◌, Bool, IsTrue, List, None, Option, Some, arith, false, inl, inr, option_map, refl, subst, suc, sym, true, zero, ℕ}
-use Rattle.update_machine.specs.Exports.{Answers, AreAllMachineEventSteps, Deliver, Event, Flush, JournalItemsHaveCauses, IsSetting, Item, Message, Resend, Setting, Step, StepOfRow, MachineTakesNextNumber, journal_after_steps, is_forgotten_in_journal, journal_message_of, journal_next_delivery, journal_next_message, next_waiting, piece, was_delivered}
+use Rattle.update_machine.specs.Exports.{Answers, AreAllMachineEventSteps, Deliver, Event, Flush, JournalItemsHaveCauses, IsMachineSetting, Item, Message, Resend, Setting, Step, MachineStepOfRow, MachineTakesNextNumber, journal_after_steps, is_forgotten_in_journal, journal_message_of, journal_next_delivery, journal_next_message, next_waiting, piece, was_delivered_in_journal}
 use Rattle.net_file.specs.Exports.{IsNet}
-use Rattle.steps.specs.Exports.{HasSwitch}
+use Rattle.steps.specs.Exports.{StepSwitchExists}
 use Rattle.update_machine.proofs.Exports.{AreOf, after_append, start_laws}
-use Rattle.control_laws.specs.Exports.{AreNetworkEvents, ControlLawHoldsAtEnds}
+use Rattle.control_laws.specs.Exports.{AreControlNetworkEvents, ControlLawHoldsAtEnds}
 use Rattle.control_laws.proofs.Exports.{AreKept, by_number, fact_on, steps_have}
-use Rattle.convergence_laws.specs.Exports.{ConvergedGetStuckApart, HasConverged, IsNetworkUpdateConverged, NeighboursAgree}
+use Rattle.convergence_laws.specs.Exports.{ConvergedGetStuckApart, HasConverged, IsNetworkUpdated, ConvergenceNeighboursAgree}
 use Rattle.convergence_laws.proofs.Exports.{AreReady, AreTraced, IsInOrder, all_end, caught_updated, caused_traced, ends_spread, ends_tell, flush_ends, next_first, next_grows, none_waits, pieces_in_order, sent_delivered, steps_ready, steps_spread}
 use Rattle.packet_laws.specs.Exports.{PacketLawHoldsBetween}
-use Rattle.forwarding_laws.specs.Exports.{ForwardingRecoveryDeliversAll, EndsInRecovery, HasRecovered, ForwardsWhenQuiet}
+use Rattle.forwarding_laws.specs.Exports.{AllForwardingMessagesDelivered, EndsInRecovery, HasRecovered, NetworkForwards}
 use Rattle.forwarding_laws.proofs.RecoveredAdverts.{piece_resends, recovered_agree, resends_spread}
 use Rattle.forwarding_laws.proofs.RecoveryCalmItems.{Calmly, IsCalmStep, calm_rest, calm_row, calm_steps, calm_through, stays}
 use Rattle.forwarding_laws.proofs.RecoveredControl.{IsAsked, IsRecovered, recovered_caught}
@@ -18,7 +18,7 @@ use Rattle.forwarding_laws.proofs.RecoveryRows.{EndsCalmly, IsTakenIn, among_tak
 
 -- ---- deliveries are calm
 
-all_calm : (setting : Setting) (row : ℕ) (before : List Item) (steps : List StepOfRow)
+all_calm : (setting : Setting) (row : ℕ) (before : List Item) (steps : List MachineStepOfRow)
     → AreAllMachineEventSteps setting journal_next_delivery row before steps → AreOf IsCalmStep steps
 all_calm setting row before [] all = tt
 all_calm setting row before (first ∷ steps) all = (
@@ -29,7 +29,7 @@ all_calm setting row before (first ∷ steps) all = (
   by_next None step e = absurd cc
   by_next (Some n) step e = let same : Deliver n ≡ step = cc in subst IsCalmStep same tt
 
-both_calm : (one other : List StepOfRow) → AreOf IsCalmStep one → AreOf IsCalmStep other
+both_calm : (one other : List MachineStepOfRow) → AreOf IsCalmStep one → AreOf IsCalmStep other
     → AreOf IsCalmStep (one ++ other)
 both_calm [] other first later = later
 both_calm (next ∷ one) other first later = (first.0, both_calm one other first.1 later)
@@ -51,7 +51,7 @@ module _ (setting : Setting) (journal : List Item) (ends : EndsCalmly setting jo
   flush_calm = all_calm setting ends.row resent ends.flush ends.all
 
   -- all steps behind the confirmations
-  abbrev last : List StepOfRow
+  abbrev last : List MachineStepOfRow
   last = ends.resends ++ ends.flush
 
   last_calm : AreOf IsCalmStep last
@@ -91,7 +91,7 @@ module _ (setting : Setting) (journal : List Item) (ends : EndsCalmly setting jo
 
   -- ---- adverts
 
-  pub ends_agree : IsNet setting.net → NeighboursAgree setting journal
+  pub ends_agree : IsNet setting.net → ConvergenceNeighboursAgree setting journal
   ends_agree net = recovered_agree setting confirmed journal flushed
       (rw by_all (ends_spread setting (ends.first ++ last) net (rw (sym ends.written ∙ by_all) at
       (steps_spread setting resent ends.flush net late resent_causes (resends_spread setting
@@ -104,7 +104,7 @@ module _ (setting : Setting) (journal : List Item) (ends : EndsCalmly setting jo
 
   -- ---- control
 
-  asked : (s : ℕ) → HasSwitch setting.net s → IsAsked setting confirmed journal s
+  asked : (s : ℕ) → StepSwitchExists setting.net s → IsAsked setting confirmed journal s
   asked s there = record {
     here = here;
     first = calm_through setting confirmed taken.at here taken.first
@@ -130,12 +130,12 @@ module _ (setting : Setting) (journal : List Item) (ends : EndsCalmly setting jo
     late : journal_next_message confirmed ≤ journal_next_message here
     late = omega (arith, (stays setting confirmed taken.at taken.first).numbers, next_grows)
 
-  delivers : (n : ℕ) → journal_next_message confirmed ≤ n → IsTrue (was_delivered journal n)
+  delivers : (n : ℕ) → journal_next_message confirmed ≤ n → IsTrue (was_delivered_in_journal journal n)
       → IsDeliveredIn setting confirmed journal n
   delivers n late is = rw by_last (find_delivery setting confirmed last n last_calm
-      (by_first (was_delivered confirmed n) refl) (rw by_last at is))
+      (by_first (was_delivered_in_journal confirmed n) refl) (rw by_last at is))
     where
-      by_first : (b : Bool) → was_delivered confirmed n ≡ b → was_delivered confirmed n ≡ false
+      by_first : (b : Bool) → was_delivered_in_journal confirmed n ≡ b → was_delivered_in_journal confirmed n ≡ false
       by_first false e = e
       by_first true e =
           absurd (omega (arith, (caused_traced setting confirmed first_causes).delivered n e, late))
@@ -149,7 +149,7 @@ module _ (setting : Setting) (journal : List Item) (ends : EndsCalmly setting jo
     delivers = delivers;
   }
 
-  pub ends_updated : IsNetworkUpdateConverged setting journal
+  pub ends_updated : IsNetworkUpdated setting journal
   ends_updated = caught_updated setting journal ends_recovered.ready
       (recovered_caught setting confirmed journal ends_recovered ends.switches)
 
@@ -157,12 +157,12 @@ module _ (setting : Setting) (journal : List Item) (ends : EndsCalmly setting jo
 
 pub recovered_neighbours : (setting : Setting) (events : List Event) (journal : List Item)
     → IsNet setting.net → EndsInRecovery setting.net events → Answers setting events journal
-    → NeighboursAgree setting journal
+    → ConvergenceNeighboursAgree setting journal
 recovered_neighbours setting events journal net ends answers =
     ends_agree setting journal (ends_calmly setting events journal ends answers) net
 
 pub recovered_updated : (setting : Setting) (events : List Event) (journal : List Item)
-    → EndsInRecovery setting.net events → Answers setting events journal → IsNetworkUpdateConverged setting journal
+    → EndsInRecovery setting.net events → Answers setting events journal → IsNetworkUpdated setting journal
 recovered_updated setting events journal ends answers =
     ends_updated setting journal (ends_calmly setting events journal ends answers)
 
@@ -170,16 +170,16 @@ recovered_updated setting events journal ends answers =
 
 abbrev pub Agrees : (Setting → List Item → Type 0) → Setting → List Item → Type 0
 Agrees Holds setting journal =
-    IsNet setting.net → NeighboursAgree setting journal → Holds setting journal
+    IsNet setting.net → ConvergenceNeighboursAgree setting journal → Holds setting journal
 
 abbrev pub ForwardsBy : Setting → List Item → Type 0
-ForwardsBy setting journal = IsSetting setting → HasConverged setting journal
-    → IsNetworkUpdateConverged setting journal → ForwardsWhenQuiet setting journal
+ForwardsBy setting journal = IsMachineSetting setting → HasConverged setting journal
+    → IsNetworkUpdated setting journal → NetworkForwards setting journal
 
 pub recovered_converged : ControlLawHoldsAtEnds (Agrees HasConverged)
     → ((setting : Setting) (events : List Event) (journal : List Item) → IsNet setting.net
     → EndsInRecovery setting.net events → Answers setting events journal
-    → NeighboursAgree setting journal)
+    → ConvergenceNeighboursAgree setting journal)
     → (setting : Setting) (events : List Event) (journal : List Item) → IsNet setting.net
     → EndsInRecovery setting.net events → Answers setting events journal
     → HasConverged setting journal
@@ -189,7 +189,7 @@ recovered_converged converge agree setting events journal net ends answers =
 
 pub calm_recovers : ControlLawHoldsAtEnds (Agrees HasConverged) → ControlLawHoldsAtEnds (Agrees ConvergedGetStuckApart)
     → PacketLawHoldsBetween ForwardsBy → (setting : Setting) (events : List Event) (journal : List Item)
-    → IsSetting setting → AreNetworkEvents setting events → Answers setting events journal
+    → IsMachineSetting setting → AreControlNetworkEvents setting events → Answers setting events journal
     → EndsCalmly setting journal → HasRecovered setting journal
 calm_recovers converge part forward setting events journal is own answers ends = record {
   converged = converged;
@@ -198,7 +198,7 @@ calm_recovers converge part forward setting events journal is own answers ends =
   forwards = forward.answered setting events journal own answers is converged
       (ends_updated setting journal ends);
 } where
-  agree : NeighboursAgree setting journal
+  agree : ConvergenceNeighboursAgree setting journal
   agree = ends_agree setting journal ends is.net
 
   converged : HasConverged setting journal
@@ -206,7 +206,7 @@ calm_recovers converge part forward setting events journal is own answers ends =
 
 pub recovers : ControlLawHoldsAtEnds (Agrees HasConverged) → ControlLawHoldsAtEnds (Agrees ConvergedGetStuckApart)
     → PacketLawHoldsBetween ForwardsBy → (setting : Setting) (events : List Event) (journal : List Item)
-    → IsSetting setting → AreNetworkEvents setting events → EndsInRecovery setting.net events
+    → IsMachineSetting setting → AreControlNetworkEvents setting events → EndsInRecovery setting.net events
     → Answers setting events journal → HasRecovered setting journal
 recovers converge part forward setting events journal is own ends answers =
     calm_recovers converge part forward setting events journal is own answers
@@ -239,17 +239,17 @@ first_numbers setting journal causes (suc n) message sent = omega arith
 
 one_of : (journal : List Item) (n : ℕ) (message : Message) → AreTraced journal
     → next_waiting journal ≡ None → 1 ≤ n → journal_message_of journal n ≡ Some message
-    → IsTrue (was_delivered journal n) ⊎ IsTrue (is_forgotten_in_journal journal n)
+    → IsTrue (was_delivered_in_journal journal n) ⊎ IsTrue (is_forgotten_in_journal journal n)
 one_of journal n message traced waiting first sent = by_forgotten (is_forgotten_in_journal journal n) refl
   where
     by_forgotten : (b : Bool) → is_forgotten_in_journal journal n ≡ b
-        → IsTrue (was_delivered journal n) ⊎ IsTrue (is_forgotten_in_journal journal n)
+        → IsTrue (was_delivered_in_journal journal n) ⊎ IsTrue (is_forgotten_in_journal journal n)
     by_forgotten true e = inr e
     by_forgotten false e = inl (sent_delivered journal n message waiting e sent first
         (traced.sent n message sent))
 
 pub flushed_all : (setting : Setting) (events : List Event) (journal : List Item)
-    → Answers setting (events ++ Flush ∷ []) journal → ForwardingRecoveryDeliversAll journal
+    → Answers setting (events ++ Flush ∷ []) journal → AllForwardingMessagesDelivered journal
 flushed_all setting events journal answers n message sent =
     one_of journal n message (caused_traced setting journal causes) waiting
     (first_numbers setting journal causes n message sent) sent

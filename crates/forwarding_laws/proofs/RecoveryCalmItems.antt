@@ -3,7 +3,7 @@
 -- only grows.
 use Rattle.std.proofs.Common.{[], if◌then◌else◌, ◌++◌, ◌<◌, ◌==◌, ◌∙◌, ◌∷◌, ◌≡◌, ◌≤◌, Bool, IsFalse, IsTrue, List, None, Some, ap, append-nil, append_assoc, arith, false, refl, subst, sym, true, unwrap_or, ℕ}
 use Rattle.base.proofs.Exports.{nat_tests, option_or, ⊤}
-use Rattle.update_machine.specs.Exports.{Body, Confirm, Deliver, JournalItemsHaveCauses, Item, Message, Resend, Setting, Step, StepOfRow, MachineTakesNextNumber, acked_stamp, journal_after_steps, journal_boot_of, journal_current_mark, machine_first_open, gives_journal_waited_for, has_acked, is_forgotten_in_journal, is_up, is_waited_for, journal_known_boot, journal_link_changes, journal_message_of, journal_next_message, machine_open_sent, journal_opened_at, piece, journal_retired_mark, send_items, serves, machine_step_items, journal_switch_items, journal_version_count}
+use Rattle.update_machine.specs.Exports.{Body, Confirm, Deliver, JournalItemsHaveCauses, Item, Message, Resend, Setting, Step, MachineStepOfRow, MachineTakesNextNumber, acked_stamp, journal_after_steps, journal_boot_of, journal_current_mark, machine_first_open, gives_journal_waited_for, has_acked, is_forgotten_in_journal, is_up, is_waited_for_in_journal, journal_known_boot, journal_link_changes, journal_message_of, journal_next_message, machine_open_sent, journal_opened_at, piece, journal_retired_mark, machine_send_items, serves, machine_step_items, journal_switch_items, journal_version_count}
 use Rattle.update_machine.proofs.Exports.{AreOf, have_append, have_first, next_rises}
 use Rattle.control_laws.proofs.Exports.{AreKept, Both, IsControl, acked_more, acked_stamp_rises, boot_more, confirm_control, controller_control, count_more, current_rises, deliver_has, fact_on, have_both, have_weaker, known_rises, last_more, message_more, opened_at_more, opened_in, opened_on, resends_any, retired_rises, sends_any, serving_more, switch_cases, up_more}
 use Rattle.convergence_laws.proofs.Exports.{IsInOrder, forgotten_more, pieces_in_order}
@@ -34,7 +34,7 @@ control_is_calm before (Item.Submitted file version) is = absurd is
 control_is_calm before _ is = tt
 
 sends_calm : (journal : List Item) (messages : List Message)
-    → JournalItemsHaveCauses IsCalm journal (send_items journal messages)
+    → JournalItemsHaveCauses IsCalm journal (machine_send_items journal messages)
 sends_calm = sends_any IsCalm (λ before n message. tt)
 
 links_calm : (setting : Setting) (before journal : List Item)
@@ -115,7 +115,7 @@ calm_piece setting before row step is = calm_through setting before
     (before ++ Item.Row row step ∷ []) (before ++ piece setting before row step)
     (calm_row setting before row step is) (calm_rest setting before row step is)
 
-pub calm_steps : (setting : Setting) (before : List Item) (steps : List StepOfRow)
+pub calm_steps : (setting : Setting) (before : List Item) (steps : List MachineStepOfRow)
     → AreOf IsCalmStep steps → Calmly setting before (journal_after_steps setting before steps)
 calm_steps setting before [] are = calm_itself setting before
 calm_steps setting before (next ∷ steps) are =
@@ -130,7 +130,7 @@ pub record Stays (before after : List Item) : Type 0 where
   pub boot : (s : ℕ) → journal_boot_of after s ≡ journal_boot_of before s
   pub forgotten : (n : ℕ) → is_forgotten_in_journal after n ≡ is_forgotten_in_journal before n
   pub count : journal_version_count after ≡ journal_version_count before
-  pub confirmed : (s : ℕ) → IsFalse (is_waited_for before s) → IsFalse (is_waited_for after s)
+  pub confirmed : (s : ℕ) → IsFalse (is_waited_for_in_journal before s) → IsFalse (is_waited_for_in_journal after s)
   pub serving : (s : ℕ) → IsTrue (serves before s) → IsTrue (serves after s)
   pub current : journal_current_mark before ≤ journal_current_mark after
   pub retired : journal_retired_mark before ≤ journal_retired_mark after
@@ -141,13 +141,13 @@ pub record Stays (before after : List Item) : Type 0 where
   pub messages : (n : ℕ) → n < journal_next_message before → journal_message_of after n ≡ journal_message_of before n
 
 pub next_confirmed : (before : List Item) (next : Item) (s : ℕ) → IsCalm before next
-    → IsFalse (is_waited_for before s) → IsFalse (is_waited_for (before ++ next ∷ []) s)
+    → IsFalse (is_waited_for_in_journal before s) → IsFalse (is_waited_for_in_journal (before ++ next ∷ []) s)
 next_confirmed before (Item.Down t) s calm none = absurd calm
 next_confirmed before (Item.OverNow t) s calm none =
     rw (last_more (gives_journal_waited_for s) before (Item.OverNow t) false) (by_test (t == s) none)
   where
-    by_test : (b : Bool) → IsFalse (is_waited_for before s)
-        → IsFalse (unwrap_or (if b then Some false else None) (is_waited_for before s))
+    by_test : (b : Bool) → IsFalse (is_waited_for_in_journal before s)
+        → IsFalse (unwrap_or (if b then Some false else None) (is_waited_for_in_journal before s))
     by_test true none = refl
     by_test false none = none
 next_confirmed before next s calm none = rw (last_more (gives_journal_waited_for s) before next false) none

@@ -3,8 +3,8 @@
 -- that waits.
 use Rattle.std.proofs.Common.{[], ◌++◌, ◌+◌, ◌||◌, ◌∙◌, ◌∷◌, ◌≡◌, ◌⊎◌, All, Bool, Contains, IsFalse, IsTrue, List, ap, append-nil, append_assoc, arith, eq-eqb, false, inl, inr, length, not, refl, subst, sym, true, ℕ}
 use Rattle.base.proofs.Exports.{All-from_recursion, AllByRecursion, recursion_from_All}
-use Rattle.update_machine.specs.Exports.{Answers, AreAllMachineEventSteps, AreMachineSteps, Confirm, Event, Flush, Item, One, Resend, Setting, Step, StepOfRow, journal_after_steps, confirm_items, gives_journal_waited_for, is_up, is_waited_for, journal_items_then, journal_next_delivery, nothing, piece, settling, setting_switches_of}
-use Rattle.steps.specs.Exports.{HasSwitch}
+use Rattle.update_machine.specs.Exports.{Answers, AreAllMachineEventSteps, AreMachineSteps, Confirm, Event, Flush, Item, One, Resend, Setting, Step, MachineStepOfRow, journal_after_steps, machine_confirm_items, gives_journal_waited_for, is_up, is_waited_for_in_journal, journal_items_then, journal_next_delivery, nothing, piece, machine_settling, machine_switches_of}
+use Rattle.steps.specs.Exports.{StepSwitchExists}
 use Rattle.update_machine.proofs.Exports.{AreOf, after_append}
 use Rattle.control_laws.proofs.Exports.{IsControl, behind_piece, each_range, each_weaker, fact_on, have_weaker, last_more, settling_control, up_more}
 use Rattle.convergence_laws.proofs.Exports.{IsIn, in_at}
@@ -14,16 +14,16 @@ use Rattle.forwarding_laws.proofs.RecoveryCalmItems.{Calmly, IsCalm, IsCalmStep,
 -- ---- the steps of rows, and of those behind them
 
 record AreParted (setting : Setting) (row : ℕ) (one other : List Event) (before : List Item)
-    (steps : List StepOfRow) : Type 0 where
-  mine : List StepOfRow
-  rest : List StepOfRow
+    (steps : List MachineStepOfRow) : Type 0 where
+  mine : List MachineStepOfRow
+  rest : List MachineStepOfRow
   later : ℕ
   is : steps ≡ mine ++ rest
   first : AreMachineSteps setting row one before mine
   second : AreMachineSteps setting later other (journal_after_steps setting before mine) rest
 
 steps_part : (setting : Setting) (row : ℕ) (one other : List Event) (before : List Item)
-    (steps : List StepOfRow) → AreMachineSteps setting row (one ++ other) before steps
+    (steps : List MachineStepOfRow) → AreMachineSteps setting row (one ++ other) before steps
     → AreParted setting row one other before steps
 steps_part setting row [] other before steps are = record {
   mine = [];
@@ -52,16 +52,16 @@ abbrev Only : (ℕ → Step) → List Event → Type 0
 Only step rows = AllByRecursion (λ row. (s : ℕ) × (row ≡ One (step s))) rows
 
 -- each of the steps is such a step of some switch
-abbrev pub AreEach : (ℕ → Step) → List StepOfRow → Type 0
-AreEach step steps = AllByRecursion (λ (next : StepOfRow). (s : ℕ) × (next.step ≡ step s)) steps
+abbrev pub AreEach : (ℕ → Step) → List MachineStepOfRow → Type 0
+AreEach step steps = AllByRecursion (λ (next : MachineStepOfRow). (s : ℕ) × (next.step ≡ step s)) steps
 
 -- the step is one of these
-abbrev pub IsAmong : Step → List StepOfRow → Type 0
+abbrev pub IsAmong : Step → List MachineStepOfRow → Type 0
 IsAmong step [] = ⊥
 IsAmong step (next ∷ steps) = (next.step ≡ step) ⊎ IsAmong step steps
 
 singles_each : (setting : Setting) (step : ℕ → Step) (row : ℕ) (rows : List Event)
-    (before : List Item) (steps : List StepOfRow) → Only step rows
+    (before : List Item) (steps : List MachineStepOfRow) → Only step rows
     → AreMachineSteps setting row rows before steps → AreEach step steps
 singles_each setting step row [] before steps only are = subst (AreEach step) (sym are) tt
 singles_each setting step row (One first ∷ rows) before steps only are =
@@ -76,7 +76,7 @@ singles_each setting step row (event ∷ rows) before steps only are =
     let clash : event ≡ One (step only.0.0) = only.0.1 in absurd cc
 
 singles_among : (setting : Setting) (step : Step) (row : ℕ) (rows : List Event)
-    (before : List Item) (steps : List StepOfRow) → IsIn (One step) rows
+    (before : List Item) (steps : List MachineStepOfRow) → IsIn (One step) rows
     → AreMachineSteps setting row rows before steps → IsAmong step steps
 singles_among setting step row [] before steps is are = absurd is
 singles_among setting step row (One first ∷ rows) before steps is are = subst (IsAmong step)
@@ -93,7 +93,7 @@ singles_among setting step row (event ∷ rows) before steps is are = elim is [
   | inr later ↦ rw are.2.split (among_behind step are.0 are.1 (singles_among setting step
       (row + 1) rows (journal_after_steps setting before are.0) are.1 later are.4))
 ] where
-  among_behind : (step : Step) (mine rest : List StepOfRow) → IsAmong step rest
+  among_behind : (step : Step) (mine rest : List MachineStepOfRow) → IsAmong step rest
       → IsAmong step (mine ++ rest)
   among_behind step [] rest is = is
   among_behind step (next ∷ mine) rest is = inr (among_behind step mine rest is)
@@ -101,7 +101,7 @@ singles_among setting step row (event ∷ rows) before steps is are = elim is [
 in_contained : {X : Type 0} (x : X) (xs : List X) → Contains xs x → IsIn x xs
 in_contained x xs found = in_at xs found.0 x found.1 found.2
 
-pub each_calm : (step : ℕ → Step) → ((s : ℕ) → IsCalmStep (step s)) → (steps : List StepOfRow)
+pub each_calm : (step : ℕ → Step) → ((s : ℕ) → IsCalmStep (step s)) → (steps : List MachineStepOfRow)
     → AreEach step steps → AreOf IsCalmStep steps
 each_calm step calm [] are = tt
 each_calm step calm (next ∷ steps) are = (
@@ -111,13 +111,13 @@ each_calm step calm (next ∷ steps) are = (
 
 -- where the step is taken
 pub record IsTakenIn (setting : Setting) (step : Step) (before : List Item)
-    (steps : List StepOfRow) : Type 0 where
+    (steps : List MachineStepOfRow) : Type 0 where
   pub at : List Item
   pub row : ℕ
   pub first : Calmly setting before at
   pub rest : Calmly setting (at ++ piece setting at row step) (journal_after_steps setting before steps)
 
-pub among_taken : (setting : Setting) (step : Step) (before : List Item) (steps : List StepOfRow)
+pub among_taken : (setting : Setting) (step : Step) (before : List Item) (steps : List MachineStepOfRow)
     → AreOf IsCalmStep steps → IsAmong step steps → IsTakenIn setting step before steps
 among_taken setting step before [] calm is = absurd is
 among_taken setting step before (next ∷ steps) calm is = elim is [
@@ -143,7 +143,7 @@ among_taken setting step before (next ∷ steps) calm is = elim is [
 
 -- the switch is up, or isn't waited for
 abbrev pub IsConfirmed : List Item → ℕ → Type 0
-IsConfirmed journal s = IsTrue (is_up journal s || not (is_waited_for journal s))
+IsConfirmed journal s = IsTrue (is_up journal s || not (is_waited_for_in_journal journal s))
 
 by_parts : (up waited : Bool) → (up ≡ true) ⊎ (waited ≡ false) → IsTrue (up || not waited)
 by_parts true waited is = refl
@@ -154,7 +154,7 @@ by_parts false false is = refl
 -- so it is behind its confirmation
 confirm_ends : (setting : Setting) (at : List Item) (row s : ℕ)
     → IsConfirmed (at ++ piece setting at row (Confirm s)) s
-unfolding confirm_items
+unfolding machine_confirm_items
 confirm_ends setting at row s =
     behind_piece setting at row (Confirm s) (λ j. IsConfirmed j s) (by_up (is_up here s) refl)
   where
@@ -167,28 +167,28 @@ confirm_ends setting at row s =
     now : List Item
     now = here ++ next ∷ []
 
-    over_now : is_waited_for now s ≡ false
+    over_now : is_waited_for_in_journal now s ≡ false
     over_now = rw (last_more (gives_journal_waited_for s) here next false, eq-eqb s s refl) refl
 
-    settled : is_waited_for (now ++ settling setting now) s ≡ false
-    settled = fact_on IsCalm (λ j. IsFalse (is_waited_for j s))
+    settled : is_waited_for_in_journal (now ++ machine_settling setting now) s ≡ false
+    settled = fact_on IsCalm (λ j. IsFalse (is_waited_for_in_journal j s))
         (λ before after calm none. next_confirmed before after s calm none) now
-        (settling setting now)
+        (machine_settling setting now)
         (have_weaker IsControl IsCalm control_is_calm now _ (settling_control setting now)) over_now
 
     by_up : (b : Bool) → is_up here s ≡ b → IsConfirmed (here ++ elim b [
       | true ↦ nothing
-      | false ↦ journal_items_then (next ∷ []) (settling setting) here
+      | false ↦ journal_items_then (next ∷ []) (machine_settling setting) here
     ]) s
     by_up true e = by_parts _ _ (inl (up_more here Item.Nothing s ∙ e))
-    by_up false e = subst (λ j. IsConfirmed j s) (append_assoc here (next ∷ []) (settling setting now))
+    by_up false e = subst (λ j. IsConfirmed j s) (append_assoc here (next ∷ []) (machine_settling setting now))
         (by_parts _ _ (inr settled))
 
 confirmed_on : (before after : List Item) (s : ℕ) → Stays before after → IsConfirmed before s
     → IsConfirmed after s
-confirmed_on before after s left is = by_case (is_up before s) refl (is_waited_for before s) refl is
+confirmed_on before after s left is = by_case (is_up before s) refl (is_waited_for_in_journal before s) refl is
   where
-    by_case : (up : Bool) → is_up before s ≡ up → (waited : Bool) → is_waited_for before s ≡ waited
+    by_case : (up : Bool) → is_up before s ≡ up → (waited : Bool) → is_waited_for_in_journal before s ≡ waited
         → IsTrue (up || not waited) → IsConfirmed after s
     by_case true e waited f is = by_parts _ _ (inl (left.up s ∙ e))
     by_case false e false f is = by_parts _ _ (inr (left.confirmed s f))
@@ -197,30 +197,30 @@ confirmed_on before after s left is = by_case (is_up before s) refl (is_waited_f
 -- ---- together
 
 pub record EndsCalmly (setting : Setting) (journal : List Item) : Type 0 where
-  pub first : List StepOfRow
-  pub resends : List StepOfRow
-  pub flush : List StepOfRow
+  pub first : List MachineStepOfRow
+  pub resends : List MachineStepOfRow
+  pub flush : List MachineStepOfRow
   pub row : ℕ
   pub written : journal ≡ journal_after_steps setting (journal_after_steps setting (journal_after_steps setting [] first)
       resends) flush
-  pub switches : All (IsConfirmed (journal_after_steps setting [] first)) (setting_switches_of setting)
+  pub switches : All (IsConfirmed (journal_after_steps setting [] first)) (machine_switches_of setting)
   pub asked : AreEach Resend resends
-  pub each : (s : ℕ) → HasSwitch setting.net s → IsAmong (Resend s) resends
+  pub each : (s : ℕ) → StepSwitchExists setting.net s → IsAmong (Resend s) resends
   pub all : AreAllMachineEventSteps setting journal_next_delivery row
       (journal_after_steps setting (journal_after_steps setting [] first) resends) flush
 
 pub all_confirmed_on : (setting : Setting) (before after : List Item) → Calmly setting before after
-    → All (IsConfirmed before) (setting_switches_of setting) → All (IsConfirmed after) (setting_switches_of setting)
+    → All (IsConfirmed before) (machine_switches_of setting) → All (IsConfirmed after) (machine_switches_of setting)
 all_confirmed_on setting before after calm all = All-from_recursion (IsConfirmed after)
-    (setting_switches_of setting) (each_weaker (IsConfirmed before) (IsConfirmed after)
-    (λ s is. confirmed_on before after s (stays setting before after calm) is) (setting_switches_of setting)
-    (recursion_from_All (IsConfirmed before) (setting_switches_of setting) all))
+    (machine_switches_of setting) (each_weaker (IsConfirmed before) (IsConfirmed after)
+    (λ s is. confirmed_on before after s (stays setting before after calm) is) (machine_switches_of setting)
+    (recursion_from_All (IsConfirmed before) (machine_switches_of setting) all))
 
-all_confirmed : (setting : Setting) (before : List Item) (steps : List StepOfRow)
-    → AreEach Confirm steps → ((s : ℕ) → HasSwitch setting.net s → IsAmong (Confirm s) steps)
-    → All (IsConfirmed (journal_after_steps setting before steps)) (setting_switches_of setting)
+all_confirmed : (setting : Setting) (before : List Item) (steps : List MachineStepOfRow)
+    → AreEach Confirm steps → ((s : ℕ) → StepSwitchExists setting.net s → IsAmong (Confirm s) steps)
+    → All (IsConfirmed (journal_after_steps setting before steps)) (machine_switches_of setting)
 all_confirmed setting before steps are each =
-    All-from_recursion (IsConfirmed (journal_after_steps setting before steps)) (setting_switches_of setting)
+    All-from_recursion (IsConfirmed (journal_after_steps setting before steps)) (machine_switches_of setting)
     (each_range (IsConfirmed (journal_after_steps setting before steps)) 0 (length setting.net.switches)
     (λ s above below. let taken = among_taken setting (Confirm s) before steps
     (each_calm Confirm (λ t. tt) steps are) (each s (omega (arith, below))) in
@@ -231,7 +231,7 @@ all_confirmed setting before steps are each =
     (confirm_ends setting taken.at taken.row s)))
 
 -- the steps of a flush alone
-flush_alone : (setting : Setting) (row : ℕ) (before : List Item) (steps : List StepOfRow)
+flush_alone : (setting : Setting) (row : ℕ) (before : List Item) (steps : List MachineStepOfRow)
     → AreMachineSteps setting row (Flush ∷ []) before steps → AreAllMachineEventSteps setting journal_next_delivery row before steps
 flush_alone setting row before steps are = subst (AreAllMachineEventSteps setting journal_next_delivery row before)
     (sym (are.2.split ∙ ap (λ rest. are.0 ++ rest) are.4 ∙ append-nil are.0)) are.3
@@ -239,8 +239,8 @@ flush_alone setting row before steps are = subst (AreAllMachineEventSteps settin
 -- the journal of rows that leave each switch up, or not waited for, resends of each, and a flush
 pub ends_by : (setting : Setting) (rows resends : List Event) (journal : List Item)
     → ForwardingRecoveryAsksEach setting.net Resend resends → Answers setting (rows ++ resends ++ Flush ∷ []) journal
-    → ((steps : List StepOfRow) → AreMachineSteps setting 1 rows [] steps
-    → All (IsConfirmed (journal_after_steps setting [] steps)) (setting_switches_of setting))
+    → ((steps : List MachineStepOfRow) → AreMachineSteps setting 1 rows [] steps
+    → All (IsConfirmed (journal_after_steps setting [] steps)) (machine_switches_of setting))
     → (ends : EndsCalmly setting journal) × AreMachineSteps setting 1 rows [] ends.first
 ends_by setting rows resends journal asks answers confirms = (
   record {
@@ -271,9 +271,9 @@ ends_by setting rows resends journal asks answers confirms = (
   asked = cc (resending.is, after_append setting [] resending.mine resending.rest)
 
 -- rows that confirm each switch leave it so
-confirms_leave : (setting : Setting) (front confirms : List Event) (steps : List StepOfRow)
+confirms_leave : (setting : Setting) (front confirms : List Event) (steps : List MachineStepOfRow)
     → ForwardingRecoveryAsksEach setting.net Confirm confirms → AreMachineSteps setting 1 (front ++ confirms) [] steps
-    → All (IsConfirmed (journal_after_steps setting [] steps)) (setting_switches_of setting)
+    → All (IsConfirmed (journal_after_steps setting [] steps)) (machine_switches_of setting)
 confirms_leave setting front confirms steps asks are =
     rw (ap (journal_after_steps setting []) parts.is ∙ after_append setting [] parts.mine parts.rest)
     (all_confirmed setting (journal_after_steps setting [] parts.mine) parts.rest (singles_each setting

@@ -2,16 +2,16 @@
 -- retired, and so holds the tables of the newest version alone.
 use Rattle.std.proofs.Common.{[], ◌&&◌, ◌++◌, ◌<◌, ◌==◌, ◌||◌, ◌∙◌, ◌∷◌, ◌≡◌, ◌≢◌, ◌≤◌, ◌⊎◌, All, Bool, IsFalse, IsTrue, List, None, Option, Some, ap, arith, eq-eqb, false, inl, inr, length, ne_eqb, not, refl, rules, subst, sym, true, ℕ}
 use Rattle.base.proofs.Exports.{⊤, All-from_recursion, All-weaker, cases_eq, list_any, nat_tests, recursion_from_All}
-use Rattle.update_machine.specs.Exports.{Answers, AreMachineSteps, JournalBeginsAnswer, Body, CacheEntry, Collect, Drain, Event, JournalItemsHaveCauses, Header, Hop, IsMachinePlay, IsSetting, Item, Packet, Sending, Setting, StepOfRow, journal_after_steps, journal_boot_of, journal_cache_of, is_collect_message_of_version, concerns_controller, item_concerns_policies, journal_current_mark, heard, holds_version, installs_version, is_first_boot_in_journal, is_member, is_machine_opening_body, is_over, is_up, journal_known_boot, journal_next_message, journal_next_packet, piece, journal_plan_at, policy_at, journal_resent_by_controller, journal_resent_by_switch, journal_retired_mark, sendings, serves, journal_stamp_of, setting_switches_of, machine_message_to_switch, journal_version_count}
+use Rattle.update_machine.specs.Exports.{Answers, AreMachineSteps, JournalBeginsAnswer, Body, CacheEntry, Collect, Drain, Event, JournalItemsHaveCauses, Header, Hop, IsMachinePlay, IsMachineSetting, Item, Packet, MachineSending, Setting, MachineStepOfRow, journal_after_steps, journal_boot_of, journal_cache_of, message_collects_version, machine_item_concerns_controller, machine_item_concerns_policies, journal_current_mark, heard, holds_version, machine_body_installs_version, is_first_boot_in_journal, is_member, is_machine_opening_body, is_over, is_up, journal_known_boot, journal_next_message, journal_next_packet, piece, journal_plan_at, machine_policy_at, journal_resent_by_controller, journal_resent_by_switch, journal_retired_mark, machine_sendings, serves, journal_stamp_of, machine_switches_of, machine_message_to_switch, journal_version_count}
 use Rattle.update_machine.proofs.Exports.{controller_keeps, policies_keep}
 use Rattle.convergence_laws.proofs.Exports.{AreKept, Both, IsIn, IsTraced, IsWork, Walks, all_in, caused_traced, each_in, each_of_in, have_both, have_weaker, heard_in_boot, hop_work, in_range, in_right, items_caused, moves, near_back, own_boot, packet_works, piece_has, rule_cases}
 use Rattle.packet_laws.proofs.Exports.{IsNoRow, no_rows, play_begins}
 use Rattle.net_file.specs.Exports.{IsNet}
-use Rattle.convergence_laws.specs.Exports.{ConvergedGetStuckApart, HasConverged, IsNetworkUpdateConverged, ConvergenceLeadsOverUsableNeighbours, Reaches}
-use Rattle.control_laws.specs.Exports.{AreNetworkEvents, HasControlItemCause, ControlLawHoldsAtEnds, ControlLawHoldsReached}
+use Rattle.convergence_laws.specs.Exports.{ConvergedGetStuckApart, HasConverged, IsNetworkUpdated, ConvergenceLeadsOverUsableNeighbours, ConvergenceReaches}
+use Rattle.control_laws.specs.Exports.{AreControlNetworkEvents, HasControlItemCause, ControlLawHoldsAtEnds, ControlLawHoldsReached}
 use Rattle.control_laws.proofs.Exports.{IsServing, member_of, pieces_have, serving_hold, steps_have, tables_planned}
 use Rattle.packet_laws.specs.Exports.{PacketLawHoldsBetween, IsRightPacketCacheEntry, PacketRulesAreRight}
-use Rattle.forwarding_laws.specs.Exports.{RolloutAccountsForAll, AllAccountedOrCutOff, ForwardingCachesNewestAlone, ForwardingDropsNothing, EndsInForwardingDrain, EndsInRecovery, ForwardingEndsInTwoRounds, HasRecovered, HoldNewestAlone, IsConnectedForwardingNetwork, RecoveryLeavesNothingOld, NoneIsStuck, NothingFailsInRollout, PlaysKeepForwarding}
+use Rattle.forwarding_laws.specs.Exports.{RolloutAccountsForAll, RolloutAccountedOrCutOff, ForwardingCachesNewestAlone, ForwardingDropsNothing, EndsInForwardingDrain, EndsInRecovery, EndsInTwoRecoveryRounds, HasRecovered, HoldNewestAlone, IsConnectedForwardingNetwork, RecoveryLeavesNothingOld, NoneIsStuck, NothingFailsInRollout, PlaysKeepForwarding}
 use Rattle.forwarding_laws.proofs.RolloutDrains.{caches_above}
 use Rattle.forwarding_laws.proofs.RecoveryCalmItems.{Stays, calm_causes, stays}
 use Rattle.forwarding_laws.proofs.RecoveredControl.{IsAsked, IsRecovered}
@@ -68,14 +68,14 @@ passes_walks setting before (Item.FoundDown i one two) passes = passes
 passes_walks setting before _ passes = search rules
 
 passes_controller : (setting : Setting) (before : List Item) (next : Item)
-    → Passes setting before next → IsFalse (concerns_controller before next)
+    → Passes setting before next → IsFalse (machine_item_concerns_controller before next)
 passes_controller setting before (Item.Sent number message) passes =
     rule_cases before (λ to body. IsFalse (is_machine_opening_body body))
     (λ s version word rule action there ingress. refl) message.to message.body passes
 passes_controller setting before _ passes = search rules
 
 passes_policies : (setting : Setting) (before : List Item) (next : Item)
-    → Passes setting before next → IsFalse (item_concerns_policies before next)
+    → Passes setting before next → IsFalse (machine_item_concerns_policies before next)
 passes_policies setting before (Item.Submitted file version) passes = absurd passes
 passes_policies setting before _ passes = refl
 
@@ -84,7 +84,7 @@ pub record MarksStay (setting : Setting) (journal now : List Item) : Type 0 wher
   pub current : journal_current_mark now ≡ journal_current_mark journal
   pub retired : journal_retired_mark now ≡ journal_retired_mark journal
   pub count : journal_version_count now ≡ journal_version_count journal
-  pub policy : (v : ℕ) → policy_at setting now v ≡ policy_at setting journal v
+  pub policy : (v : ℕ) → machine_policy_at setting now v ≡ machine_policy_at setting journal v
   pub plan : (v : ℕ) → journal_plan_at setting now v ≡ journal_plan_at setting journal v
 
 pub marks_stay : (setting : Setting) (journal : List Item)
@@ -105,7 +105,7 @@ marks_stay setting journal before next passes stay =
 
 turn_round : (setting : Setting) (journal : List Item) → IsNet setting.net → (there at target : ℕ)
     (rest : List ℕ) → ConvergenceLeadsOverUsableNeighbours setting journal there at rest
-    → Reaches setting journal at target → Reaches setting journal there target
+    → ConvergenceReaches setting journal at target → ConvergenceReaches setting journal there target
 turn_round setting journal net there at target [] leads reaches = rw leads at reaches
 turn_round setting journal net there at target (next ∷ rest) leads reaches =
     turn_round setting journal net there next target rest leads.1 (record {
@@ -114,20 +114,20 @@ turn_round setting journal net there at target (next ∷ rest) leads reaches =
     })
 
 pub apart_from : (setting : Setting) (journal : List Item) → IsNet setting.net → (from at : ℕ)
-    (targets : List ℕ) → Reaches setting journal from at
-    → All (λ target. Reaches setting journal at target → ⊥) targets
-    → All (λ target. Reaches setting journal from target → ⊥) targets
+    (targets : List ℕ) → ConvergenceReaches setting journal from at
+    → All (λ target. ConvergenceReaches setting journal at target → ⊥) targets
+    → All (λ target. ConvergenceReaches setting journal from target → ⊥) targets
 apart_from setting journal net from at targets reaches apart =
-    All-weaker (λ target. Reaches setting journal at target → ⊥)
-    (λ target. Reaches setting journal from target → ⊥) (λ target none there. none
+    All-weaker (λ target. ConvergenceReaches setting journal at target → ⊥)
+    (λ target. ConvergenceReaches setting journal from target → ⊥) (λ target none there. none
     (turn_round setting journal net at from target reaches.rest reaches.leads there)) targets apart
 
 -- ---- second rounds
 
 -- what is true of each switch of the network is true of one
 of_network : (P : ℕ → Type 0) (setting : Setting) (s : ℕ) → s < length setting.net.switches
-    → All P (setting_switches_of setting) → P s
-of_network P setting s there all = all_in P s (setting_switches_of setting) all
+    → All P (machine_switches_of setting) → P s
+of_network P setting s there all = all_in P s (machine_switches_of setting) all
     (in_range s 0 (length setting.net.switches) (omega arith) (omega (arith, there)))
 
 -- ---- what is collected isn't held
@@ -150,10 +150,10 @@ collected_gone : (journal : List Item) (s boot mark version : ℕ)
     → holds_version journal s version ≡ false
 unfolding holds_version
 collected_gone journal s boot mark version told below =
-    ap (λ b. (list_any (installs_version version) (heard journal s)
-    || (version == 1 && is_first_boot_in_journal journal s)) && not b) (any_of_in (is_collect_message_of_version version)
+    ap (λ b. (list_any (machine_body_installs_version version) (heard journal s)
+    || (version == 1 && is_first_boot_in_journal journal s)) && not b) (any_of_in (message_collects_version version)
     (Collect boot mark) (heard journal s) told (grind (arith, nat_tests)))
-    ∙ none (list_any (installs_version version) (heard journal s)
+    ∙ none (list_any (machine_body_installs_version version) (heard journal s)
     || (version == 1 && is_first_boot_in_journal journal s))
   where
     none : (b : Bool) → (b && false) ≡ false
@@ -161,7 +161,7 @@ collected_gone journal s boot mark version told below =
     none false = refl
 
 module _ (setting : Setting) (before journal : List Item) (are : IsRecovered setting before journal)
-    (early : IsNetworkUpdateConverged setting before) (late : IsNetworkUpdateConverged setting journal) where
+    (early : IsNetworkUpdated setting before) (late : IsNetworkUpdated setting journal) where
   caused : JournalItemsHaveCauses (HasControlItemCause setting) [] journal
   caused = items_caused setting journal are.ready.causes
 
@@ -229,12 +229,12 @@ module _ (setting : Setting) (before journal : List Item) (are : IsRecovered set
       sent : IsSince (journal_next_message before) journal (machine_message_to_switch s body)
       sent = collect_sent s there up some
 
-      x : Sending
+      x : MachineSending
       x = record { number = sent.number; message = machine_message_to_switch s body; boot = sent.boot }
 
       boot : sent.boot ≡ journal_boot_of journal s
       boot = own_boot journal s (journal_boot_of journal s) x
-          (each_in (IsTraced journal) x (sendings journal) are.flushed.traced.each sent.is).course
+          (each_in (IsTraced journal) x (machine_sendings journal) are.flushed.traced.each sent.is).course
           refl refl
 
   pub hold_newest : HoldNewestAlone setting journal
@@ -271,7 +271,7 @@ module _ (setting : Setting) (before journal : List Item) (are : IsRecovered set
 
 pub cache_newest : (setting : Setting) (journal : List Item)
     → JournalItemsHaveCauses (HasControlItemCause setting) [] journal → PacketRulesAreRight setting journal
-    → IsNetworkUpdateConverged setting journal → ForwardingCachesNewestAlone setting journal
+    → IsNetworkUpdated setting journal → ForwardingCachesNewestAlone setting journal
 cache_newest setting journal causes rules updated s there up =
     All-from_recursion (λ (entry : CacheEntry). entry.version ≡ journal_version_count journal)
     (journal_cache_of setting journal s).entries
@@ -291,12 +291,12 @@ cache_newest setting journal causes rules updated s there up =
 
 -- what holds of cache rules, of each journal of the network
 abbrev pub RulesLaw : Type 0
-RulesLaw = ControlLawHoldsReached (λ setting journal. IsSetting setting → PacketRulesAreRight setting journal)
+RulesLaw = ControlLawHoldsReached (λ setting journal. IsMachineSetting setting → PacketRulesAreRight setting journal)
 
 -- caches of an answer
 answer_caches : RulesLaw → (setting : Setting) (events : List Event) (journal : List Item)
-    → IsSetting setting → AreNetworkEvents setting events → Answers setting events journal
-    → IsNetworkUpdateConverged setting journal → ForwardingCachesNewestAlone setting journal
+    → IsMachineSetting setting → AreControlNetworkEvents setting events → Answers setting events journal
+    → IsNetworkUpdated setting journal → ForwardingCachesNewestAlone setting journal
 answer_caches rules setting events journal is own answers updated = cache_newest setting journal
     causes (rules.answered setting events journal own answers is) updated
   where
@@ -305,14 +305,14 @@ answer_caches rules setting events journal is own answers updated = cache_newest
         (steps_have (HasControlItemCause setting) setting (pieces_have setting) [] answers.steps tt)
 
 pub recovered_caches : RulesLaw → (setting : Setting) (events : List Event) (journal : List Item)
-    → IsSetting setting → AreNetworkEvents setting events → EndsInRecovery setting.net events
+    → IsMachineSetting setting → AreControlNetworkEvents setting events → EndsInRecovery setting.net events
     → Answers setting events journal → ForwardingCachesNewestAlone setting journal
 recovered_caches rules setting events journal is own ends answers = answer_caches rules setting
     events journal is own answers (recovered_updated setting events journal ends answers)
 
 -- the second round is one that begins after recovery
 two_calmly : (setting : Setting) (events : List Event) (journal : List Item)
-    → (two : ForwardingEndsInTwoRounds setting.net events) → Answers setting events journal
+    → (two : EndsInTwoRecoveryRounds setting.net events) → Answers setting events journal
     → (ends : EndsCalmly setting journal)
     × Answers setting two.first (journal_after_steps setting [] ends.first)
 two_calmly setting events journal two answers =
@@ -320,8 +320,8 @@ two_calmly setting events journal two answers =
     (subst (λ of. Answers setting of journal) two.ends answers) confirms in
     (found.0, record { steps = found.0.first; allowed = found.1; written = refl })
   where
-    confirms : (steps : List StepOfRow) → AreMachineSteps setting 1 two.first [] steps
-        → All (IsConfirmed (journal_after_steps setting [] steps)) (setting_switches_of setting)
+    confirms : (steps : List MachineStepOfRow) → AreMachineSteps setting 1 two.first [] steps
+        → All (IsConfirmed (journal_after_steps setting [] steps)) (machine_switches_of setting)
     confirms steps are =
         let middle : List Item = journal_after_steps setting [] steps in
         let first = ends_calmly setting two.first middle two.recovered
@@ -331,8 +331,8 @@ two_calmly setting events journal two answers =
 
 pub nothing_old : ControlLawHoldsAtEnds (Agrees HasConverged) → ControlLawHoldsAtEnds (Agrees ConvergedGetStuckApart)
     → PacketLawHoldsBetween ForwardsBy → RulesLaw → (setting : Setting) (events : List Event)
-    (journal : List Item) → IsSetting setting → AreNetworkEvents setting events
-    → ForwardingEndsInTwoRounds setting.net events → Answers setting events journal
+    (journal : List Item) → IsMachineSetting setting → AreControlNetworkEvents setting events
+    → EndsInTwoRecoveryRounds setting.net events → Answers setting events journal
     → RecoveryLeavesNothingOld setting journal
 nothing_old converge part forward rules setting events journal is own two answers = record {
   recovered = calm_recovers converge part forward setting events journal is own answers ends;
@@ -348,7 +348,7 @@ nothing_old converge part forward rules setting events journal is own two answer
   ends : EndsCalmly setting journal
   ends = found.0
 
-  updated : IsNetworkUpdateConverged setting journal
+  updated : IsNetworkUpdated setting journal
   updated = ends_updated setting journal ends
 
 -- ---- the laws of recovery and of rollouts, of plays
@@ -365,22 +365,22 @@ drained : (Holds : List Event → Type 0) (events : List Event) → EndsInForwar
 drained Holds events ends hold = subst Holds (sym ends.1) (hold ends.0)
 
 pub keep_working : ((setting : Setting) (events : List Event) (journal : List Item)
-    → IsSetting setting → AreNetworkEvents setting events → EndsInRecovery setting.net events
+    → IsMachineSetting setting → AreControlNetworkEvents setting events → EndsInRecovery setting.net events
     → Answers setting events journal → HasRecovered setting journal)
-    → ((setting : Setting) (events : List Event) (journal : List Item) → IsSetting setting
-    → AreNetworkEvents setting events → ForwardingEndsInTwoRounds setting.net events → Answers setting events journal
+    → ((setting : Setting) (events : List Event) (journal : List Item) → IsMachineSetting setting
+    → AreControlNetworkEvents setting events → EndsInTwoRecoveryRounds setting.net events → Answers setting events journal
     → RecoveryLeavesNothingOld setting journal)
-    → ((setting : Setting) (events : List Event) (journal : List Item) → IsSetting setting
-    → AreNetworkEvents setting events → NothingFailsInRollout events → JournalBeginsAnswer setting events journal
+    → ((setting : Setting) (events : List Event) (journal : List Item) → IsMachineSetting setting
+    → AreControlNetworkEvents setting events → NothingFailsInRollout events → JournalBeginsAnswer setting events journal
     → JournalItemsHaveCauses (ForwardingDropsNothing setting) [] journal)
-    → ((setting : Setting) (events : List Event) (journal : List Item) → IsSetting setting
-    → AreNetworkEvents setting events → NothingFailsInRollout events → IsConnectedForwardingNetwork setting.net
+    → ((setting : Setting) (events : List Event) (journal : List Item) → IsMachineSetting setting
+    → AreControlNetworkEvents setting events → NothingFailsInRollout events → IsConnectedForwardingNetwork setting.net
     → JournalBeginsAnswer setting events journal → NoneIsStuck journal)
-    → ((setting : Setting) (events : List Event) (journal : List Item) → IsSetting setting
-    → AreNetworkEvents setting (events ++ Drain ∷ []) → NothingFailsInRollout (events ++ Drain ∷ [])
-    → Answers setting (events ++ Drain ∷ []) journal → AllAccountedOrCutOff setting journal)
-    → ((setting : Setting) (events : List Event) (journal : List Item) → IsSetting setting
-    → AreNetworkEvents setting (events ++ Drain ∷ []) → NothingFailsInRollout (events ++ Drain ∷ []) → IsConnectedForwardingNetwork
+    → ((setting : Setting) (events : List Event) (journal : List Item) → IsMachineSetting setting
+    → AreControlNetworkEvents setting (events ++ Drain ∷ []) → NothingFailsInRollout (events ++ Drain ∷ [])
+    → Answers setting (events ++ Drain ∷ []) journal → RolloutAccountedOrCutOff setting journal)
+    → ((setting : Setting) (events : List Event) (journal : List Item) → IsMachineSetting setting
+    → AreControlNetworkEvents setting (events ++ Drain ∷ []) → NothingFailsInRollout (events ++ Drain ∷ []) → IsConnectedForwardingNetwork
     setting.net → Answers setting (events ++ Drain ∷ []) journal → RolloutAccountsForAll setting journal)
     → PlaysKeepForwarding
 keep_working recover renew drop stuck or_cut_off account setting events journal full is own play = record {
@@ -389,12 +389,12 @@ keep_working recover renew drop stuck or_cut_off account setting events journal 
   drops_nothing = λ nothing. drop setting events journal is own nothing begins;
   leaves_none_stuck = λ nothing connected.
       stuck setting events journal is own nothing connected begins;
-  accounts_or_cut_off = λ whole ends nothing. drained (λ asked. AreNetworkEvents setting asked
-      → NothingFailsInRollout asked → Answers setting asked journal → AllAccountedOrCutOff setting journal)
+  accounts_or_cut_off = λ whole ends nothing. drained (λ asked. AreControlNetworkEvents setting asked
+      → NothingFailsInRollout asked → Answers setting asked journal → RolloutAccountedOrCutOff setting journal)
       events ends
       (λ front mine safe answered. or_cut_off setting front journal is mine safe answered) own
       nothing (answers whole);
-  accounts_for_all = λ whole ends nothing connected. drained (λ asked. AreNetworkEvents setting asked
+  accounts_for_all = λ whole ends nothing connected. drained (λ asked. AreControlNetworkEvents setting asked
       → NothingFailsInRollout asked → Answers setting asked journal → RolloutAccountsForAll setting journal) events
       ends
       (λ front mine safe answered. account setting front journal is mine safe connected answered)

@@ -1,15 +1,15 @@
 -- Behind a drain no packet travels, so each that entered has ended.
 use Rattle.std.proofs.Common.{[], ◌++◌, ◌==◌, ◌||◌, ◌∙◌, ◌∷◌, ◌≡◌, ◌≤◌, ◌⊎◌, Bool, List, None, Option, Some, ap, append-nil, append_assoc, arith, drop, eq-eqb, eqb-true, false, filter, if◌then◌else◌, inl, inr, length, max, nat_le, nat_lt, option_and_then, option_map, refl, subst, suc, sym, take, true, unwrap_or, zero, ℕ}
 use Rattle.base.proofs.Exports.{list_any, nat_tests, option_or}
-use Rattle.update_machine.specs.Exports.{Answers, AreNumbered, JournalBeginsAnswer, Body, CacheEntry, CacheRule, Drain, Event, HasMachineCause, JournalItemsHaveCauses, Header, Hop, IsSetting, Item, MachineLeavesRightly, Lose, OpenAt, Setting, Stamp, journal_body_to_switch, journal_boot_of, machine_cache_after, journal_cache_of, changes_journal_cache, concerns_switch, machine_item_gives_travelling, heard, is_up, journal_last_given, journal_next_hop, next_travelling, machine_packet_number, journal_packets, journal_present_step, machine_stamp_message_version, journal_stamp_of, machine_touched_by, travels}
-use Rattle.switch_table.specs.Exports.{CacheValue, cache_after_carry, carried_entry, is_carried, newest_cache_entries, same_key, under}
+use Rattle.update_machine.specs.Exports.{Answers, AreJournalNumbersWithoutGap, JournalBeginsAnswer, Body, CacheEntry, CacheRule, Drain, Event, HasMachineCause, JournalItemsHaveCauses, Header, Hop, IsMachineSetting, Item, MachineLeavesRightly, Lose, OpenAt, Setting, Stamp, journal_body_to_switch, journal_boot_of, machine_cache_after, journal_cache_of, changes_journal_cache, machine_item_concerns_switch, machine_item_gives_travelling, heard, is_up, journal_last_given, journal_next_hop, next_travelling, machine_packet_number, journal_packets, journal_present_step, machine_version_to_stamp_with, journal_stamp_of, machine_touched_by, travels_in_journal}
+use Rattle.switch_table.specs.Exports.{CacheValue, cache_after_carry, carried_cache_entry, is_cache_entry_carried, newest_cache_entries, same_cache_key, cache_entry_under}
 use Rattle.ternary.specs.Exports.{WordValue}
 use Rattle.update_machine.proofs.Exports.{answers_so_far, begins_itself, folded_append, start_laws, switch_keeps}
-use Rattle.control_laws.specs.Exports.{AreNetworkEvents, HasControlItemCause, ControlLawHoldsReached}
+use Rattle.control_laws.specs.Exports.{AreControlNetworkEvents, HasControlItemCause, ControlLawHoldsReached}
 use Rattle.control_laws.proofs.Exports.{AreKept, Both, boot_more, fact_on, have_both, heard_more, raised, stamp_told, up_more}
 use Rattle.convergence_laws.proofs.Exports.{IsIn, contains_in, in_at, in_either, in_flat_map, in_right, last_ends, none_found, of_filter, of_filter_map}
 use Rattle.packet_laws.specs.Exports.{IsPacketDroppedHere, HasPacketItemCause}
-use Rattle.forwarding_laws.specs.Exports.{RolloutAccountsForAll, AllAccountedOrCutOff, ForwardingDropsNothing, RolloutEndsOrIsCutOff, RolloutEndsRightly, RolloutHasItem, IsConnectedForwardingNetwork, ForwardedIsDroppedRightly, IsStuckCutOff, NoneIsStuck, NothingFailsInRollout}
+use Rattle.forwarding_laws.specs.Exports.{RolloutAccountsForAll, RolloutAccountedOrCutOff, ForwardingDropsNothing, RolloutEndsOrIsCutOff, RolloutEndsRightly, RolloutHasItem, IsConnectedForwardingNetwork, ForwardedIsDroppedRightly, IsForwardingStuckCutOff, NoneIsStuck, NothingFailsInRollout}
 
 -- ---- the entries of a cache are of the stamp of its switch, or of later versions
 
@@ -47,7 +47,7 @@ of_newest capacity entry entries is = by_room (nat_lt capacity (length entries))
 
 -- what a body makes of a cache whose entries are from the stamp on
 said_from : (touched_of : ℕ → List WordValue) (stamp number : ℕ) (cache : CacheValue) (body : Body)
-    → AreFrom stamp cache.entries → let now = raised stamp (machine_stamp_message_version body) in
+    → AreFrom stamp cache.entries → let now = raised stamp (machine_version_to_stamp_with body) in
     AreFrom now (machine_cache_after touched_of stamp now number cache body).entries
 said_from touched_of stamp number cache (CacheRule version word rule action) from =
     by_old (nat_lt version stamp) refl
@@ -62,11 +62,11 @@ said_from touched_of stamp number cache (CacheRule version word rule action) fro
     }
 
     by_old : (b : Bool) → nat_lt version stamp ≡ b → AreFrom stamp
-        (if b || list_any (same_key entry) cache.entries then cache else record cache {
+        (if b || list_any (same_cache_key entry) cache.entries then cache else record cache {
           entries = newest_cache_entries cache.capacity (cache.entries ++ entry ∷ []);
         }).entries
     by_old true e = from
-    by_old false e = by_key (list_any (same_key entry) cache.entries) where
+    by_old false e = by_key (list_any (same_cache_key entry) cache.entries) where
       by_key : (b : Bool) → AreFrom stamp (if b then cache else record cache {
         entries = newest_cache_entries cache.capacity (cache.entries ++ entry ∷ []);
       }).entries
@@ -102,23 +102,23 @@ said_from touched_of stamp number cache (Stamp boot version touched) from =
     by_raise : (b : Bool) → nat_lt stamp version ≡ b → AreFrom (max stamp version)
         (if b then cache_after_carry version (touched_of version) cache else cache).entries
     by_raise true e = λ entry is.
-        let found = of_filter_map (carried_entry version (touched_of version) cache.entries) entry
+        let found = of_filter_map (carried_cache_entry version (touched_of version) cache.entries) entry
         cache.entries is in
         let same : max stamp version ≡ version = grind (arith, nat_tests) in
         omega (arith, same, carried found.0 entry found.2)
       where
         carried : (old entry : CacheEntry)
-            → carried_entry version (touched_of version) cache.entries old ≡ Some entry
+            → carried_cache_entry version (touched_of version) cache.entries old ≡ Some entry
             → version ≤ entry.version
         carried old entry is = by_version (nat_le version old.version) refl
-            (is_carried version (touched_of version) cache.entries old) is
+            (is_cache_entry_carried version (touched_of version) cache.entries old) is
           where
             by_version : (b : Bool) → nat_le version old.version ≡ b → (c : Bool)
-                → (if b then Some old else if c then Some (under version old) else None)
+                → (if b then Some old else if c then Some (cache_entry_under version old) else None)
                 ≡ Some entry → version ≤ entry.version
             by_version true e c is = let same : old ≡ entry = cc in
                 subst (λ (x : CacheEntry). version ≤ x.version) same (grind (arith, nat_tests))
-            by_version false e true is = let same : under version old ≡ entry = cc in
+            by_version false e true is = let same : cache_entry_under version old ≡ entry = cc in
                 subst (λ (x : CacheEntry). version ≤ x.version) same (omega arith)
             by_version false e false is = absurd cc
     by_raise false e = λ entry is. let old = from entry is in
@@ -145,7 +145,7 @@ unfolding journal_stamp_of
 stamp_same before next s bodies up boot = rw (bodies, up, boot) refl
 
 -- what concerns the switch
-concerned_above : (setting : Setting) (before : List Item) (next : Item) (s : ℕ) → concerns_switch s
+concerned_above : (setting : Setting) (before : List Item) (next : Item) (s : ℕ) → machine_item_concerns_switch s
     before next ≡ true → AreFrom (journal_stamp_of before s) (journal_cache_of setting before s).entries
     → AreFrom (journal_stamp_of (before ++ next ∷ []) s) (journal_cache_of setting (before ++ next ∷ []) s).entries
 concerned_above setting before (Item.Down t) s is from = λ entry has.
@@ -182,11 +182,11 @@ concerned_above setting before (Item.Delivered number) s is from =
         → AreFrom now (journal_cache_of setting (before ++ next ∷ []) s).entries
     by_said None e entry has =
         let same : now ≡ journal_stamp_of before s = stamp_told before number s
-        ∙ ap (λ o. raised (journal_stamp_of before s) (option_and_then machine_stamp_message_version o)) e in
+        ∙ ap (λ o. raised (journal_stamp_of before s) (option_and_then machine_version_to_stamp_with o)) e in
         omega (arith, from entry (rw e at (entry_back setting before next s entry has)), same)
     by_said (Some body) e entry has =
         let same = stamp_told before number s
-        ∙ ap (λ o. raised (journal_stamp_of before s) (option_and_then machine_stamp_message_version o)) e in
+        ∙ ap (λ o. raised (journal_stamp_of before s) (option_and_then machine_version_to_stamp_with o)) e in
         let above = said_from (machine_touched_by setting before) (journal_stamp_of before s) number
         (journal_cache_of setting before s) body from entry
         (subst (λ n. IsIn entry (machine_cache_after (machine_touched_by setting before) (journal_stamp_of before s) n
@@ -197,9 +197,9 @@ concerned_above setting before next s is from = absurd cc
 
 caches_on : (setting : Setting) → AreKept (HasControlItemCause setting) (AreCachesAbove setting)
 caches_on setting before next cause are = record {
-  each = λ s. by_concern s (concerns_switch s before next) refl;
+  each = λ s. by_concern s (machine_item_concerns_switch s before next) refl;
 } where
-  by_concern : (s : ℕ) (b : Bool) → concerns_switch s before next ≡ b
+  by_concern : (s : ℕ) (b : Bool) → machine_item_concerns_switch s before next ≡ b
       → AreFrom (journal_stamp_of (before ++ next ∷ []) s) (journal_cache_of setting (before ++ next ∷ []) s).entries
   by_concern s true e = concerned_above setting before next s e (are.each s)
   by_concern s false e = λ entry has.
@@ -307,14 +307,14 @@ ends_so setting i before (Item.Lost packet) known ends = let same = same_number 
     (same, subst (λ n. journal_present_step before ≡ Some (Lose n)) same known.second.second)
 ends_so setting i before (Item.Stuck packet switch cause leg down) known ends =
     let same = same_number packet i ends in
-    (same, subst (λ n. IsStuckCutOff setting before n switch leg) same known.second.second)
+    (same, subst (λ n. IsForwardingStuckCutOff setting before n switch leg) same known.second.second)
 ends_so setting i before x known ends = absurd cc
 
 -- a packet that entered and doesn't travel has ended
 entered_ended : (setting : Setting) (journal : List Item) (i s : ℕ) (header : Header)
     → JournalItemsHaveCauses (IsKnownEnd setting) [] journal → IsIn (Item.Entered i s header) journal
-    → travels journal i ≡ false → RolloutHasItem (RolloutEndsOrIsCutOff setting i) journal
-unfolding travels
+    → travels_in_journal journal i ≡ false → RolloutHasItem (RolloutEndsOrIsCutOff setting i) journal
+unfolding travels_in_journal
 entered_ended setting journal i s header known is ended =
     by_last (journal_last_given (machine_item_gives_travelling i) journal) refl ended
   where
@@ -355,26 +355,26 @@ none_hops journal none = by_next (next_travelling journal) none where
   by_next None e = refl
   by_next (Some i) e = absurd cc
 
-none_travels : (journal : List Item) (i s : ℕ) (header : Header) → AreNumbered journal
+none_travels : (journal : List Item) (i s : ℕ) (header : Header) → AreJournalNumbersWithoutGap journal
     → next_travelling journal ≡ None → IsIn (Item.Entered i s header) journal
-    → travels journal i ≡ false
+    → travels_in_journal journal i ≡ false
 unfolding next_travelling
-none_travels journal i s header numbered none is = none_found (travels journal) i
+none_travels journal i s header numbered none is = none_found (travels_in_journal journal) i
     (journal_packets journal) none (rw numbered.packets at
     (in_flat_map machine_packet_number (Item.Entered i s header) i journal is (inl refl)))
 
 abbrev Reaches : (Setting → List Item → Item → Type 0) → Type 0
 Reaches cause = ControlLawHoldsReached (λ setting journal.
-    IsSetting setting → JournalItemsHaveCauses (cause setting) [] journal)
+    IsMachineSetting setting → JournalItemsHaveCauses (cause setting) [] journal)
 
 pub accounted_or_cut_off : ((setting : Setting) (events : List Event) (journal : List Item)
-    → JournalBeginsAnswer setting events journal → AreNumbered journal) → Reaches HasPacketItemCause
+    → JournalBeginsAnswer setting events journal → AreJournalNumbersWithoutGap journal) → Reaches HasPacketItemCause
     → Reaches HasMachineCause → ((setting : Setting) (events : List Event) (journal : List Item)
-    → IsSetting setting → AreNetworkEvents setting events → NothingFailsInRollout events
+    → IsMachineSetting setting → AreControlNetworkEvents setting events → NothingFailsInRollout events
     → JournalBeginsAnswer setting events journal → JournalItemsHaveCauses (ForwardingDropsNothing setting) [] journal)
-    → (setting : Setting) (events : List Event) (journal : List Item) → IsSetting setting
-    → AreNetworkEvents setting (events ++ Drain ∷ []) → NothingFailsInRollout (events ++ Drain ∷ [])
-    → Answers setting (events ++ Drain ∷ []) journal → AllAccountedOrCutOff setting journal
+    → (setting : Setting) (events : List Event) (journal : List Item) → IsMachineSetting setting
+    → AreControlNetworkEvents setting (events ++ Drain ∷ []) → NothingFailsInRollout (events ++ Drain ∷ [])
+    → Answers setting (events ++ Drain ∷ []) journal → RolloutAccountedOrCutOff setting journal
 accounted_or_cut_off number packets ends drops setting events journal is own nothing answers i s
     header found = entered_ended setting journal i s header known there
     (none_travels journal i s header (number setting asked journal begins)
@@ -397,13 +397,13 @@ accounted_or_cut_off number packets ends drops setting events journal is own not
     there = in_at journal found.0 (Item.Entered i s header) found.1 found.2
 
 pub all_accounted : ((setting : Setting) (events : List Event) (journal : List Item)
-    → IsSetting setting → AreNetworkEvents setting events → NothingFailsInRollout events → IsConnectedForwardingNetwork setting.net
+    → IsMachineSetting setting → AreControlNetworkEvents setting events → NothingFailsInRollout events → IsConnectedForwardingNetwork setting.net
     → JournalBeginsAnswer setting events journal → NoneIsStuck journal)
-    → ((setting : Setting) (events : List Event) (journal : List Item) → IsSetting setting
-    → AreNetworkEvents setting (events ++ Drain ∷ []) → NothingFailsInRollout (events ++ Drain ∷ [])
-    → Answers setting (events ++ Drain ∷ []) journal → AllAccountedOrCutOff setting journal)
-    → (setting : Setting) (events : List Event) (journal : List Item) → IsSetting setting
-    → AreNetworkEvents setting (events ++ Drain ∷ []) → NothingFailsInRollout (events ++ Drain ∷ [])
+    → ((setting : Setting) (events : List Event) (journal : List Item) → IsMachineSetting setting
+    → AreControlNetworkEvents setting (events ++ Drain ∷ []) → NothingFailsInRollout (events ++ Drain ∷ [])
+    → Answers setting (events ++ Drain ∷ []) journal → RolloutAccountedOrCutOff setting journal)
+    → (setting : Setting) (events : List Event) (journal : List Item) → IsMachineSetting setting
+    → AreControlNetworkEvents setting (events ++ Drain ∷ []) → NothingFailsInRollout (events ++ Drain ∷ [])
     → IsConnectedForwardingNetwork setting.net → Answers setting (events ++ Drain ∷ []) journal
     → RolloutAccountsForAll setting journal
 all_accounted none_stuck account setting events journal is own nothing connected answers i s header

@@ -3,16 +3,16 @@
 use Rattle.std.proofs.Common.{[], ◌&&◌, ◌++◌, ◌<◌, ◌==◌, ◌||◌, ◌∙◌, ◌∷◌, ◌≡◌, ◌≢◌, ◌⊎◌, All, Bool, Contains, IsFalse, IsTrue, List, None, Ok, Option, Some, ap, arith, eq-eqb, false, get_or, if◌then◌else◌, inl, inr, length, map, ne_eqb, not, option_to_list, refl, subst, sym, true, unwrap_or, ℕ}
 use Rattle.base.proofs.Exports.{⊤, All-cons, All-nil, cases_eq, get_or-map, length-map, list_any, list_any-append, option_map_or}
 use Rattle.net_file.specs.Exports.{IsNet, are_linked_in_net, net_port_owner}
-use Rattle.update_machine.specs.Exports.{AreMachineLegTargets, JournalBeginsAnswer, Cause, JournalClaim, Crash, Event, Exit, HasMachineCause, SettingHasPlan, JournalItemsHaveCauses, IsSettingPlanOf, IsSetting, IsMachineStuckRightly, Item, Leads, Leg, LinkDown, Net, One, Row, Seek, Setting, Step, StepOfRow, journal_after_steps, journal_can_use, journal_claim_of, finds_down, machine_item_gives_step, setting_hosted_or_none, is_end, is_open, is_up, piece, journal_plan_at, policy_at, journal_present_step}
+use Rattle.update_machine.specs.Exports.{AreMachineLegTargets, JournalBeginsAnswer, Cause, JournalClaim, Crash, Event, Exit, HasMachineCause, MachineVersionHasPlan, JournalItemsHaveCauses, IsMachineSettingPlanOf, IsMachineSetting, IsMachinePacketStuckRightly, Item, MachineWalkLeads, Leg, LinkDown, Net, One, Row, Seek, Setting, Step, MachineStepOfRow, journal_after_steps, journal_can_use, journal_claim_of, machine_item_finds_down, machine_item_gives_step, machine_hosted_or_none, is_journal_link_end, is_journal_link_open, is_up, piece, journal_plan_at, machine_policy_at, journal_present_step}
 use Rattle.net_file.proofs.NetFileRowPlaces.{links, ports}
-use Rattle.partition.specs.Plan.{Hosted, IsPartitionPlan}
-use Rattle.steps.specs.Exports.{HasSwitch}
-use Rattle.control_laws.specs.Exports.{AreNetworkEvents, ControlLawHoldsReached}
+use Rattle.partition.specs.Plan.{HostedPolicyPartition, IsPartitionPlan}
+use Rattle.steps.specs.Exports.{StepSwitchExists}
+use Rattle.control_laws.specs.Exports.{AreControlNetworkEvents, ControlLawHoldsReached}
 use Rattle.control_laws.proofs.Exports.{AreKept, Behind, Both, HasBothCauses, behind_both, have_both, have_weaker, piece_has, up_more, with_fact}
 use Rattle.packet_laws.specs.Exports.{AllPacketFactsKept, IsPacketBlockedOn, PacketTakesLeg, packet_stage_of, packet_facts_of}
 use Rattle.packet_laws.proofs.Exports.{IsHere, IsNoRow, IsWayItem, Knows, Past, decision_out, exiting_of, here_known, kept_before, known_before, knows, leg_in, no_rows, port_named, reached, version_planned}
 use Rattle.convergence_laws.proofs.Exports.{in_at}
-use Rattle.forwarding_laws.specs.Exports.{AreForwardingTargetsCutOff, ForwardingDropsNothing, RolloutFailsNothing, IsConnectedForwardingNetwork, IsStuckCutOff, NoneIsStuck, NothingFailsInRollout, fails}
+use Rattle.forwarding_laws.specs.Exports.{AreForwardingTargetsCutOff, ForwardingDropsNothing, RolloutFailsNothing, IsConnectedForwardingNetwork, IsForwardingStuckCutOff, NoneIsStuck, NothingFailsInRollout, rollout_step_fails_something}
 use Rattle.forwarding_laws.proofs.RolloutDrains.{stands_in}
 use Rattle.update_machine.proofs.Exports.{AreOf, HasNexts, IsEventOf, first_steps_are, have_append, have_take, last_given_append, start_laws}
 use Rattle.forwarding_laws.proofs.RolloutUnfailingItems.{ClaimsAll, IsUnfailing, all_up, all_usable, are_claimed}
@@ -27,35 +27,35 @@ pub record AreSwitches (net : Net) (targets : List ℕ) : Type 0 where
 
 -- ---- the targets of a partition
 
-targets_planned : (rows : List Row) (net : Net) (plan : List Hosted) (hosted : Hosted)
+targets_planned : (rows : List Row) (net : Net) (plan : List HostedPolicyPartition) (hosted : HostedPolicyPartition)
     → IsPartitionPlan rows net plan → Contains plan hosted → AreSwitches net hosted.1
 targets_planned rows net plan hosted is found =
-    let first = λ (other : Hosted). other.0 in
-    let second = λ (other : Hosted). other.1 in
+    let first = λ (other : HostedPolicyPartition). other.0 in
+    let second = λ (other : HostedPolicyPartition). other.1 in
     let k = found.0 in
     let sizes = length-map (map first plan) (λ part. length part.rules) ∙ length-map plan first in
     let due = is.placement.hosted k (omega (arith, found.1, sizes)) in
     let own : get_or (map second plan) k [] ≡ hosted.1 =
-    (get_or-map second plan k hosted [] found.1) ∙ ap (λ (other : Hosted). other.1) found.2 in
+    (get_or-map second plan k hosted [] found.1) ∙ ap (λ (other : HostedPolicyPartition). other.1) found.2 in
     record {
       some = omega (arith, due.number, ap length own);
       there = rw found.2 at (is.targets k hosted found.1);
     }
 
 -- a plan of a version is sound
-plan_sound : (setting : Setting) (journal : List Item) (version : ℕ) (plan : List Hosted)
-    → IsSetting setting → IsSettingPlanOf setting journal version plan
+plan_sound : (setting : Setting) (journal : List Item) (version : ℕ) (plan : List HostedPolicyPartition)
+    → IsMachineSetting setting → IsMachineSettingPlanOf setting journal version plan
     → (rows : List Row) × IsPartitionPlan rows setting.net plan
-unfolding policy_at journal_plan_at
+unfolding machine_policy_at journal_plan_at
 plan_sound setting journal version plan is of =
-    let own : policy_at setting journal version ≡ of.0 = ap (λ o. unwrap_or o []) of.1 in
-    let same = ap (λ o. option_map_or (λ rows. setting_hosted_or_none (setting.plan rows)) o []) of.1
-    ∙ ap setting_hosted_or_none of.2 in
-    let has : SettingHasPlan setting journal version = record {
+    let own : machine_policy_at setting journal version ≡ of.0 = ap (λ o. unwrap_or o []) of.1 in
+    let same = ap (λ o. option_map_or (λ rows. machine_hosted_or_none (setting.plan rows)) o []) of.1
+    ∙ ap machine_hosted_or_none of.2 in
+    let has : MachineVersionHasPlan setting journal version = record {
       policy = of.1 ∙ ap Some (sym own);
       plan = ap setting.plan own ∙ of.2 ∙ ap Ok (sym same);
     } in (
-      policy_at setting journal version,
+      machine_policy_at setting journal version,
       rw same at (version_planned setting journal version is has).parts,
     )
 
@@ -105,7 +105,7 @@ abbrev pub IsKeptItem : Setting → List Item → Item → Type 0
 IsKeptItem setting = Behind (Past (IsWayItem setting)) (AllPacketFactsKept setting)
 
 pub are_kept_items : (setting : Setting) (events : List Event) (journal : List Item)
-    → IsSetting setting → AreNetworkEvents setting events → JournalBeginsAnswer setting events journal
+    → IsMachineSetting setting → AreControlNetworkEvents setting events → JournalBeginsAnswer setting events journal
     → JournalItemsHaveCauses (IsKeptItem setting) [] journal
 are_kept_items setting events journal is own begins = kept_before setting journal is
     ((reached (λ setting journal. JournalItemsHaveCauses (IsWayItem setting) [] journal)
@@ -113,10 +113,10 @@ are_kept_items setting events journal is own begins = kept_before setting journa
 
 -- it is at a switch of the network, and its leg has targets, which are switches of the network too
 pub record IsStuckAmong (net : Net) (switch : ℕ) (targets : List ℕ) : Type 0 where
-  pub there : HasSwitch net switch
+  pub there : StepSwitchExists net switch
   pub among : AreSwitches net targets
 
-pub stuck_among : (setting : Setting) → IsSetting setting → (before : List Item)
+pub stuck_among : (setting : Setting) → IsMachineSetting setting → (before : List Item)
     (packet switch : ℕ) (cause : Cause) (leg : Leg) (down targets : List ℕ)
     → IsKeptItem setting before (Item.Stuck packet switch cause leg down)
     → AreMachineLegTargets setting before packet leg targets → IsStuckAmong setting.net switch targets
@@ -142,11 +142,11 @@ abbrev IsNotStuck : List Item → Item → Type 0
 IsNotStuck before (Item.Stuck packet switch cause leg down) = ⊥
 IsNotStuck before _ = ⊤
 
-not_stuck : (setting : Setting) → IsSetting setting → IsConnectedForwardingNetwork setting.net
+not_stuck : (setting : Setting) → IsMachineSetting setting → IsConnectedForwardingNetwork setting.net
     → (before : List Item) (next : Item)
     → Both (ForwardingDropsNothing setting) (IsKeptItem setting) before next → IsNotStuck before next
 not_stuck setting is connected before (Item.Stuck packet switch cause leg down) both =
-    let stuck : IsStuckCutOff setting before packet switch leg = both.first in
+    let stuck : IsForwardingStuckCutOff setting before packet switch leg = both.first in
     leads_to_one setting.net switch stuck.targets connected
     (stuck_among setting is before packet switch cause leg down stuck.targets both.second
     stuck.own_leg)
@@ -154,10 +154,10 @@ not_stuck setting is connected before (Item.Stuck packet switch cause leg down) 
 not_stuck setting is connected before next both = tt
 
 pub none_is_stuck : ((setting : Setting) (events : List Event) (journal : List Item)
-    → IsSetting setting → AreNetworkEvents setting events → NothingFailsInRollout events
+    → IsMachineSetting setting → AreControlNetworkEvents setting events → NothingFailsInRollout events
     → JournalBeginsAnswer setting events journal → JournalItemsHaveCauses (ForwardingDropsNothing setting) [] journal)
     → (setting : Setting) (events : List Event) (journal : List Item)
-    → IsSetting setting → AreNetworkEvents setting events → NothingFailsInRollout events
+    → IsMachineSetting setting → AreControlNetworkEvents setting events → NothingFailsInRollout events
     → IsConnectedForwardingNetwork setting.net → JournalBeginsAnswer setting events journal → NoneIsStuck journal
 none_is_stuck drops setting events journal is own nothing connected begins packet switch cause leg
     down found = (stands_in IsNotStuck [] journal (Item.Stuck packet switch cause leg down) none
@@ -174,7 +174,7 @@ none_is_stuck drops setting events journal is own nothing connected begins packe
 -- ---- rows
 
 abbrev IsSafeRow : List Item → Item → Type 0
-IsSafeRow before (Item.Row row step) = IsFalse (fails step)
+IsSafeRow before (Item.Row row step) = IsFalse (rollout_step_fails_something step)
 IsSafeRow before _ = ⊤
 
 no_row_safe : (before : List Item) (next : Item) → IsNoRow next → IsSafeRow before next
@@ -182,9 +182,9 @@ no_row_safe before (Item.Row row step) none = absurd none
 no_row_safe before _ none = tt
 
 abbrev IsSafe : Step → Type 0
-IsSafe step = IsFalse (fails step)
+IsSafe step = IsFalse (rollout_step_fails_something step)
 
-steps_safe : (setting : Setting) (before : List Item) (steps : List StepOfRow) → AreOf IsSafe steps
+steps_safe : (setting : Setting) (before : List Item) (steps : List MachineStepOfRow) → AreOf IsSafe steps
     → JournalItemsHaveCauses IsSafeRow [] before → JournalItemsHaveCauses IsSafeRow [] (journal_after_steps setting before steps)
 steps_safe setting before [] safe have = have
 steps_safe setting before (next ∷ steps) safe have = steps_safe setting
@@ -216,19 +216,19 @@ IsCaused setting = Both (HasMachineCause setting) (Both (HasBothCauses setting) 
 
 -- of a journal in which nothing failed
 record IsSound (setting : Setting) (journal : List Item) : Type 0 where
-  step : (step : Step) → journal_present_step journal ≡ Some step → IsFalse (fails step)
+  step : (step : Step) → journal_present_step journal ≡ Some step → IsFalse (rollout_step_fails_something step)
   up : (s : ℕ) → IsTrue (is_up journal s)
   have : JournalItemsHaveCauses (Both (HasBothCauses setting) IsUnfailing) [] journal
-  found : (i one two : ℕ) → list_any (finds_down i one two) journal ≡ false
+  found : (i one two : ℕ) → list_any (machine_item_finds_down i one two) journal ≡ false
 
 next_step : (before : List Item) (next : Item) → IsSafeRow before next
-    → ((step : Step) → journal_present_step before ≡ Some step → IsFalse (fails step)) → (step : Step)
-    → journal_present_step (before ++ next ∷ []) ≡ Some step → IsFalse (fails step)
+    → ((step : Step) → journal_present_step before ≡ Some step → IsFalse (rollout_step_fails_something step)) → (step : Step)
+    → journal_present_step (before ++ next ∷ []) ≡ Some step → IsFalse (rollout_step_fails_something step)
 unfolding journal_present_step
 next_step before (Item.Row row now) safe old step is =
     let same : Some now ≡ Some step =
     sym (last_given_append machine_item_gives_step before (Item.Row row now ∷ [])) ∙ is in
-    let is_now : now ≡ step = cc in subst (λ x. IsFalse (fails x)) is_now safe
+    let is_now : now ≡ step = cc in subst (λ x. IsFalse (rollout_step_fails_something x)) is_now safe
 next_step before next safe old step is =
     old step (sym (last_given_append machine_item_gives_step before (next ∷ [])) ∙ is)
 
@@ -257,7 +257,7 @@ module _ (setting : Setting) (net : IsNet setting.net) where
 
   -- no packet finds a link down
   next_found : (before : List Item) (next : Item) (i one two : ℕ) → IsCaused setting before next
-      → IsSound setting before → finds_down i one two next ≡ false
+      → IsSound setting before → machine_item_finds_down i one two next ≡ false
   next_found before (Item.FoundDown packet x y) i one two caused sound = let down = caused.first in
       absurd (cc (sym down.linked ∙ sym (all_usable setting before (safe_of before sound) x y)
       ∙ down.unusable))
@@ -270,8 +270,8 @@ module _ (setting : Setting) (net : IsNet setting.net) where
         up = λ s. next_up before next s safe (sound.up s);
         have = have_append (Both (HasBothCauses setting) IsUnfailing) [] before (next ∷ [])
             sound.have (record { first = caused.second.first; second = safe }, tt);
-        found = λ i one two. list_any-append (finds_down i one two) before (next ∷ [])
-            ∙ ap (λ b. b || (finds_down i one two next || false)) (sound.found i one two)
+        found = λ i one two. list_any-append (machine_item_finds_down i one two) before (next ∷ [])
+            ∙ ap (λ b. b || (machine_item_finds_down i one two next || false)) (sound.found i one two)
             ∙ ap (λ b. b || false) (next_found before next i one two caused sound);
       }
 
@@ -286,7 +286,7 @@ module _ (setting : Setting) (net : IsNet setting.net) where
   -- ---- links that switches know
 
   ends_known : (before : List Item) → IsSound setting before → (s one two : ℕ) → two < 64
-      → is_end setting before s one two ≡ are_linked_in_net setting.net.links one two
+      → is_journal_link_end setting before s one two ≡ are_linked_in_net setting.net.links one two
   ends_known before sound s one two small = by_place (cases_eq one s) where
     by_claim : (o : Option JournalClaim) → journal_claim_of setting before s one ≡ o → ClaimsAll setting.net one o
         → option_map_or (λ claim. claim.links two) (journal_claim_of setting before s one) false
@@ -295,7 +295,7 @@ module _ (setting : Setting) (net : IsNet setting.net) where
     by_claim (Some claim) e all = cc (e, all two small)
 
     by_place : (one ≡ s) ⊎ (one ≢ s)
-        → is_end setting before s one two ≡ are_linked_in_net setting.net.links one two
+        → is_journal_link_end setting before s one two ≡ are_linked_in_net setting.net.links one two
     by_place (inl same) =
         cc (eq-eqb one s same, all_usable setting before (safe_of before sound) s two, same)
     by_place (inr apart) = ap (λ b. if b then journal_can_use setting before s two
@@ -306,7 +306,7 @@ module _ (setting : Setting) (net : IsNet setting.net) where
   -- each link of the network is open to each packet
   link_open : (before : List Item) → IsSound setting before → (packet s one two : ℕ)
       → IsTrue (are_linked_in_net setting.net.links one two)
-      → IsTrue (is_open setting before packet s one two)
+      → IsTrue (is_journal_link_open setting before packet s one two)
   link_open before sound packet s one two linked =
       all_four (one == two) _ _ _ apart (ends_known before sound s one two two_small ∙ linked)
       (ends_known before sound s two one one_small ∙ back) (sound.found packet one two)
@@ -331,8 +331,8 @@ module _ (setting : Setting) (net : IsNet setting.net) where
       all_four a b c d p q r t = rw (p, q, r, t) refl
 
   leads_open : (before : List Item) → IsSound setting before → (packet s at : ℕ)
-      (path : List ℕ) (target : ℕ) → Leads (are_linked_in_net setting.net.links) at path target
-      → Leads (is_open setting before packet s) at path target
+      (path : List ℕ) (target : ℕ) → MachineWalkLeads (are_linked_in_net setting.net.links) at path target
+      → MachineWalkLeads (is_journal_link_open setting before packet s) at path target
   leads_open before sound packet s at [] target leads = leads
   leads_open before sound packet s at (next ∷ path) target leads = (
     link_open before sound packet s at next leads.0,
@@ -347,10 +347,10 @@ module _ (setting : Setting) (net : IsNet setting.net) where
   abbrev IsKnown : List Item → Item → Type 0
   IsKnown = Both (Behind (IsCaused setting) (IsSound setting)) (IsKeptItem setting)
 
-  drops_nothing : IsSetting setting → (before : List Item) (next : Item) → IsKnown before next
+  drops_nothing : IsMachineSetting setting → (before : List Item) (next : Item) → IsKnown before next
       → ForwardingDropsNothing setting before next
   drops_nothing is before (Item.Stuck packet switch cause leg down) known =
-      let stuck : IsMachineStuckRightly setting before packet switch leg = known.first.caused.first in
+      let stuck : IsMachinePacketStuckRightly setting before packet switch leg = known.first.caused.first in
       record {
         stands = stuck.stands;
         targets = stuck.targets;
@@ -373,9 +373,9 @@ module _ (setting : Setting) (net : IsNet setting.net) where
       ∙ known.second.caused.caused.way.1))
   drops_nothing is before next known = tt
 
-pub rollouts : ControlLawHoldsReached (λ setting journal. IsSetting setting → JournalItemsHaveCauses (HasMachineCause setting) [] journal)
+pub rollouts : ControlLawHoldsReached (λ setting journal. IsMachineSetting setting → JournalItemsHaveCauses (HasMachineCause setting) [] journal)
     → (setting : Setting) (events : List Event) (journal : List Item)
-    → IsSetting setting → AreNetworkEvents setting events → NothingFailsInRollout events
+    → IsMachineSetting setting → AreControlNetworkEvents setting events → NothingFailsInRollout events
     → JournalBeginsAnswer setting events journal → JournalItemsHaveCauses (ForwardingDropsNothing setting) [] journal
 rollouts ends setting events journal is own nothing begins =
     have_weaker (Both (Behind (IsCaused setting) (IsSound setting)) (IsKeptItem setting))

@@ -4,7 +4,7 @@ use Rattle.std.proofs.Common.{[], ◌&&◌, ◌++◌, ◌<◌, ◌==◌, ◌||�
 use Rattle.base.proofs.Exports.{⊤, bit_at, has_mask, list_any, nat_tests}
 use Rattle.base.specs.Exports.{has}
 use Rattle.update_machine.specs.Exports.{Advert, Advertise, Body, JournalClaim, JournalItemsHaveCauses, Item, LinkRow, Message, Net, Place, Setting, journal_can_use, changes_journal_claim, journal_claim_by, journal_claim_in_message, journal_claim_of, gives_journal_link, is_link_up_in_journal, is_usable_in_journal, journal_message_of, newer_journal_claim_of, own_advert, serves}
-use Rattle.net_file.specs.Exports.{are_linked_in_net, joins}
+use Rattle.net_file.specs.Exports.{are_linked_in_net, net_link_joins}
 use Rattle.update_machine.proofs.Exports.{have_append, near_usable, start_laws}
 use Rattle.control_laws.proofs.Exports.{AreKept, AreSuch, Both, HasBothCauses, IfAdvert, IsAdvertFact, claim_more, fact_on, have_front, last_more, serving_more, such_at_first, such_kept}
 
@@ -59,11 +59,11 @@ all_up journal safe = fact_on IsUnfailing AreAllUp up_kept [] journal safe
     (record { serving = start_laws.serving; links = start_laws.links })
 
 any_usable : (journal : List Item) (one two : ℕ) (rows : List LinkRow) → AreAllUp journal
-    → list_any (λ link. joins one two link && is_usable_in_journal journal link) rows
-    ≡ list_any (joins one two) rows
+    → list_any (λ link. net_link_joins one two link && is_usable_in_journal journal link) rows
+    ≡ list_any (net_link_joins one two) rows
 any_usable journal one two [] up = refl
 any_usable journal one two (link ∷ rows) up =
-    cc (usable, with_true (joins one two link), any_usable journal one two rows up)
+    cc (usable, with_true (net_link_joins one two link), any_usable journal one two rows up)
   where
     with_true : (b : Bool) → (b && true) ≡ b
     with_true true = refl

@@ -3,19 +3,19 @@
 -- its own row, or is stuck, cut off from its targets. That an update drops none is a requirement
 -- of Reitblatt, Foster, Rexford, Schlesinger and Walker, "Abstractions for Network Update".
 use Rattle.std.specs.Prelude.{[], ◌++◌, ◌∷◌, ◌≡◌, ◌≢◌, All, Bool, Contains, IsFalse, List, Some, false, true, ℕ, ⊤}
-use Rattle.update_machine.specs.Exports.{AreMachineLegTargets, Cause, Crash, Decision, Drop, Event, Header, Item, Leads, MachineLeavesRightly, Leg, LinkDown, Lose, Net, One, Setting, Step, journal_decision_of, journal_present_step, standing}
+use Rattle.update_machine.specs.Exports.{AreMachineLegTargets, Cause, Crash, Decision, Drop, Event, Header, Item, MachineWalkLeads, MachineLeavesRightly, Leg, LinkDown, Lose, Net, One, Setting, Step, journal_decision_of, journal_present_step, journal_standing_of}
 use Rattle.journal.specs.declared.item.Item.TheVariants as item
 use Rattle.net_file.specs.Exports.{are_linked_in_net}
-use Rattle.steps.specs.Exports.{HasSwitch}
+use Rattle.steps.specs.Exports.{StepSwitchExists}
 
 -- a row that crashes a switch or fails a link
-abbrev pub fails : Step → Bool
-fails (Crash s) = true
-fails (LinkDown one two) = true
-fails _ = false
+abbrev pub rollout_step_fails_something : Step → Bool
+rollout_step_fails_something (Crash s) = true
+rollout_step_fails_something (LinkDown one two) = true
+rollout_step_fails_something _ = false
 
 abbrev pub RolloutFailsNothing : Event → Type 0
-RolloutFailsNothing (One step) = IsFalse (fails step)
+RolloutFailsNothing (One step) = IsFalse (rollout_step_fails_something step)
 RolloutFailsNothing _ = ⊤
 
 -- no row of the schedule crashes a switch or fails a link
@@ -25,13 +25,13 @@ NothingFailsInRollout events = All RolloutFailsNothing events
 -- the links of the network lead from the switch to none of the targets
 abbrev pub AreForwardingTargetsCutOff : Net → ℕ → List ℕ → Type 0
 AreForwardingTargetsCutOff net switch targets = All (λ target. (path : List ℕ)
-    → ¬ Leads (are_linked_in_net net.links) switch path target) targets
+    → ¬ MachineWalkLeads (are_linked_in_net net.links) switch path target) targets
 
 -- a packet is stuck where it is: its leg has targets, and the links of the network lead from there
 -- to none of them
-pub record IsStuckCutOff (setting : Setting) (before : List Item) (packet switch : ℕ) (leg : Leg)
+pub record IsForwardingStuckCutOff (setting : Setting) (before : List Item) (packet switch : ℕ) (leg : Leg)
     : Type 0 where
-  pub stands : standing before packet ≡ Some switch
+  pub stands : journal_standing_of before packet ≡ Some switch
   pub targets : List ℕ
   pub own_leg : AreMachineLegTargets setting before packet leg targets
   pub has_targets : targets ≢ []
@@ -41,7 +41,7 @@ pub record IsStuckCutOff (setting : Setting) (before : List Item) (packet switch
 -- and no switch is closed to one
 abbrev pub ForwardingDropsNothing : Setting → List Item → Item → Type 0
 ForwardingDropsNothing setting before (item.Stuck packet switch cause leg down) =
-    IsStuckCutOff setting before packet switch leg
+    IsForwardingStuckCutOff setting before packet switch leg
 ForwardingDropsNothing setting before (item.Lost packet) = journal_present_step before ≡ Some (Lose packet)
 ForwardingDropsNothing setting before (item.FoundDown packet one two) = ⊥
 ForwardingDropsNothing setting before (item.Closed packet switch) = ⊥
@@ -51,8 +51,8 @@ ForwardingDropsNothing setting before _ = ⊤
 
 -- the links of the network lead from each switch to each other switch
 abbrev pub IsConnectedForwardingNetwork : Net → Type 0
-IsConnectedForwardingNetwork net = (one other : ℕ) → HasSwitch net one → HasSwitch net other
-    → (path : List ℕ) × Leads (are_linked_in_net net.links) one path other
+IsConnectedForwardingNetwork net = (one other : ℕ) → StepSwitchExists net one → StepSwitchExists net other
+    → (path : List ℕ) × MachineWalkLeads (are_linked_in_net net.links) one path other
 
 -- no packet is stuck
 abbrev pub NoneIsStuck : List Item → Type 0
@@ -80,7 +80,7 @@ RolloutEndsRightly setting packet before _ = ⊥
 -- or it is stuck, cut off from its targets
 abbrev pub RolloutEndsOrIsCutOff : Setting → ℕ → List Item → Item → Type 0
 RolloutEndsOrIsCutOff setting packet before (item.Stuck i switch cause leg down) =
-    (i ≡ packet) × IsStuckCutOff setting before packet switch leg
+    (i ≡ packet) × IsForwardingStuckCutOff setting before packet switch leg
 RolloutEndsOrIsCutOff setting packet before end = RolloutEndsRightly setting packet before end
 
 -- the journal has an item for which `is` is true after the items before it
@@ -98,7 +98,7 @@ RolloutAccountsForAll setting journal = (packet switch : ℕ) (header : Header)
     → RolloutHasItem (RolloutEndsRightly setting packet) journal
 
 -- each packet that entered ended rightly, or is stuck, cut off from its targets
-abbrev pub AllAccountedOrCutOff : Setting → List Item → Type 0
-AllAccountedOrCutOff setting journal = (packet switch : ℕ) (header : Header)
+abbrev pub RolloutAccountedOrCutOff : Setting → List Item → Type 0
+RolloutAccountedOrCutOff setting journal = (packet switch : ℕ) (header : Header)
     → Contains journal (item.Entered packet switch header)
     → RolloutHasItem (RolloutEndsOrIsCutOff setting packet) journal

@@ -1,8 +1,8 @@
 -- What is true of a quiet network.
 use Rattle.std.specs.Prelude.{List}
 use Rattle.update_machine.specs.Exports.{IsQuietMachineJournal, Item, Setting}
-use Rattle.convergence_laws.specs.Exports.{ConvergedGetStuckApart, HasConverged, IsNetworkUpdateConverged}
-use Rattle.forwarding_laws.specs.Forwards.{ForwardsWhenQuiet}
+use Rattle.convergence_laws.specs.Exports.{ConvergedGetStuckApart, HasConverged, IsNetworkUpdated}
+use Rattle.forwarding_laws.specs.Forwards.{NetworkForwards}
 
 -- the network is quiet. So the switches know the usable links, and a packet that had found no link
 -- down gets stuck in the next step only if no target is reachable. The switches that are up stamp
@@ -12,5 +12,5 @@ pub record HasNetworkComeToRest (setting : Setting) (journal : List Item) : Type
   pub quiet : IsQuietMachineJournal setting journal
   pub converged : HasConverged setting journal
   pub apart : ConvergedGetStuckApart setting journal
-  pub updated : IsNetworkUpdateConverged setting journal
-  pub forwards : ForwardsWhenQuiet setting journal
+  pub updated : IsNetworkUpdated setting journal
+  pub forwards : NetworkForwards setting journal

@@ -1,12 +1,12 @@
 //! Laws of networks that have recovered.
 ghost use Rattle.std.specs.Prelude.{◌∷◌, ◌++◌, [], List};
 ghost use Rattle.net_file.specs.Net.{IsNet};
-ghost use Rattle.update_machine.specs.Exports.{Answers, Event, IsSetting, Item, Setting};
+ghost use Rattle.update_machine.specs.Exports.{Answers, Event, IsMachineSetting, Item, Setting};
 ghost use Rattle.steps.specs.declared.step.Event.TheVariants.{Flush};
-ghost use Rattle.control_laws.specs.Always.{AreNetworkEvents};
-ghost use Rattle.convergence_laws.specs.Exports.{HasConverged, IsNetworkUpdateConverged, NeighboursAgree};
-ghost use Rattle.forwarding_laws.specs.NothingOld.{ForwardingCachesNewestAlone, ForwardingEndsInTwoRounds, RecoveryLeavesNothingOld};
-ghost use Rattle.forwarding_laws.specs.Recovered.{ForwardingRecoveryDeliversAll, HasRecovered};
+ghost use Rattle.control_laws.specs.Always.{AreControlNetworkEvents};
+ghost use Rattle.convergence_laws.specs.Exports.{HasConverged, IsNetworkUpdated, ConvergenceNeighboursAgree};
+ghost use Rattle.forwarding_laws.specs.NothingOld.{ForwardingCachesNewestAlone, EndsInTwoRecoveryRounds, RecoveryLeavesNothingOld};
+ghost use Rattle.forwarding_laws.specs.Recovered.{AllForwardingMessagesDelivered, HasRecovered};
 ghost use Rattle.forwarding_laws.specs.Recovery.{EndsInRecovery};
 
 use crate::laws::converged_networks_forward;
@@ -16,7 +16,7 @@ use packet_laws::cache_rules_are_right;
 /// After a flush each message that was sent was delivered or forgotten.
 pub fn forwarding_flushes_deliver_all()
     ensures { (setting : Setting) (events : List Event) (journal : List Item)
-        → Answers setting (events ++ Flush ∷ []) journal → ForwardingRecoveryDeliversAll journal }
+        → Answers setting (events ++ Flush ∷ []) journal → AllForwardingMessagesDelivered journal }
 {}
 
 /// After recovery neighbours agree: over each usable link, each end has adverts at least as new as
@@ -24,7 +24,7 @@ pub fn forwarding_flushes_deliver_all()
 pub fn recovered_neighbours_agree()
     ensures { (setting : Setting) (events : List Event) (journal : List Item)
         → IsNet setting.net → EndsInRecovery setting.net events
-        → Answers setting events journal → NeighboursAgree setting journal }
+        → Answers setting events journal → ConvergenceNeighboursAgree setting journal }
 {}
 
 /// So after recovery the network has converged on the usable links.
@@ -42,7 +42,7 @@ pub fn recovered_networks_have_converged()
 pub fn recovered_networks_are_updated()
     ensures { (setting : Setting) (events : List Event) (journal : List Item)
         → EndsInRecovery setting.net events → Answers setting events journal
-        → IsNetworkUpdateConverged setting journal }
+        → IsNetworkUpdated setting journal }
 {}
 
 /// Suppose a schedule ends with the confirmation of each switch, a resend to each switch and a
@@ -50,7 +50,7 @@ pub fn recovered_networks_are_updated()
 /// converged on the usable links and on the newest version, and forwards.
 pub fn networks_recover()
     ensures { (setting : Setting) (events : List Event) (journal : List Item)
-        → IsSetting setting → AreNetworkEvents setting events → EndsInRecovery setting.net events
+        → IsMachineSetting setting → AreControlNetworkEvents setting events → EndsInRecovery setting.net events
         → Answers setting events journal → HasRecovered setting journal }
 {
     agreeing_networks_have_converged();
@@ -61,7 +61,7 @@ pub fn networks_recover()
 /// After recovery the switches that are up cache only rules of the newest version.
 pub fn recovered_caches_are_new()
     ensures { (setting : Setting) (events : List Event) (journal : List Item)
-        → IsSetting setting → AreNetworkEvents setting events → EndsInRecovery setting.net events
+        → IsMachineSetting setting → AreControlNetworkEvents setting events → EndsInRecovery setting.net events
         → Answers setting events journal → ForwardingCachesNewestAlone setting journal }
 {
     cache_rules_are_right();
@@ -71,7 +71,7 @@ pub fn recovered_caches_are_new()
 /// that are up have the tables of the newest version and of no other, and cache only its rules.
 pub fn recovery_leaves_nothing_old()
     ensures { (setting : Setting) (events : List Event) (journal : List Item)
-        → IsSetting setting → AreNetworkEvents setting events → ForwardingEndsInTwoRounds setting.net events
+        → IsMachineSetting setting → AreControlNetworkEvents setting events → EndsInTwoRecoveryRounds setting.net events
         → Answers setting events journal → RecoveryLeavesNothingOld setting journal }
 {
     agreeing_networks_have_converged();

@@ -1,9 +1,9 @@
 //! Laws of rollouts in which nothing fails.
 ghost use Rattle.std.specs.Prelude.{◌∷◌, ◌++◌, [], List};
 ghost use Rattle.steps.specs.declared.step.Event.TheVariants.{Drain};
-ghost use Rattle.update_machine.specs.Exports.{Answers, JournalBeginsAnswer, Event, JournalItemsHaveCauses, IsSetting, Item, Setting};
-ghost use Rattle.control_laws.specs.Always.{AreNetworkEvents};
-ghost use Rattle.forwarding_laws.specs.Rollout.{RolloutAccountsForAll, AllAccountedOrCutOff, ForwardingDropsNothing, IsConnectedForwardingNetwork, NoneIsStuck, NothingFailsInRollout};
+ghost use Rattle.update_machine.specs.Exports.{Answers, JournalBeginsAnswer, Event, JournalItemsHaveCauses, IsMachineSetting, Item, Setting};
+ghost use Rattle.control_laws.specs.Always.{AreControlNetworkEvents};
+ghost use Rattle.forwarding_laws.specs.Rollout.{RolloutAccountsForAll, RolloutAccountedOrCutOff, ForwardingDropsNothing, IsConnectedForwardingNetwork, NoneIsStuck, NothingFailsInRollout};
 
 use packet_laws::{ends_have_causes, packet_items_have_causes};
 use update_machine::machine_answers_are_numbered;
@@ -14,7 +14,7 @@ use update_machine::machine_answers_are_numbered;
 /// down, and isn't closed.
 pub fn rollouts_drop_nothing()
     ensures { (setting : Setting) (events : List Event) (journal : List Item)
-        → IsSetting setting → AreNetworkEvents setting events → NothingFailsInRollout events
+        → IsMachineSetting setting → AreControlNetworkEvents setting events → NothingFailsInRollout events
         → JournalBeginsAnswer setting events journal → JournalItemsHaveCauses (ForwardingDropsNothing setting) [] journal }
 {
     ends_have_causes();
@@ -23,7 +23,7 @@ pub fn rollouts_drop_nothing()
 /// So in a connected network no packet is ever stuck.
 pub fn connected_rollouts_leave_none_stuck()
     ensures { (setting : Setting) (events : List Event) (journal : List Item)
-        → IsSetting setting → AreNetworkEvents setting events → NothingFailsInRollout events
+        → IsMachineSetting setting → AreControlNetworkEvents setting events → NothingFailsInRollout events
         → IsConnectedForwardingNetwork setting.net → JournalBeginsAnswer setting events journal → NoneIsStuck journal }
 {
     rollouts_drop_nothing();
@@ -34,9 +34,9 @@ pub fn connected_rollouts_leave_none_stuck()
 /// the network's links lead from where it is to no target of its leg.
 pub fn drained_rollouts_account_or_cut_off()
     ensures { (setting : Setting) (events : List Event) (journal : List Item)
-        → IsSetting setting → AreNetworkEvents setting (events ++ Drain ∷ [])
+        → IsMachineSetting setting → AreControlNetworkEvents setting (events ++ Drain ∷ [])
         → NothingFailsInRollout (events ++ Drain ∷ []) → Answers setting (events ++ Drain ∷ []) journal
-        → AllAccountedOrCutOff setting journal }
+        → RolloutAccountedOrCutOff setting journal }
 {
     machine_answers_are_numbered();
     packet_items_have_causes();
@@ -48,7 +48,7 @@ pub fn drained_rollouts_account_or_cut_off()
 /// lost by its own row.
 pub fn drained_rollouts_account_for_all()
     ensures { (setting : Setting) (events : List Event) (journal : List Item)
-        → IsSetting setting → AreNetworkEvents setting (events ++ Drain ∷ [])
+        → IsMachineSetting setting → AreControlNetworkEvents setting (events ++ Drain ∷ [])
         → NothingFailsInRollout (events ++ Drain ∷ []) → IsConnectedForwardingNetwork setting.net
         → Answers setting (events ++ Drain ∷ []) journal → RolloutAccountsForAll setting journal }
 {

@@ -7,7 +7,7 @@ use Rattle.std.proofs.lemmas.List.{get_or_append_left, get_or_push, take_more}
 use Rattle.std.proofs.lemmas.Option.{slice_get-get_or, slice_get_cases, slice_get_past}
 use Rattle.update_machine.specs.Exports.{Body, Message}
 use Rattle.journal_reports.specs.declared.bucket.Bucket.{Bucket}
-use Rattle.journal_reports.specs.Exports.{AreEmptyReportBuckets, ReportBucketHasSaying, IsKeptInReportBucket, ReportedMessageSaysAsMuch, report_bucket_messages, report_bucket_of, report_bucket_messages_at, subject}
+use Rattle.journal_reports.specs.Exports.{AreEmptyReportBuckets, ReportBucketHasSaying, IsKeptInReportBucket, ReportedMessageSaysAsMuch, report_bucket_messages, report_bucket_of, report_bucket_messages_at, report_subject_of_body}
 use Rattle.journal_reports.proofs.QuietSayingAsMuch.{later_more, means_of, says_through}
 
 -- ---- what says as much is in the same bucket
@@ -21,8 +21,8 @@ says_bucket later earlier says = elim (means_of later earlier says) [
 ]
 
 pub bucket_below : (body : Body) → report_bucket_of body < 64
-bucket_below body = by_test (nat_lt (subject body) 64) refl where
-  by_test : (b : Bool) → nat_lt (subject body) 64 ≡ b → (if b then subject body else 0) < 64
+bucket_below body = by_test (nat_lt (report_subject_of_body body) 64) refl where
+  by_test : (b : Bool) → nat_lt (report_subject_of_body body) 64 ≡ b → (if b then report_subject_of_body body else 0) < 64
   by_test true e = grind (arith, nat_tests)
   by_test false e = omega arith
 

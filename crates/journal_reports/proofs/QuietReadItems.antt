@@ -4,7 +4,7 @@ use Rattle.std.specs.List.{list_any}
 use Rattle.std.specs.Option.{option_map_or}
 use Rattle.std.proofs.lemmas.Bool.{and_parts, cases_lt}
 use Rattle.std.proofs.lemmas.List.{get_or_append_left, get_or_push}
-use Rattle.update_machine.specs.Exports.{AreMachineMessagesReceived, Body, IsJournalMessageReceived, IsJournalMessageReplaced, Item, Message, Place, MachineMessageReplaces, Setting, item_begins_boot, count_of, is_delivery_item, is_of_machine_boot, is_machine_ack_below_version, matters, machine_speaking_in_body, was_delivered}
+use Rattle.update_machine.specs.Exports.{AreMachineMessagesReceived, Body, IsJournalMessageReceived, IsJournalMessageReplaced, Item, Message, Place, MachineMessageReplaces, Setting, machine_item_begins_boot, machine_count_of, is_machine_delivery_item, is_of_switch_boot, is_machine_ack_below_version, machine_message_matters, machine_speaking_in_body, was_delivered_in_journal}
 use Rattle.ctrl_msg.specs.declared.message.Place.TheVariants as receiver
 use Rattle.journal.specs.declared.item.Item.TheVariants as item
 use Rattle.convergence_laws.proofs.Exports.{delivered_append}
@@ -16,32 +16,32 @@ use Rattle.journal_reports.proofs.QuietSayingAsMuch.{matters_too, no_cache_rule,
 
 -- ---- deliveries
 
-pub none_delivered : (n : ℕ) → false ≡ was_delivered [] n
-unfolding was_delivered
+pub none_delivered : (n : ℕ) → false ≡ was_delivered_in_journal [] n
+unfolding was_delivered_in_journal
 none_delivered n = refl
 
-one_delivered : (next : Item) (n : ℕ) → was_delivered (next ∷ []) n ≡ is_delivery_item n next
-unfolding was_delivered
-one_delivered next n = by_test (is_delivery_item n next) refl where
-  by_test : (b : Bool) → is_delivery_item n next ≡ b
-      → nat_lt 0 (count_of (is_delivery_item n) (next ∷ [])) ≡ b
+one_delivered : (next : Item) (n : ℕ) → was_delivered_in_journal (next ∷ []) n ≡ is_machine_delivery_item n next
+unfolding was_delivered_in_journal
+one_delivered next n = by_test (is_machine_delivery_item n next) refl where
+  by_test : (b : Bool) → is_machine_delivery_item n next ≡ b
+      → nat_lt 0 (machine_count_of (is_machine_delivery_item n) (next ∷ [])) ≡ b
   by_test true e = rw e refl
   by_test false e = rw e refl
 
 delivered_first : (next : Item) (after : List Item) (n : ℕ)
-    → was_delivered (next ∷ after) n ≡ (is_delivery_item n next || was_delivered after n)
+    → was_delivered_in_journal (next ∷ after) n ≡ (is_machine_delivery_item n next || was_delivered_in_journal after n)
 delivered_first next after n = cc (delivered_append (next ∷ []) after n, one_delivered next n)
 
 pub mark_first : (marks now : List Bool) (next : Item) (after : List Item) (n : ℕ)
-    → report_has_mark marks n ≡ was_delivered after n
-    → report_has_mark now n ≡ (is_delivery_item n next || report_has_mark marks n)
-    → report_has_mark now n ≡ was_delivered (next ∷ after) n
+    → report_has_mark marks n ≡ was_delivered_in_journal after n
+    → report_has_mark now n ≡ (is_machine_delivery_item n next || report_has_mark marks n)
+    → report_has_mark now n ≡ was_delivered_in_journal (next ∷ after) n
 mark_first marks now next after n was is = cc (is, was, delivered_first next after n)
 
 -- what an item sends it doesn't deliver
 sent_mark : (marks : List Bool) (number : ℕ) (message : Message) (after : List Item)
-    → ((n : ℕ) → report_has_mark marks n ≡ was_delivered (item.Sent number message ∷ after) n)
-    → report_has_mark marks number ≡ was_delivered after number
+    → ((n : ℕ) → report_has_mark marks n ≡ was_delivered_in_journal (item.Sent number message ∷ after) n)
+    → report_has_mark marks number ≡ was_delivered_in_journal after number
 sent_mark marks number message after right =
     right number ∙ delivered_first (item.Sent number message) after number
 
@@ -49,18 +49,18 @@ sent_mark marks number message after right =
 
 -- it does in its status
 in_status : (journal after : List Item) (s : ℕ) (message : Message)
-    → matters_in_report_status (report_switch_status_in journal s) (not (list_any (item_begins_boot s) after)) message
-    ≡ matters journal s message after
+    → matters_in_report_status (report_switch_status_in journal s) (not (list_any (machine_item_begins_boot s) after)) message
+    ≡ machine_message_matters journal s message after
 in_status journal after s message = by_receiver message.to message.body where
   by_receiver : (to : Place) (body : Body) → matters_in_report_status (report_switch_status_in journal s)
-      (not (list_any (item_begins_boot s) after)) (record { to = to; body = body })
-      ≡ matters journal s (record { to = to; body = body }) after
+      (not (list_any (machine_item_begins_boot s) after)) (record { to = to; body = body })
+      ≡ machine_message_matters journal s (record { to = to; body = body }) after
   by_receiver (receiver.Switch t) body = refl
   by_receiver receiver.Controller body = refl
 
 in_row : (journal after : List Item) (s : ℕ) (row : Traffic) (message : Message)
     → IsReportTraffic journal after s row
-    → matters_in_report_status row.status row.is_in_boot message ≡ matters journal s message after
+    → matters_in_report_status row.status row.is_in_boot message ≡ machine_message_matters journal s message after
 in_row journal after s row message is =
     cc (is.status, is.in_boot, in_status journal after s message)
 
@@ -69,7 +69,7 @@ matters_named : (status : SwitchStatus) (in_boot : Bool) (message : Message) →
     in_boot message ≡ true → is_named_in_report status.switch (report_switch_of_message message) ≡ true
 matters_named status in_boot message matter = by_receiver message.to message.body matter where
   by_speaker : (body : Body) (o : Option (ℕ × ℕ))
-      → (status.is_up && option_map_or (is_of_machine_boot status.switch status.boot) o false
+      → (status.is_up && option_map_or (is_of_switch_boot status.switch status.boot) o false
       && not (is_machine_ack_below_version status.current body)) ≡ true
       → is_named_in_report status.switch (option_map (λ (of : ℕ × ℕ). of.0) o) ≡ true
   by_speaker body None matter =
@@ -85,15 +85,15 @@ matters_named status in_boot message matter = by_receiver message.to message.bod
   by_receiver receiver.Controller body matter = by_speaker body (machine_speaking_in_body body) matter
 
 named : (journal after : List Item) (s : ℕ) (message : Message)
-    → IsTrue (matters journal s message after) → is_named_in_report s (report_switch_of_message message) ≡ true
+    → IsTrue (machine_message_matters journal s message after) → is_named_in_report s (report_switch_of_message message) ≡ true
 named journal after s message matter = matters_named (report_switch_status_in journal s)
-    (not (list_any (item_begins_boot s) after)) message (in_status journal after s message ∙ matter)
+    (not (list_any (machine_item_begins_boot s) after)) message (in_status journal after s message ∙ matter)
 
 -- and it does behind fewer items
 matters_less : (journal : List Item) (next : Item) (after : List Item) (s : ℕ) (message : Message)
-    → IsTrue (matters journal s message (next ∷ after)) → IsTrue (matters journal s message after)
+    → IsTrue (machine_message_matters journal s message (next ∷ after)) → IsTrue (machine_message_matters journal s message after)
 matters_less journal next after s message matter = sym (in_status journal after s message)
-    ∙ fewer (item_begins_boot s next) (list_any (item_begins_boot s) after) message.to message.body
+    ∙ fewer (machine_item_begins_boot s next) (list_any (machine_item_begins_boot s) after) message.to message.body
     (in_status journal (next ∷ after) s message ∙ matter)
   where
     fewer : (a b : Bool) (to : Place) (body : Body)
@@ -109,16 +109,16 @@ matters_less journal next after s message matter = sym (in_status journal after 
 
 -- what replaces a message that matters says as much as it
 says_if : (journal after : List Item) (s : ℕ) (row : Traffic) (later message : Message)
-    → IsReportTraffic journal after s row → IsTrue (matters journal s message after)
+    → IsReportTraffic journal after s row → IsTrue (machine_message_matters journal s message after)
     → MachineMessageReplaces later message → ReportedMessageSaysAsMuch later message
 says_if journal after s row later message is matter replaces = says_of later message
     (no_cache_rule row.status row.is_in_boot message
     (in_row journal after s row message is ∙ matter)) replaces
 
 kept_on : (journal after : List Item) (s : ℕ) (next : Item) (marks : List Bool) (row now : Traffic)
-    (answer : Bool) → ((n : ℕ) → report_has_mark marks n ≡ was_delivered (next ∷ after) n)
+    (answer : Bool) → ((n : ℕ) → report_has_mark marks n ≡ was_delivered_in_journal (next ∷ after) n)
     → IsReportTraffic journal after s row → IsReportTrafficAfter marks next row now answer
-    → (message : Message) → IsTrue (matters journal s message (next ∷ after))
+    → (message : Message) → IsTrue (machine_message_matters journal s message (next ∷ after))
     → IsKeptInReportBucket now.buckets.items message ↔ IsJournalMessageReplaced message (next ∷ after)
 kept_on journal after s (item.Sent number later) marks row now answer right is step message matter = (
   λ kept. elim ((step.kept is.count message).0 kept) [
@@ -150,14 +150,14 @@ kept_on journal after s next marks row now answer right is step message matter =
 
 traffic_on : (journal after : List Item) (s : ℕ) (next : Item) (marks : List Bool)
     (row now : Traffic) (answer : Bool)
-    → ((n : ℕ) → report_has_mark marks n ≡ was_delivered (next ∷ after) n) → IsReportTraffic journal after s row
+    → ((n : ℕ) → report_has_mark marks n ≡ was_delivered_in_journal (next ∷ after) n) → IsReportTraffic journal after s row
     → IsReportTrafficAfter marks next row now answer → IsReportTraffic journal (next ∷ after) s now
 traffic_on journal after s next marks row now answer right is step = record {
   status = step.status ∙ is.status;
-  in_boot = step.in_boot ∙ ap (λ b. b && not (item_begins_boot row.status.switch next)) is.in_boot
-      ∙ ap (λ (status : SwitchStatus). not (list_any (item_begins_boot s) after)
-      && not (item_begins_boot status.switch next)) is.status
-      ∙ neither (list_any (item_begins_boot s) after) (item_begins_boot s next);
+  in_boot = step.in_boot ∙ ap (λ b. b && not (machine_item_begins_boot row.status.switch next)) is.in_boot
+      ∙ ap (λ (status : SwitchStatus). not (list_any (machine_item_begins_boot s) after)
+      && not (machine_item_begins_boot status.switch next)) is.status
+      ∙ neither (list_any (machine_item_begins_boot s) after) (machine_item_begins_boot s next);
   count = step.count ∙ is.count;
   kept = kept_on journal after s next marks row now answer right is step;
 } where
@@ -169,7 +169,7 @@ traffic_on journal after s next marks row now answer right is step = record {
 
 -- an item that doesn't concern the switch begins no boot of it
 no_boot_of : (s : ℕ) (next : Item) → is_named_in_report s (report_concerned_switch next) ≡ false
-    → item_begins_boot s next ≡ false
+    → machine_item_begins_boot s next ≡ false
 no_boot_of s (item.Booted t boot) other = other
 no_boot_of s next other = refl
 
@@ -183,13 +183,13 @@ traffic_stays journal after s next row other is = record {
   kept = by_item next other;
 } where
   by_item : (next : Item) → is_named_in_report s (report_concerned_switch next) ≡ false → (message : Message)
-      → IsTrue (matters journal s message (next ∷ after))
+      → IsTrue (machine_message_matters journal s message (next ∷ after))
       → IsKeptInReportBucket row.buckets.items message ↔ IsJournalMessageReplaced message (next ∷ after)
   by_item (item.Sent number later) other message matter = (
     λ kept. inr ((is.kept message matter).0 kept),
     λ replaced. elim replaced [
       | inl here ↦ let says = says_if journal after s row later message is matter here.0 in
-          let its : IsTrue (matters journal s later after) =
+          let its : IsTrue (machine_message_matters journal s later after) =
           sym (in_row journal after s row later is) ∙ matters_too row.status row.is_in_boot later
           message says (in_row journal after s row message is ∙ matter) in
           let clash : false ≡ true = sym other ∙ named journal after s later its in absurd cc
@@ -203,7 +203,7 @@ traffic_stays journal after s next row other is = record {
 -- switches that it concerns the new rows are known, and what is answered
 pub record IsReadNext (journal after : List Item) (next : Item) (marks : List Bool)
     (rows now : List Traffic) (answer : Bool) : Type 0 where
-  pub right : (n : ℕ) → report_has_mark marks n ≡ was_delivered (next ∷ after) n
+  pub right : (n : ℕ) → report_has_mark marks n ≡ was_delivered_in_journal (next ∷ after) n
   pub was : AreReportTrafficRows journal after rows
   pub one : (s : ℕ) (d : Traffic) → s < length rows → is_named_in_report s (report_concerned_switch next) ≡ true
       → IsReportTrafficAfter marks next (get_or rows s d) (get_or now s d) answer
@@ -246,7 +246,7 @@ received_first setting journal after (item.Sent number message) marks rows now a
       received,
     )
   where
-    each : (s : ℕ) → s < length rows → Traffic → IsTrue (matters journal s message after)
+    each : (s : ℕ) → s < length rows → Traffic → IsTrue (machine_message_matters journal s message after)
         → IsJournalMessageReceived number message after
     each s there d matter =
         let row : Traffic = get_or rows s d in
@@ -281,7 +281,7 @@ not_received setting journal after next marks rows now answer count read concern
     clash : false ≡ true → ⊥
     clash e = absurd cc
 
-    met : (next : Item) → ((n : ℕ) → report_has_mark marks n ≡ was_delivered (next ∷ after) n)
+    met : (next : Item) → ((n : ℕ) → report_has_mark marks n ≡ was_delivered_in_journal (next ∷ after) n)
         → AreMachineMessagesReceived setting journal (next ∷ after) → IsReportTrafficMet marks row next
     met (item.Sent number message) right received = λ matter. elim (received.0 s
         (omega (arith, concerns.there)) (sym (in_row journal after s row message is) ∙ matter)) [

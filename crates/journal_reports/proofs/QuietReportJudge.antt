@@ -4,21 +4,21 @@ use Rattle.std.specs.List.{list_all, range_with_len}
 use Rattle.std.proofs.lemmas.List.{at_drop_all}
 use Rattle.std.proofs.lemmas.List.Elements.{All-from_recursion}
 use Rattle.std.proofs.lemmas.List.Sums.{AllPass-from_list_all, list_all-from_AllPass}
-use Rattle.update_machine.specs.Exports.{AreMachineMessagesReceived, IsQuietMachineJournal, Item, Setting, is_delivery_item, is_up, is_waited_for, setting_switches_of, was_delivered}
+use Rattle.update_machine.specs.Exports.{AreMachineMessagesReceived, IsQuietMachineJournal, Item, Setting, is_machine_delivery_item, is_up, is_waited_for_in_journal, machine_switches_of, was_delivered_in_journal}
 use Rattle.journal.specs.declared.item.Item.TheVariants as item
 use Rattle.convergence_laws.proofs.Exports.{all_in, each_of_in}
 use Rattle.journal_reports.specs.declared.traffic.Traffic.{Traffic}
-use Rattle.journal_reports.specs.Exports.{AreReportTrafficRows, ReportTrafficConcernsOne, IsReportTrafficAfter, IsReportTraffic, report_concerned_switch, report_has_mark, is_missed, is_named_in_report, report_switch_status_in}
+use Rattle.journal_reports.specs.Exports.{AreReportTrafficRows, ReportTrafficConcernsOne, IsReportTrafficAfter, IsReportTraffic, report_concerned_switch, report_has_mark, is_missed_in_report, is_named_in_report, report_switch_status_in}
 use Rattle.journal_reports.proofs.QuietReadItems.{IsReadNext, mark_first, none_delivered, not_received, received_first, traffic_first}
 
 -- ---- switches
 
 abbrev is_found : List Item → ℕ → Bool
-is_found journal s = not (is_missed (report_switch_status_in journal s))
+is_found journal s = not (is_missed_in_report (report_switch_status_in journal s))
 
 rows_found : (journal : List Item) (rows : List Traffic) (first : ℕ)
     → ((s : ℕ) (d : Traffic) → s < length rows → IsReportTraffic journal [] (first + s) (get_or rows s d))
-    → list_all (λ row. not (is_missed row.status)) rows
+    → list_all (λ row. not (is_missed_in_report row.status)) rows
     ≡ list_all (is_found journal) (range_with_len first (length rows))
 rows_found journal [] first are = refl
 rows_found journal (row ∷ rows) first are =
@@ -42,26 +42,26 @@ is_not_missed false false is = refl
 -- none of the switches is missed where the definition says so
 pub switches_found : (setting : Setting) (journal : List Item) (rows : List Traffic)
     → AreReportTrafficRows journal [] rows → length setting.net.switches ≡ length rows
-    → IsTrue (list_all (λ row. not (is_missed row.status)) rows)
-    ↔ All (λ s. IsTrue (is_up journal s || not (is_waited_for journal s))) (setting_switches_of setting)
+    → IsTrue (list_all (λ row. not (is_missed_in_report row.status)) rows)
+    ↔ All (λ s. IsTrue (is_up journal s || not (is_waited_for_in_journal journal s))) (machine_switches_of setting)
 switches_found setting journal rows are count = (
-  λ none. All-from_recursion Fine (setting_switches_of setting)
-      (each_of_in Fine (setting_switches_of setting) (λ s is. not_missed (is_up journal s)
-      (is_waited_for journal s) (all_in Found s (setting_switches_of setting)
-      (AllPass-from_list_all (is_found journal) (setting_switches_of setting) (sym same ∙ none)) is))),
+  λ none. All-from_recursion Fine (machine_switches_of setting)
+      (each_of_in Fine (machine_switches_of setting) (λ s is. not_missed (is_up journal s)
+      (is_waited_for_in_journal journal s) (all_in Found s (machine_switches_of setting)
+      (AllPass-from_list_all (is_found journal) (machine_switches_of setting) (sym same ∙ none)) is))),
   λ fine. same
-      ∙ list_all-from_AllPass (is_found journal) (setting_switches_of setting) (All-from_recursion Found
-      (setting_switches_of setting) (each_of_in Found (setting_switches_of setting) (λ s is. is_not_missed
-      (is_up journal s) (is_waited_for journal s) (all_in Fine s (setting_switches_of setting) fine is)))),
+      ∙ list_all-from_AllPass (is_found journal) (machine_switches_of setting) (All-from_recursion Found
+      (machine_switches_of setting) (each_of_in Found (machine_switches_of setting) (λ s is. is_not_missed
+      (is_up journal s) (is_waited_for_in_journal journal s) (all_in Fine s (machine_switches_of setting) fine is)))),
 ) where
   Fine : ℕ → Type 0
-  Fine s = IsTrue (is_up journal s || not (is_waited_for journal s))
+  Fine s = IsTrue (is_up journal s || not (is_waited_for_in_journal journal s))
 
   Found : ℕ → Type 0
   Found s = is_found journal s ≡ true
 
-  same : list_all (λ row. not (is_missed row.status)) rows
-      ≡ list_all (is_found journal) (setting_switches_of setting)
+  same : list_all (λ row. not (is_missed_in_report row.status)) rows
+      ≡ list_all (is_found journal) (machine_switches_of setting)
   same = rows_found journal rows 0 (λ s d within. subst
       (λ n. IsReportTraffic journal [] n (get_or rows s d)) (omega arith) (are s d within))
       ∙ ap (λ n. list_all (is_found journal) (range_with_len 0 n)) (sym count)
@@ -92,23 +92,23 @@ item_before (first ∷ items) (suc place) next there is =
 
 pub marks_before : (items : List Item) (place from n : ℕ) (next : Item) (marks now : List Bool)
     → from ≡ place + 1 → place < length items → next ≡ get_or items place next
-    → report_has_mark marks n ≡ was_delivered (drop from items) n
-    → report_has_mark now n ≡ (is_delivery_item n next || report_has_mark marks n)
-    → report_has_mark now n ≡ was_delivered (drop place items) n
+    → report_has_mark marks n ≡ was_delivered_in_journal (drop from items) n
+    → report_has_mark now n ≡ (is_machine_delivery_item n next || report_has_mark marks n)
+    → report_has_mark now n ≡ was_delivered_in_journal (drop place items) n
 marks_before items place from n next marks now at there is was step = mark_first marks now next
-    (drop (place + 1) items) n (was ∙ ap (λ k. was_delivered (drop k items) n) at) step
-    ∙ ap (λ js. was_delivered js n) (sym (item_before items place next there is))
+    (drop (place + 1) items) n (was ∙ ap (λ k. was_delivered_in_journal (drop k items) n) at) step
+    ∙ ap (λ js. was_delivered_in_journal js n) (sym (item_before items place next there is))
 
 pub read_next : (items : List Item) (place from : ℕ) (next : Item) (marks : List Bool)
     (rows now : List Traffic) (answer : Bool)
     → from ≡ place + 1 → place < length items → next ≡ get_or items place next
-    → ((n : ℕ) → report_has_mark marks n ≡ was_delivered (drop place items) n)
+    → ((n : ℕ) → report_has_mark marks n ≡ was_delivered_in_journal (drop place items) n)
     → AreReportTrafficRows items (drop from items) rows
     → ((s : ℕ) (d : Traffic) → s < length rows → is_named_in_report s (report_concerned_switch next) ≡ true
     → IsReportTrafficAfter marks next (get_or rows s d) (get_or now s d) answer)
     → IsReadNext items (drop (place + 1) items) next marks rows now answer
 read_next items place from next marks rows now answer at there is right was one = record {
-  right = λ n. right n ∙ ap (λ js. was_delivered js n) (item_before items place next there is);
+  right = λ n. right n ∙ ap (λ js. was_delivered_in_journal js n) (item_before items place next there is);
   was = subst (λ k. AreReportTrafficRows items (drop k items) rows) at was;
   one = one;
 }
@@ -143,7 +143,7 @@ none_left : (items : List Item) (place : ℕ) → length items ≤ place → dro
 none_left items place few = at_drop_all (λ (js : List Item). js) items place few
 
 pub marks_at_end : (items : List Item) (place n : ℕ) (marks : List Bool) → length items ≤ place
-    → marks ≡ [] → report_has_mark marks n ≡ was_delivered (drop place items) n
+    → marks ≡ [] → report_has_mark marks n ≡ was_delivered_in_journal (drop place items) n
 marks_at_end items place n marks few none = cc (none, none_delivered n, none_left items place few)
 
 pub rows_at_end : (items : List Item) (place : ℕ) (rows : List Traffic) → length items ≤ place
@@ -158,7 +158,7 @@ received_at_end setting items place few = rw (none_left items place few) tt
 
 pub missed_answer : (setting : Setting) (journal : List Item) (rows : List Traffic)
     → AreReportTrafficRows journal [] rows → length setting.net.switches ≡ length rows
-    → IsFalse (list_all (λ row. not (is_missed row.status)) rows) → IsQuietMachineJournal setting journal → ⊥
+    → IsFalse (list_all (λ row. not (is_missed_in_report row.status)) rows) → IsQuietMachineJournal setting journal → ⊥
 missed_answer setting journal rows are count some quiet =
     clash (sym some ∙ (switches_found setting journal rows are count).1 quiet.switches)
   where

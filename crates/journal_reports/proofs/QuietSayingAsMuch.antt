@@ -4,18 +4,18 @@ use Rattle.std.proofs.lemmas.Bool.{and_parts, or_right}
 use Rattle.std.proofs.lemmas.Bool.Decides.{nat_tests}
 use Rattle.control_laws.proofs.Exports.{own}
 use Rattle.ctrl_msg.specs.Exports.{body_boot}
-use Rattle.update_machine.specs.Exports.{Advert, Advertise, Body, CacheRule, Collect, Hello, Install, Installed, Message, OpenAt, Place, MachineMessageReplaces, Stamp, Stamped, are_machine_tables_old, is_advert, is_machine_later_body, is_machine_ack_below_version, machine_speaking_in_body}
+use Rattle.update_machine.specs.Exports.{Advert, Advertise, Body, CacheRule, Collect, Hello, Install, Installed, Message, OpenAt, Place, MachineMessageReplaces, Stamp, Stamped, are_machine_tables_old, is_machine_advert_body, is_machine_later_body, is_machine_ack_below_version, machine_speaking_in_body}
 use Rattle.ctrl_msg.specs.declared.message.Place.TheVariants as receiver
-use Rattle.failover.specs.Exports.{is_newer}
+use Rattle.failover.specs.Exports.{is_newer_advert}
 use Rattle.failover.proofs.FailoverNewestAdvert.{newer_through}
 use Rattle.journal_reports.specs.declared.status.SwitchStatus.{SwitchStatus}
-use Rattle.journal_reports.specs.Exports.{HaveSameListsInReport, ReportedMessageSaysAsMuch, report_is_same_advert, is_same_report_receiver, matters_in_report_status, journal_report_replaces_body, subject}
+use Rattle.journal_reports.specs.Exports.{HaveSameListsInReport, ReportedMessageSaysAsMuch, report_is_same_advert, is_same_report_receiver, matters_in_report_status, journal_report_replaces_body, report_subject_of_body}
 
 -- ---- what replaces a body is the same, or is later
 
 advert_means : (one other : Advert) (b : Bool) → report_is_same_advert one other ≡ b
-    → (b || (one.origin == other.origin && is_newer one other)) ≡ true
-    → (one ≡ other) ⊎ IsTrue (one.origin == other.origin && is_newer one other)
+    → (b || (one.origin == other.origin && is_newer_advert one other)) ≡ true
+    → (one ≡ other) ⊎ IsTrue (one.origin == other.origin && is_newer_advert one other)
 advert_means one other true e says = inl (same_advert one other e) where
   same_advert : (one other : Advert) → report_is_same_advert one other ≡ true → one ≡ other
   same_advert one other e =
@@ -107,7 +107,7 @@ body_itself body plain = absurd cc
 
 -- both matter to the same switches in the same status
 pub record AreAlike (current : ℕ) (later earlier : Body) : Type 0 where
-  advert : is_advert later ≡ is_advert earlier
+  advert : is_machine_advert_body later ≡ is_machine_advert_body earlier
   boot : body_boot later ≡ body_boot earlier
   speaks : machine_speaking_in_body later ≡ machine_speaking_in_body earlier
   tables : are_machine_tables_old current later ≡ are_machine_tables_old current earlier
@@ -117,7 +117,7 @@ pub record AreAlike (current : ℕ) (later earlier : Body) : Type 0 where
 pub record IsMore (later earlier : Body) : Type 0 where
   covers : Covers later earlier
   alike : (current : ℕ) → AreAlike current later earlier
-  pub about : subject later ≡ subject earlier
+  pub about : report_subject_of_body later ≡ report_subject_of_body earlier
 
 pub later_more : (later earlier : Body) → IsTrue (is_machine_later_body later earlier)
     → IsMore later earlier

@@ -6,16 +6,16 @@ use Rattle.journal_reports.specs.Judging.{ReportedMessageSaysAsMuch}
 use Rattle.journal_reports.specs.declared.bucket.Bucket.{Bucket}
 
 -- an advert's origin, or the version of an install, its acknowledgement or an open; otherwise 0
-abbrev pub subject : Body → ℕ
-subject (Advertise advert) = advert.origin
-subject (Install boot tables) = tables.version
-subject (OpenAt boot version) = version
-subject (Installed s boot version) = version
-subject _ = 0
+abbrev pub report_subject_of_body : Body → ℕ
+report_subject_of_body (Advertise advert) = advert.origin
+report_subject_of_body (Install boot tables) = tables.version
+report_subject_of_body (OpenAt boot version) = version
+report_subject_of_body (Installed s boot version) = version
+report_subject_of_body _ = 0
 
 -- the bucket of a message with this body, one of 64
 abbrev pub report_bucket_of : Body → ℕ
-report_bucket_of body = if nat_lt (subject body) 64 then subject body else 0
+report_bucket_of body = if nat_lt (report_subject_of_body body) 64 then report_subject_of_body body else 0
 
 abbrev pub report_bucket_messages : Bucket → List Message
 report_bucket_messages bucket = bucket.messages.items

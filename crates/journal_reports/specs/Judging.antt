@@ -3,9 +3,9 @@
 use Rattle.std.specs.Prelude.{[], ◌&&◌, ◌==◌, ◌||◌, ◌∷◌, ◌≡◌, ◌⊎◌, Bool, IsTrue, List, None, Option, Some, false, nat_eq, nat_lt, not, option_map, slice_index_or, true, unwrap_or, ℕ, ⊤}
 use Rattle.std.specs.Option.{option_eq, option_map_or}
 use Rattle.ctrl_msg.specs.Exports.{body_boot, body_version}
-use Rattle.update_machine.specs.Exports.{Advert, Advertise, Body, Collect, Hello, Install, Installed, Item, Message, OpenAt, Place, Stamp, Stamped, are_machine_tables_old, journal_boot_of, machine_body_carries_boot, journal_current_mark, machine_item_gives_boot, gives_current, machine_item_gives_switch_up, gives_journal_waited_for, is_advert, is_of_machine_boot, is_machine_ack_below_version, is_up, is_waited_for, machine_speaking_in_body}
+use Rattle.update_machine.specs.Exports.{Advert, Advertise, Body, Collect, Hello, Install, Installed, Item, Message, OpenAt, Place, Stamp, Stamped, are_machine_tables_old, journal_boot_of, machine_body_carries_boot, journal_current_mark, machine_item_gives_boot, machine_item_gives_current, machine_item_gives_switch_up, gives_journal_waited_for, is_machine_advert_body, is_of_switch_boot, is_machine_ack_below_version, is_up, is_waited_for_in_journal, machine_speaking_in_body}
 use Rattle.ctrl_msg.specs.declared.message.Place.TheVariants as receiver
-use Rattle.failover.specs.Exports.{is_newer}
+use Rattle.failover.specs.Exports.{is_newer_advert}
 use Rattle.journal.specs.declared.item.Item.TheVariants as item
 use Rattle.journal_reports.specs.declared.status.SwitchStatus.{SwitchStatus}
 
@@ -24,7 +24,7 @@ report_switch_status_with item status = record {
   is_up = unwrap_or (machine_item_gives_switch_up status.switch item) status.is_up;
   boot = unwrap_or (machine_item_gives_boot status.switch item) status.boot;
   is_waited_for = unwrap_or (gives_journal_waited_for status.switch item) status.is_waited_for;
-  current = unwrap_or (gives_current item) status.current;
+  current = unwrap_or (machine_item_gives_current item) status.current;
 }
 
 -- only the item, if it concerns statuses
@@ -41,7 +41,7 @@ report_switch_status_in journal s = record {
   switch = s;
   is_up = is_up journal s;
   boot = journal_boot_of journal s;
-  is_waited_for = is_waited_for journal s;
+  is_waited_for = is_waited_for_in_journal journal s;
   current = journal_current_mark journal;
 }
 
@@ -53,11 +53,11 @@ abbrev pub matters_in_report_status : SwitchStatus → Bool → Message → Bool
 matters_in_report_status status in_boot message = elim message.to [
   | receiver.Controller ↦
       status.is_up
-      && option_map_or (is_of_machine_boot status.switch status.boot) (machine_speaking_in_body message.body) false
+      && option_map_or (is_of_switch_boot status.switch status.boot) (machine_speaking_in_body message.body) false
       && not (is_machine_ack_below_version status.current message.body)
   | receiver.Switch to ↦
       status.is_up && to == status.switch && in_boot
-      && (is_advert message.body || machine_body_carries_boot status.boot message.body)
+      && (is_machine_advert_body message.body || machine_body_carries_boot status.boot message.body)
       && not (are_machine_tables_old status.current message.body)
 ]
 
@@ -72,15 +72,15 @@ report_is_same_advert one other = one.origin == other.origin && one.boot == othe
     && one.up == other.up
 
 -- both bodies are of the same kind, which is neither cache rule nor advert
-abbrev pub report_is_same_kind : Body → Body → Bool
-report_is_same_kind (Install boot tables) (Install of earlier) = true
-report_is_same_kind (OpenAt boot version) (OpenAt of earlier) = true
-report_is_same_kind (Stamp boot version touched) (Stamp of earlier others) = true
-report_is_same_kind (Collect boot version) (Collect of earlier) = true
-report_is_same_kind (Hello s boot) (Hello t of) = true
-report_is_same_kind (Installed s boot version) (Installed t of earlier) = true
-report_is_same_kind (Stamped s boot version) (Stamped t of earlier) = true
-report_is_same_kind _ _ = false
+abbrev pub are_reported_bodies_same_kind : Body → Body → Bool
+are_reported_bodies_same_kind (Install boot tables) (Install of earlier) = true
+are_reported_bodies_same_kind (OpenAt boot version) (OpenAt of earlier) = true
+are_reported_bodies_same_kind (Stamp boot version touched) (Stamp of earlier others) = true
+are_reported_bodies_same_kind (Collect boot version) (Collect of earlier) = true
+are_reported_bodies_same_kind (Hello s boot) (Hello t of) = true
+are_reported_bodies_same_kind (Installed s boot version) (Installed t of earlier) = true
+are_reported_bodies_same_kind (Stamped s boot version) (Stamped t of earlier) = true
+are_reported_bodies_same_kind _ _ = false
 
 -- what the body says of a version is true of those before it too
 abbrev pub report_holds_for_earlier : Body → Bool
@@ -102,8 +102,8 @@ is_version_enough_in_report later earlier =
 -- or a newer advert; of tables it compares only the version, and of touched words nothing
 abbrev pub journal_report_replaces_body : Body → Body → Bool
 journal_report_replaces_body (Advertise advert) (Advertise earlier) =
-    report_is_same_advert advert earlier || (advert.origin == earlier.origin && is_newer advert earlier)
-journal_report_replaces_body later earlier = report_is_same_kind later earlier
+    report_is_same_advert advert earlier || (advert.origin == earlier.origin && is_newer_advert advert earlier)
+journal_report_replaces_body later earlier = are_reported_bodies_same_kind later earlier
     && option_eq nat_eq (report_speaking_switch later) (report_speaking_switch earlier)
     && option_eq nat_eq (body_boot later) (body_boot earlier) && is_version_enough_in_report later earlier
 
@@ -153,5 +153,5 @@ is_named_in_report s who = option_map_or (λ t. t == s) who false
 -- ---- which switches are missed
 
 -- the switch is down, and the controller waits for it
-abbrev pub is_missed : SwitchStatus → Bool
-is_missed status = not status.is_up && status.is_waited_for
+abbrev pub is_missed_in_report : SwitchStatus → Bool
+is_missed_in_report status = not status.is_up && status.is_waited_for

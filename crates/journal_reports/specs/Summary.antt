@@ -1,6 +1,6 @@
 -- What became of the packets of a play, what was sent in it, and which versions it ended with.
 use Rattle.std.specs.Prelude.{[], if◌then◌else◌, ◌++◌, ◌+◌, ◌-◌, ◌<◌, ◌^◌, ◌∷◌, Bool, List, None, Option, Some, codes, decimal, false, true, unwrap_or, ℕ}
-use Rattle.update_machine.specs.Exports.{How, Item, count_of, journal_current_mark, gives_current, machine_item_gives_retired, is_packet, journal_retired_mark}
+use Rattle.update_machine.specs.Exports.{How, Item, machine_count_of, journal_current_mark, machine_item_gives_current, machine_item_gives_retired, is_machine_packet_entry, journal_retired_mark}
 use Rattle.journal.specs.declared.item.Item.TheVariants as item
 use Rattle.policy_rules.specs.declared.packet.How.TheVariants as how
 use Rattle.journal_reports.specs.declared.summary.Summary.{Summary}
@@ -31,13 +31,13 @@ abbrev pub summary_counts_stuck : Item → Bool
 summary_counts_stuck (item.Stuck packet switch cause leg down) = true
 summary_counts_stuck _ = false
 
-abbrev pub is_summary_by_cached_rule : How → Bool
-is_summary_by_cached_rule (how.Cached message) = true
-is_summary_by_cached_rule _ = false
+abbrev pub is_how_cached_in_summary : How → Bool
+is_how_cached_in_summary (how.Cached message) = true
+is_how_cached_in_summary _ = false
 
 -- a decision by a cached rule
 abbrev pub summary_counts_cached : Item → Bool
-summary_counts_cached (item.Decided packet version rule action how) = is_summary_by_cached_rule how
+summary_counts_cached (item.Decided packet version rule action how) = is_how_cached_in_summary how
 summary_counts_cached _ = false
 
 abbrev pub summary_counts_sent : Item → Bool
@@ -47,36 +47,36 @@ summary_counts_sent _ = false
 -- ---- the summary
 
 -- the number of items of each kind, and the marks at the end; all that entered count as travelling
-abbrev pub item_counts : List Item → Summary
-item_counts journal = record {
-  packets = count_of is_packet journal;
-  closed = count_of summary_counts_closed journal;
-  delivered = count_of summary_counts_left journal;
-  dropped = count_of summary_counts_dropped journal;
-  lost = count_of summary_counts_lost journal;
-  stuck = count_of summary_counts_stuck journal;
-  travelling = count_of summary_counts_entered journal;
-  cached = count_of summary_counts_cached journal;
-  messages = count_of summary_counts_sent journal;
+abbrev pub summary_item_counts : List Item → Summary
+summary_item_counts journal = record {
+  packets = machine_count_of is_machine_packet_entry journal;
+  closed = machine_count_of summary_counts_closed journal;
+  delivered = machine_count_of summary_counts_left journal;
+  dropped = machine_count_of summary_counts_dropped journal;
+  lost = machine_count_of summary_counts_lost journal;
+  stuck = machine_count_of summary_counts_stuck journal;
+  travelling = machine_count_of summary_counts_entered journal;
+  cached = machine_count_of summary_counts_cached journal;
+  messages = machine_count_of summary_counts_sent journal;
   current = journal_current_mark journal;
   retired = journal_retired_mark journal;
 }
 
 -- a packet that entered and neither left, nor was dropped or lost, nor is stuck, still travels
-abbrev pub with_travelling : Summary → Summary
-with_travelling s = record s { travelling = s.travelling - (s.delivered + s.dropped + s.lost + s.stuck) }
+abbrev pub summary_with_travelling : Summary → Summary
+summary_with_travelling s = record s { travelling = s.travelling - (s.delivered + s.dropped + s.lost + s.stuck) }
 
 abbrev pub summary_of : List Item → Summary
-summary_of journal = with_travelling (item_counts journal)
+summary_of journal = summary_with_travelling (summary_item_counts journal)
 
 -- ---- one more item
 
 abbrev pub summary_one_more : Bool → ℕ → ℕ
 summary_one_more counts n = if counts then n + 1 else n
 
-abbrev pub counts_after_item : Summary → Item → Summary
-counts_after_item s item = record {
-  packets = summary_one_more (is_packet item) s.packets;
+abbrev pub summary_counts_after_item : Summary → Item → Summary
+summary_counts_after_item s item = record {
+  packets = summary_one_more (is_machine_packet_entry item) s.packets;
   closed = summary_one_more (summary_counts_closed item) s.closed;
   delivered = summary_one_more (summary_counts_left item) s.delivered;
   dropped = summary_one_more (summary_counts_dropped item) s.dropped;
@@ -85,7 +85,7 @@ counts_after_item s item = record {
   travelling = summary_one_more (summary_counts_entered item) s.travelling;
   cached = summary_one_more (summary_counts_cached item) s.cached;
   messages = summary_one_more (summary_counts_sent item) s.messages;
-  current = unwrap_or (gives_current item) s.current;
+  current = unwrap_or (machine_item_gives_current item) s.current;
   retired = unwrap_or (machine_item_gives_retired item) s.retired;
 }
 

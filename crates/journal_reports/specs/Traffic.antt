@@ -1,7 +1,7 @@
 -- What is read about each switch and its messages, from the end of a journal backwards.
 use Rattle.std.specs.Prelude.{◌&&◌, ◌<◌, ◌↔◌, ◌≡◌, ◌⊎◌, Bool, IsTrue, List, get_or, length, not, true, ℕ, ⊤}
 use Rattle.std.specs.List.{list_any}
-use Rattle.update_machine.specs.Exports.{IsJournalMessageReplaced, Item, Message, item_begins_boot, matters}
+use Rattle.update_machine.specs.Exports.{IsJournalMessageReplaced, Item, Message, machine_item_begins_boot, machine_message_matters}
 use Rattle.journal.specs.declared.item.Item.TheVariants as item
 use Rattle.journal_reports.specs.declared.traffic.Traffic.{Traffic}
 use Rattle.journal_reports.specs.Judging.{ReportedMessageSaysAsMuch, report_concerned_switch, report_has_mark, is_named_in_report, matters_in_report_status, report_switch_status_in}
@@ -12,9 +12,9 @@ use Rattle.journal_reports.specs.Buckets.{IsKeptInReportBucket}
 -- these items send and deliver one that replaces it
 pub record IsReportTraffic (journal after : List Item) (s : ℕ) (row : Traffic) : Type 0 where
   pub status : row.status ≡ report_switch_status_in journal s
-  pub in_boot : row.is_in_boot ≡ not (list_any (item_begins_boot s) after)
+  pub in_boot : row.is_in_boot ≡ not (list_any (machine_item_begins_boot s) after)
   pub count : length row.buckets.items ≡ 64
-  pub kept : (message : Message) → IsTrue (matters journal s message after)
+  pub kept : (message : Message) → IsTrue (machine_message_matters journal s message after)
       → IsKeptInReportBucket row.buckets.items message ↔ IsJournalMessageReplaced message after
 
 -- the rows are those of the switches, by their numbers
@@ -45,7 +45,7 @@ pub record IsReportTrafficAfter (marks : List Bool) (item : Item) (before after 
     : Type 0 where
   pub status : after.status ≡ before.status
   pub in_boot : after.is_in_boot
-      ≡ (before.is_in_boot && not (item_begins_boot before.status.switch item))
+      ≡ (before.is_in_boot && not (machine_item_begins_boot before.status.switch item))
   pub count : length after.buckets.items ≡ length before.buckets.items
   pub kept : length before.buckets.items ≡ 64 → (other : Message)
       → IsKeptInReportBucket after.buckets.items other

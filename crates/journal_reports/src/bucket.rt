@@ -2,7 +2,7 @@
 //! the same bucket.
 ghost use Rattle.std.specs.Prelude.{◌≡◌, ◌↔◌, ◌⊎◌, length, IfOk, IsTrue, OnOk};
 ghost use Rattle.ctrl_msg.specs.declared.message.Message.{Message};
-ghost use Rattle.journal_reports.specs.Buckets.{AreEmptyReportBuckets, ReportBucketHasSaying, IsKeptInReportBucket, report_bucket_of, subject};
+ghost use Rattle.journal_reports.specs.Buckets.{AreEmptyReportBuckets, ReportBucketHasSaying, IsKeptInReportBucket, report_bucket_of, report_subject_of_body};
 ghost use Rattle.journal_reports.specs.Judging.{ReportedMessageSaysAsMuch};
 
 use crate::replacing::says_as_much_in_report;
@@ -81,7 +81,7 @@ pub fn report_bucket_of(body: &Body) -> u32
 
 // An advert's origin, or the version of an install, its acknowledgement or an open; otherwise 0.
 fn report_bucket_subject(body: &Body) -> u32
-    ensures { result ≡ subject body.now }
+    ensures { result ≡ report_subject_of_body body.now }
 {
     match body {
         Body::Advertise { advert } => advert.origin,

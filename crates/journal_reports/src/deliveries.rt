@@ -1,6 +1,6 @@
 //! Which messages were delivered, as marks by their numbers: one past the end wasn't.
 ghost use Rattle.std.specs.Prelude.{ℕ, ◌≡◌, ◌||◌, false, OnOk, slice_index_or};
-ghost use Rattle.update_machine.specs.Messages.{is_delivery_item};
+ghost use Rattle.update_machine.specs.Messages.{is_machine_delivery_item};
 ghost use Rattle.journal_reports.specs.Judging.{ReportMarksOneMore};
 
 use journal::Item;
@@ -12,7 +12,7 @@ use std::alloc::AllocError;
 /// Only out of memory.
 pub fn mark_delivery_for_report(marks: &mut Vec<bool>, item: &Item) -> Result<(), AllocError>
     ensures { OnOk result ((n : ℕ) → slice_index_or marks.new.items n false
-        ≡ (is_delivery_item n item.now || slice_index_or marks.old.items n false)) }
+        ≡ (is_machine_delivery_item n item.now || slice_index_or marks.old.items n false)) }
 {
     match item {
         Item::Delivered { number } => mark(marks, *number as usize),

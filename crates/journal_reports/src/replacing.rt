@@ -1,8 +1,8 @@
 //! Which messages replace others, and which matter.
 ghost use Rattle.std.specs.Prelude.{◌≡◌, ◌↔◌, ◌||◌, false, IsTrue};
 ghost use Rattle.std.specs.Option.{option_map_or};
-ghost use Rattle.update_machine.specs.Quiet.{are_machine_tables_old, machine_body_carries_boot, is_advert, is_of_machine_boot, is_machine_ack_below_version, machine_speaking_in_body};
-ghost use Rattle.journal_reports.specs.Judging.{HaveSameListsInReport, ReportedMessageSaysAsMuch, report_holds_for_earlier, report_is_same_kind, is_version_enough_in_report, matters_in_report_status, journal_report_replaces_body, journal_report_replaces_message, report_speaking_switch};
+ghost use Rattle.update_machine.specs.Quiet.{are_machine_tables_old, machine_body_carries_boot, is_machine_advert_body, is_of_switch_boot, is_machine_ack_below_version, machine_speaking_in_body};
+ghost use Rattle.journal_reports.specs.Judging.{HaveSameListsInReport, ReportedMessageSaysAsMuch, report_holds_for_earlier, are_reported_bodies_same_kind, is_version_enough_in_report, matters_in_report_status, journal_report_replaces_body, journal_report_replaces_message, report_speaking_switch};
 
 use crate::status::SwitchStatus;
 use ctrl_msg::{are_same_control_message_tables, are_same_control_message_words};
@@ -32,7 +32,7 @@ pub fn matters(message: &Message, status: &SwitchStatus, is_in_boot: bool) -> bo
 
 // Whether the body is an advert, or carries this boot.
 fn is_for_boot_in_report(body: &Body, boot: u32) -> bool
-    ensures { result ≡ (is_advert body.now || machine_body_carries_boot boot body.now) }
+    ensures { result ≡ (is_machine_advert_body body.now || machine_body_carries_boot boot body.now) }
 {
     match body {
         Body::Advertise { .. } => true,
@@ -43,7 +43,7 @@ fn is_for_boot_in_report(body: &Body, boot: u32) -> bool
 // Whether the switch says this, in its boot.
 fn is_of_boot_in_report(body: &Body, status: &SwitchStatus) -> bool
     ensures { result
-        ≡ option_map_or (is_of_machine_boot status.now.switch status.now.boot) (machine_speaking_in_body body.now) false }
+        ≡ option_map_or (is_of_switch_boot status.now.switch status.now.boot) (machine_speaking_in_body body.now) false }
 {
     match body {
         Body::Hello { switch, boot }
@@ -124,7 +124,7 @@ fn journal_report_replaces_body(later: &Body, earlier: &Body) -> bool
             advert == old || (advert.origin == old.origin && advert.is_newer(old))
         }
         _ => {
-            report_is_same_kind(later, earlier)
+            are_reported_bodies_same_kind(later, earlier)
                 && speaks(later) == speaks(earlier)
                 && later.boot() == earlier.boot()
                 && is_version_enough_in_report(later, earlier)
@@ -133,8 +133,8 @@ fn journal_report_replaces_body(later: &Body, earlier: &Body) -> bool
 }
 
 // Whether both are of the same kind, which is neither cache rule nor advert.
-fn report_is_same_kind(later: &Body, earlier: &Body) -> bool
-    ensures { result ≡ report_is_same_kind later.now earlier.now }
+fn are_reported_bodies_same_kind(later: &Body, earlier: &Body) -> bool
+    ensures { result ≡ are_reported_bodies_same_kind later.now earlier.now }
 {
     match (later, earlier) {
         (Body::Install { .. }, Body::Install { .. })

@@ -1,6 +1,6 @@
 //! What a journal says about a switch, at its end.
 ghost use Rattle.std.specs.Prelude.{ℕ, ◌≡◌, ◌++◌, IfOk, OnOk};
-ghost use Rattle.journal_reports.specs.Judging.{is_missed, report_switch_status_with, report_switch_status_in, report_status_item};
+ghost use Rattle.journal_reports.specs.Judging.{is_missed_in_report, report_switch_status_with, report_switch_status_in, report_status_item};
 
 use journal::Item;
 use std::alloc::{AllocError, Global};
@@ -36,7 +36,7 @@ impl SwitchStatus {
 
     /// Whether the switch is down, and the controller waits for it.
     pub fn is_missed(self) -> bool
-        ensures { result ≡ is_missed self }
+        ensures { result ≡ is_missed_in_report self }
     {
         !self.is_up && self.is_waited_for
     }

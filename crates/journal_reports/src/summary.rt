@@ -1,5 +1,5 @@
 ghost use Rattle.std.specs.Prelude.{◌≡◌};
-ghost use Rattle.journal_reports.specs.Summary.{SummaryCountsHaveRoom, counts_after_item, item_counts, with_travelling, summary_of};
+ghost use Rattle.journal_reports.specs.Summary.{SummaryCountsHaveRoom, summary_counts_after_item, summary_item_counts, summary_with_travelling, summary_of};
 
 use journal::{How, Item, Journal};
 
@@ -36,7 +36,7 @@ pub fn summarize(journal: &Journal) -> Summary
 
 // Counts the items in one pass: `travelling` gets all that entered.
 fn count(items: &[Item]) -> Summary
-    ensures { result ≡ item_counts items.now }
+    ensures { result ≡ summary_item_counts items.now }
 {
     let mut counts = Summary {
         packets: 0,
@@ -61,7 +61,7 @@ impl Summary {
     // Counts one more item.
     fn note(&mut self, item: &Item)
         requires { SummaryCountsHaveRoom self.old }
-        ensures { self.new ≡ counts_after_item self.old item.now }
+        ensures { self.new ≡ summary_counts_after_item self.old item.now }
     {
         match item {
             Item::Entered { .. } => {
@@ -89,7 +89,7 @@ impl Summary {
 
     // The counts with the packets that still travel: those that entered minus those that ended.
     fn with_travelling(self) -> Summary
-        ensures { result ≡ with_travelling self }
+        ensures { result ≡ summary_with_travelling self }
     {
         let travelling = self
             .travelling

@@ -4,7 +4,7 @@ ghost use Rattle.std.specs.List.{list_all};
 ghost use Rattle.ctrl_msg.specs.declared.message.Message.{Message};
 ghost use Rattle.journal_reports.specs.declared.traffic.Traffic.{Traffic};
 ghost use Rattle.journal_reports.specs.Buckets.{IsKeptInReportBucket};
-ghost use Rattle.journal_reports.specs.Judging.{report_concerned_switch, is_missed, is_named_in_report, matters_in_report_status, report_switch_of_message};
+ghost use Rattle.journal_reports.specs.Judging.{report_concerned_switch, is_missed_in_report, is_named_in_report, matters_in_report_status, report_switch_of_message};
 ghost use Rattle.journal_reports.specs.Traffic.{AreReportTrafficRows, ReportTrafficConcernsOne, IsReportTrafficAdded, IsReportTrafficAfter};
 
 use crate::bucket::{Bucket, empty_report_buckets, keep, report_buckets_keep};
@@ -78,7 +78,7 @@ impl Traffic {
 
 /// Whether no switch is down while the controller waits for it.
 pub fn report_misses_no_switch(rows: &[Traffic]) -> bool
-    ensures { result ≡ list_all (λ row. not (is_missed row.status)) rows.now }
+    ensures { result ≡ list_all (λ row. not (is_missed_in_report row.status)) rows.now }
 {
     rows.iter().all(|row| !row.status.is_missed())
 }

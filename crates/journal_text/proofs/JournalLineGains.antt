@@ -2,16 +2,16 @@
 use Rattle.base.proofs.Exports.{flat_map-append, take-append-le, take_more, ⊤}
 use Rattle.std.proofs.Common.{[], ◌++◌, ◌+◌, ◌<◌, ◌==◌, ◌∙◌, ◌∷◌, ◌≡◌, ◌≢◌, ◌≤◌, Bool, Err, IsErrOf, IsTrue, List, None, Option, Result, Some, ap, append-nil, append_assoc, arith, drop, false, get_or, length, length-append, refl, subst, sym, take, take-append-drop, take_all, ℕ}
 use Rattle.journal.specs.declared.item.Item.{Item}
-use Rattle.journal_text.specs.Lines.{item_line, journal_text}
+use Rattle.journal_text.specs.Lines.{journal_item_line, journal_text}
 use Rattle.lines.specs.Pushes.{line_with}
 use Rattle.net_file.specs.declared.net.Net.{Net}
-use Rattle.shelf.specs.Exports.{SinkGainedPart, IsAfterWrite, IsSinkBlockGathered, FaultsRose, SinkState, sink_with_gained}
+use Rattle.shelf.specs.Exports.{SinkGainedPart, IsSinkAfterWrite, IsSinkBlockGathered, SinkFaultsRose, SinkState, sink_with_gained}
 use Rattle.shelf.proofs.SinkGains.{nothing_gained}
 use Rattle.shelf.specs.declared.output.SinkError.{SinkError}
 use Rattle.shelf.specs.declared.output.SinkError.TheVariants.{Failed, NoMemory}
 
 abbrev line_of : Net → Item → List ℕ
-line_of net item = item_line net item ++ 10 ∷ []
+line_of net item = journal_item_line net item ++ 10 ∷ []
 
 -- up to an item and with it
 pub lines_more : (net : Net) (items : List Item) (i : ℕ) (item : Item) → i < length items
@@ -84,9 +84,9 @@ pub gathers_no_more : (net : Net) {items journal : List Item} (i : ℕ) (takes_m
     → old.faults ≡ first.faults → piece ≡ line → ((text : List ℕ) (before : Option (List ℕ))
     → IsSinkBlockGathered text before old.bytes waiting → SinkGainedPart before (text ++ piece) new.bytes)
     → old.faults ≤ new.faults → (fails error ≢ Err Failed → new.faults ≡ old.faults)
-    → (IsErrOf (fails error) Failed → FaultsRose old.faults new.faults)
+    → (IsErrOf (fails error) Failed → SinkFaultsRose old.faults new.faults)
     → (IsErrOf (fails error) NoMemory → IsTrue takes_memory)
-    → IsAfterWrite (journal_text net journal) takes_memory first new (fails error)
+    → IsSinkAfterWrite (journal_text net journal) takes_memory first new (fails error)
 gathers_no_more net {items} i takes_memory first old new error all is none same part faults calm
     failed no_memory = rw (← all) (
     record {
@@ -110,7 +110,7 @@ held_whole line text fits = take_all 2048 (line ++ text) (omega (arith, fits, le
 -- a text that is empty has no lines
 no_items : (net : Net) (items : List Item) → journal_text net items ≡ [] → items ≡ []
 no_items net [] none = refl
-no_items net (item ∷ items) none = absurd (some (item_line net item) none) where
+no_items net (item ∷ items) none = absurd (some (journal_item_line net item) none) where
   some : (line : List ℕ) → (line ++ 10 ∷ []) ++ journal_text net items ≡ [] → ⊥
   some [] e = cc e
   some (c ∷ cs) e = cc e

@@ -7,7 +7,7 @@ use Rattle.ctrl_msg.specs.declared.message.Place.{Place}
 use Rattle.ctrl_msg.specs.declared.message.Place.TheVariants as receiver
 use Rattle.base.specs.Exports.{has, switches}
 use Rattle.failover.specs.declared.advert.Advert.{Advert}
-use Rattle.net_file.specs.Exports.{IsNet, NameLaws, net_switch_names_text}
+use Rattle.net_file.specs.Exports.{IsNet, NetNameLaws, net_switch_names_text}
 use Rattle.net_file.specs.declared.net.Net.{Net}
 use Rattle.policy_rules.specs.declared.packet.Cause.{Cause}
 use Rattle.policy_rules.specs.declared.packet.Cause.TheVariants.{NoAuthority, NoRoute}
@@ -16,14 +16,14 @@ use Rattle.policy_rules.specs.declared.packet.How.TheVariants.{Cached, Authority
 use Rattle.policy_rules.specs.declared.policy.Action.{Action}
 use Rattle.journal.specs.declared.item.Item.{Item}
 use Rattle.journal.specs.declared.item.Item.TheVariants as item
-use Rattle.journal_text.specs.Lines.{advert_text, journal_body_text, boot_text, journal_cause_text, how_text, item_line, journal_mask_text, journal_text_with_name, journal_text_with_number, packet_at_text, journal_pair_text, journal_receiver_text, journal_cached_rule_text, state_text, journal_step_text, journal_two_numbers_text, version_text, journal_text_via}
+use Rattle.journal_text.specs.Lines.{journal_advert_text, journal_body_text, journal_boot_text, journal_cause_text, journal_how_text, journal_item_line, journal_mask_text, journal_text_with_name, journal_text_with_number, journal_packet_at_text, journal_pair_text, journal_receiver_text, journal_cached_rule_text, journal_state_text, journal_step_text, journal_two_numbers_text, journal_version_text, journal_text_via}
 use Rattle.journal_text.specs.Sizes.{IsJournalTextBody, IsJournalTextHow, IsJournalTextItem, IsJournalTextRoute, IsJournalTextStep, JournalLinesFit}
 use Rattle.lines.proofs.LinePrintedLengths.{IsWithin, all_of, joined_within, with_text, widened, number, rule_within, action_within, fields_within, word_within, name_within, names_within}
-use Rattle.lines.specs.Sizes.{IsPrintedLineAction, IsNumber, IsPrintedLineRule}
+use Rattle.lines.specs.Sizes.{IsPrintedLineAction, IsNumberInPrintedLine, IsPrintedLineRule}
 use Rattle.steps.specs.declared.step.Step.{Step}
 use Rattle.steps.specs.declared.step.Step.TheVariants.{Packet, Hop, Lose, Deliver, Forget, Expire, Update, LinkDown, LinkUp, Crash, Restart, Confirm, Resend}
 
-numbered_within : {m : ℕ} {text : List ℕ} → IsWithin m text → (n : ℕ) → IsNumber n
+numbered_within : {m : ℕ} {text : List ℕ} → IsWithin m text → (n : ℕ) → IsNumberInPrintedLine n
     → IsWithin (m + 1 + 10) (journal_text_with_number text n)
 numbered_within w n small =
     joined_within (with_text w (codes " ")) (number n small)
@@ -38,7 +38,7 @@ few_switches mask = omega (
   count_by-le-length (has mask) (range_with_len 0 64),
 )
 
-module _ (laws : NameLaws) (net : Net) (sound : IsNet net) where
+module _ (laws : NetNameLaws) (net : Net) (sound : IsNet net) where
   named_within : {m : ℕ} {text : List ℕ} → IsWithin m text → (s : ℕ)
       → IsWithin (m + 1 + 16) (journal_text_with_name net text s)
   named_within w s =
@@ -54,8 +54,8 @@ module _ (laws : NameLaws) (net : Net) (sound : IsNet net) where
         | false ↦ route_within (filter (has mask) switches) (few_switches mask)
       ]
 
-  at_within : {m : ℕ} {text : List ℕ} → IsWithin m text → (packet s : ℕ) → IsNumber packet
-      → IsWithin (m + 1 + 10 + 1 + 16) (packet_at_text net text packet s)
+  at_within : {m : ℕ} {text : List ℕ} → IsWithin m text → (packet s : ℕ) → IsNumberInPrintedLine packet
+      → IsWithin (m + 1 + 10 + 1 + 16) (journal_packet_at_text net text packet s)
   at_within w packet s is =
       joined_within (with_text (numbered_within w packet is) (codes " ")) (name_within laws net sound s)
 
@@ -66,14 +66,14 @@ module _ (laws : NameLaws) (net : Net) (sound : IsNet net) where
 
   -- ---- steps and messages
 
-  boot_within : {m : ℕ} {text : List ℕ} → IsWithin m text → (boot : ℕ) → IsNumber boot
-      → IsWithin (m + 6 + 10) (boot_text text boot)
+  boot_within : {m : ℕ} {text : List ℕ} → IsWithin m text → (boot : ℕ) → IsNumberInPrintedLine boot
+      → IsWithin (m + 6 + 10) (journal_boot_text text boot)
   boot_within w boot is =
       joined_within (with_text w (codes " boot ")) (number boot is)
 
   version_within : {m : ℕ} {text : List ℕ} → IsWithin m text → (boot version : ℕ)
-      → IsNumber boot × IsNumber version
-      → IsWithin (m + 6 + 10 + 9 + 10) (version_text text boot version)
+      → IsNumberInPrintedLine boot × IsNumberInPrintedLine version
+      → IsWithin (m + 6 + 10 + 9 + 10) (journal_version_text text boot version)
   version_within w boot version is =
       joined_within (with_text (boot_within w boot is.0) (codes " version ")) (number version is.1)
 
@@ -120,8 +120,8 @@ module _ (laws : NameLaws) (net : Net) (sound : IsNet net) where
       joined_within (with_text (joined_within (all_of (codes " rule ")) (rule_within rule r)) (codes " "))
       (action_within action a)
 
-  advert_within : (advert : Advert) → IsNumber advert.boot × IsNumber advert.seq
-      → IsWithin 1200 (advert_text net advert)
+  advert_within : (advert : Advert) → IsNumberInPrintedLine advert.boot × IsNumberInPrintedLine advert.seq
+      → IsWithin 1200 (journal_advert_text net advert)
   advert_within advert is =
       widened (joined_within (with_text (joined_within (with_text (boot_within (named_within (all_of (codes
       "advert")) advert.origin) advert.boot is.0) (codes " seq ")) (number advert.seq is.1)) (codes
@@ -153,7 +153,7 @@ module _ (laws : NameLaws) (net : Net) (sound : IsNet net) where
 
   -- ---- items
 
-  how_within : (how : How) → IsJournalTextHow how → IsWithin 50 (how_text net how)
+  how_within : (how : How) → IsJournalTextHow how → IsWithin 50 (journal_how_text net how)
   how_within (Cached message) is =
       widened (numbered_within (all_of (codes "cache")) message is) 50 (omega arith)
   how_within (Authority switch partition) is =
@@ -164,12 +164,12 @@ module _ (laws : NameLaws) (net : Net) (sound : IsNet net) where
   cause_within NoAuthority = all_of (codes "no-authority")
   cause_within NoRoute = widened (all_of (codes "no-route")) 12 (omega arith)
 
-  state_within : (up : Bool) → IsWithin 4 (state_text up)
+  state_within : (up : Bool) → IsWithin 4 (journal_state_text up)
   state_within true = widened (all_of (codes "up")) 4 (omega arith)
   state_within false = all_of (codes "down")
 
   two_within : {m k : ℕ} {text : List ℕ} → IsWithin m text → {next : List ℕ} → IsWithin k next
-      → (n p : ℕ) → IsNumber n → IsNumber p
+      → (n p : ℕ) → IsNumberInPrintedLine n → IsNumberInPrintedLine p
       → IsWithin (m + 1 + 10 + k + 10) (journal_two_numbers_text text n next p)
   unfolding journal_two_numbers_text
   two_within w v n p is also =
@@ -179,7 +179,7 @@ module _ (laws : NameLaws) (net : Net) (sound : IsNet net) where
   unfolding journal_text_via
   via_within route is = joined_within (all_of (codes " via")) (route_within route is)
 
-  item_within : (item : Item) → IsJournalTextItem item → IsWithin 1240 (item_line net item)
+  item_within : (item : Item) → IsJournalTextItem item → IsWithin 1240 (journal_item_line net item)
   item_within (item.Row row step) is =
       widened (joined_within (with_text (numbered_within (all_of (codes "row")) row is.0) (codes ": "))
       (step_within step is.1)) 1240 (omega arith)
@@ -253,11 +253,11 @@ module _ (laws : NameLaws) (net : Net) (sound : IsNet net) where
       (state_within up)) 1240 (omega arith)
   item_within item.Nothing is = widened (all_of (codes "  nothing")) 1240 (omega arith)
 
-pub line_within : NameLaws → (net : Net) → IsNet net → (item : Item) → IsJournalTextItem item
-    → IsWithin 1241 (item_line net item ++ 10 ∷ [])
+pub line_within : NetNameLaws → (net : Net) → IsNet net → (item : Item) → IsJournalTextItem item
+    → IsWithin 1241 (journal_item_line net item ++ 10 ∷ [])
 line_within laws net sound item is =
     joined_within (item_within laws net sound item is) (all_of (10 ∷ []))
 
-pub lines_within : NameLaws → JournalLinesFit
+pub lines_within : NetNameLaws → JournalLinesFit
 lines_within laws net item sound is =
     let line = widened (line_within laws net sound item is) 2048 (omega arith) in line.size

@@ -1,9 +1,9 @@
 //! Adverts that were written before: if the same one is written again, its text is copied.
 ghost use Rattle.std.specs.Prelude.{◌≡◌, ◌≤◌, [], IfSome, length, take};
 ghost use Rattle.net_file.specs.declared.net.Net.{Net};
-ghost use Rattle.journal_text.specs.Lines.{advert_text};
+ghost use Rattle.journal_text.specs.Lines.{journal_advert_text};
 ghost use Rattle.journal_text.specs.AdvertTexts.{AreJournalAdvertTexts, IsKeptJournalAdvertText};
-ghost use Rattle.lines.specs.Sizes.{IsNumber};
+ghost use Rattle.lines.specs.Sizes.{IsNumberInPrintedLine};
 ghost use Rattle.lines.specs.Pushes.{line_with};
 
 use crate::messages::push_journal_advert_text;
@@ -61,8 +61,8 @@ impl AdvertTexts {
     /// Adds the text of an advert.
     pub fn push(&mut self, line: &mut Line, net: &Net, advert: &Advert)
         requires { AreJournalAdvertTexts net.now self.old }
-        ensures text { line.new ≡ line_with line.old (advert_text net.now advert.now) }
-        ensures of_type { IsNumber advert.now.boot × IsNumber advert.now.seq }
+        ensures text { line.new ≡ line_with line.old (journal_advert_text net.now advert.now) }
+        ensures of_type { IsNumberInPrintedLine advert.now.boot × IsNumberInPrintedLine advert.now.seq }
         ensures texts { AreJournalAdvertTexts net.now self.new }
     {
         match self.find(advert) {
@@ -92,8 +92,8 @@ impl AdvertTexts {
     #[inline(never)]
     fn write(&mut self, net: &Net, advert: &Advert)
         requires { AreJournalAdvertTexts net.now self.old }
-        ensures own { self.new.own ≡ line_with [] (advert_text net.now advert.now) }
-        ensures of_type { IsNumber advert.now.boot × IsNumber advert.now.seq }
+        ensures own { self.new.own ≡ line_with [] (journal_advert_text net.now advert.now) }
+        ensures of_type { IsNumberInPrintedLine advert.now.boot × IsNumberInPrintedLine advert.now.seq }
         ensures texts { AreJournalAdvertTexts net.now self.new }
     {
         self.own.clear();

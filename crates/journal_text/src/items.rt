@@ -1,7 +1,7 @@
 ghost use Rattle.std.specs.Prelude.{◌≡◌, ◌≤◌, ◌++◌, ◌∷◌, [], IfOk, codes, length};
 ghost use Rattle.net_file.specs.Net.{IsNet};
 ghost use Rattle.journal.specs.declared.item.Item.TheVariants as item;
-ghost use Rattle.journal_text.specs.Lines.{journal_cause_text, how_text, item_line, journal_text, journal_text_with_number, packet_at_text, journal_two_numbers_text, journal_text_via};
+ghost use Rattle.journal_text.specs.Lines.{journal_cause_text, journal_how_text, journal_item_line, journal_text, journal_text_with_number, journal_packet_at_text, journal_two_numbers_text, journal_text_via};
 ghost use Rattle.journal_text.specs.Sizes.{IsJournalTextBody, IsJournalTextItem, IsJournalTextRoute};
 ghost use Rattle.journal_text.specs.AdvertTexts.{AreJournalAdvertTexts};
 ghost use Rattle.lines.specs.Pushes.{line_with};
@@ -44,7 +44,7 @@ pub(crate) fn push_journal_line(line: &mut Line, net: &Net, texts: &mut AdvertTe
     requires net { IsNet net.now }
     requires room { length line.old ≤ 800 }
     requires texts { AreJournalAdvertTexts net.now texts.old }
-    ensures text { line.new ≡ line.old ++ (item_line net.now item.now ++ 10 ∷ []) }
+    ensures text { line.new ≡ line.old ++ (journal_item_line net.now item.now ++ 10 ∷ []) }
     ensures texts { AreJournalAdvertTexts net.now texts.new }
 {
     switch_name_laws();
@@ -54,7 +54,7 @@ pub(crate) fn push_journal_line(line: &mut Line, net: &Net, texts: &mut AdvertTe
 
 #[tactic(auto, using(lines::proofs::LinesCallerLemmas::pushed_append))]
 fn push_journal_row_text(line: &mut Line, net: &Net, row: u32, step: &Step)
-    ensures text { line.new ≡ line_with line.old (item_line net.now (item.Row row step.now)) }
+    ensures text { line.new ≡ line_with line.old (journal_item_line net.now (item.Row row step.now)) }
     ensures of_type { IsJournalTextItem (item.Row row step.now) }
 {
     push_journal_numbered_text(line, "row", row);
@@ -65,7 +65,7 @@ fn push_journal_row_text(line: &mut Line, net: &Net, row: u32, step: &Step)
 // Adds a packet and a switch after a text.
 #[tactic(auto, using(lines::proofs::LinesCallerLemmas::pushed_append))]
 fn push_packet_at(line: &mut Line, net: &Net, text: &str, packet: u32, s: u32)
-    ensures { line.new ≡ line_with line.old (packet_at_text net.now text.now packet s) }
+    ensures { line.new ≡ line_with line.old (journal_packet_at_text net.now text.now packet s) }
 {
     push_journal_numbered_text(line, text, packet);
     line.push(" ");
@@ -91,7 +91,7 @@ fn push_seeking_journal_text(
     route: &SharedRoute,
 )
     ensures text { line.new ≡ line_with line.old
-        (item_line net.now (item.Seeking packet version partition route.now)) }
+        (journal_item_line net.now (item.Seeking packet version partition route.now)) }
     ensures of_type { IsJournalTextItem (item.Seeking packet version partition route.now) }
 {
     push_journal_two_numbers(line, "  tunnelled", packet, " v", version);
@@ -112,7 +112,7 @@ fn push_route_item(line: &mut Line, net: &Net, text: &str, packet: u32, route: &
 
 #[tactic(auto, using(lines::proofs::LinesCallerLemmas::pushed_append))]
 fn push_found_item(line: &mut Line, net: &Net, packet: u32, one: u32, two: u32)
-    ensures { line.new ≡ line_with line.old (item_line net.now (item.FoundDown packet one two)) }
+    ensures { line.new ≡ line_with line.old (journal_item_line net.now (item.FoundDown packet one two)) }
 {
     push_packet_at(line, net, "  found", packet, one);
     line.push(" ");
@@ -121,7 +121,7 @@ fn push_found_item(line: &mut Line, net: &Net, packet: u32, one: u32, two: u32)
 
 #[tactic(auto, using(lines::proofs::LinesCallerLemmas::pushed_append))]
 fn push_decided_how(line: &mut Line, net: &Net, how: How)
-    ensures { line.new ≡ line_with line.old (how_text net.now how) }
+    ensures { line.new ≡ line_with line.old (journal_how_text net.now how) }
 {
     match how {
         How::Cached { message } => push_journal_numbered_text(line, "cache", message),
@@ -142,7 +142,7 @@ fn push_decided_journal_text(
     how: How,
 )
     ensures text { line.new ≡ line_with line.old
-        (item_line net.now (item.Decided packet version rule action how)) }
+        (journal_item_line net.now (item.Decided packet version rule action how)) }
     ensures of_type { IsJournalTextItem (item.Decided packet version rule action how) }
 {
     push_journal_two_numbers(line, "  decided", packet, " v", version);
@@ -173,7 +173,7 @@ fn journal_cause_text(cause: Cause) -> &'static str
 #[tactic(auto, using(lines::proofs::LinesCallerLemmas::pushed_append))]
 fn push_stuck_item(line: &mut Line, net: &Net, packet: u32, switch: u32, cause: Cause)
     ensures { line.new ≡ line_with line.old
-        (packet_at_text net.now (codes "  stuck") packet switch ++ codes " " ++ journal_cause_text cause) }
+        (journal_packet_at_text net.now (codes "  stuck") packet switch ++ codes " " ++ journal_cause_text cause) }
 {
     push_packet_at(line, net, "  stuck", packet, switch);
     line.push(" ");
@@ -190,7 +190,7 @@ fn push_sent_journal_text(
 )
     requires { AreJournalAdvertTexts net.now texts.old }
     ensures text { line.new ≡ line_with line.old
-        (item_line net.now (item.Sent number message.now)) }
+        (journal_item_line net.now (item.Sent number message.now)) }
     ensures of_type { IsJournalTextBody message.now.body }
     ensures texts { AreJournalAdvertTexts net.now texts.new }
 {
@@ -206,7 +206,7 @@ fn push_sent_journal_text(
 #[tactic(auto, using(lines::proofs::LinesCallerLemmas::pushed_append))]
 fn push_expired_item(line: &mut Line, net: &Net, switch: u32, place: u32, message: u32)
     ensures { line.new
-        ≡ line_with line.old (item_line net.now (item.Expired switch place message)) }
+        ≡ line_with line.old (journal_item_line net.now (item.Expired switch place message)) }
 {
     push_item_named_number(line, net, "  expired", switch, " ", place);
     line.push(" message ");
@@ -215,7 +215,7 @@ fn push_expired_item(line: &mut Line, net: &Net, switch: u32, place: u32, messag
 
 #[tactic(auto, using(lines::proofs::LinesCallerLemmas::pushed_append))]
 fn push_link_item(line: &mut Line, net: &Net, one: u32, two: u32, up: bool)
-    ensures { line.new ≡ line_with line.old (item_line net.now (item.LinkIs one two up)) }
+    ensures { line.new ≡ line_with line.old (journal_item_line net.now (item.LinkIs one two up)) }
 {
     push_journal_switch_pair(line, net, "  link", one, two);
     line.push(" ");
@@ -229,7 +229,7 @@ fn push_link_item(line: &mut Line, net: &Net, one: u32, two: u32, up: bool)
 // Adds an item's line, without its line feed.
 fn push_journal_item_text(line: &mut Line, net: &Net, texts: &mut AdvertTexts, item: &Item)
     requires { AreJournalAdvertTexts net.now texts.old }
-    ensures text { line.new ≡ line_with line.old (item_line net.now item.now) }
+    ensures text { line.new ≡ line_with line.old (journal_item_line net.now item.now) }
     ensures of_type { IsJournalTextItem item.now }
     ensures texts { AreJournalAdvertTexts net.now texts.new }
 {

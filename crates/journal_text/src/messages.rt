@@ -1,9 +1,9 @@
 ghost use Rattle.std.specs.Prelude.{◌≡◌};
 ghost use Rattle.ctrl_msg.specs.declared.message.Body.TheVariants.{CacheRule};
-ghost use Rattle.journal_text.specs.Lines.{advert_text, journal_body_text, boot_text, journal_cache_text, journal_text_with_name, journal_receiver_text, journal_cached_rule_text, version_text};
+ghost use Rattle.journal_text.specs.Lines.{journal_advert_text, journal_body_text, journal_boot_text, journal_cache_text, journal_text_with_name, journal_receiver_text, journal_cached_rule_text, journal_version_text};
 ghost use Rattle.journal_text.specs.Sizes.{IsJournalTextBody};
 ghost use Rattle.journal_text.specs.AdvertTexts.{AreJournalAdvertTexts};
-ghost use Rattle.lines.specs.Sizes.{IsPrintedLineAction, IsNumber, IsPrintedLineRule};
+ghost use Rattle.lines.specs.Sizes.{IsPrintedLineAction, IsNumberInPrintedLine, IsPrintedLineRule};
 ghost use Rattle.lines.specs.Pushes.{line_with};
 
 use crate::advert_texts::AdvertTexts;
@@ -29,7 +29,7 @@ pub(crate) fn push_message_receiver(line: &mut Line, net: &Net, to: Place)
 // Adds a boot after a text.
 #[tactic(auto, using(lines::proofs::LinesCallerLemmas::pushed_append))]
 fn push_boot_number(line: &mut Line, text: &str, boot: u32)
-    ensures { line.new ≡ line_with line.old (boot_text text.now boot) }
+    ensures { line.new ≡ line_with line.old (journal_boot_text text.now boot) }
 {
     line.push(text);
     line.push(" boot ");
@@ -38,7 +38,7 @@ fn push_boot_number(line: &mut Line, text: &str, boot: u32)
 
 #[tactic(auto, using(lines::proofs::LinesCallerLemmas::pushed_append))]
 fn push_version_number(line: &mut Line, text: &str, boot: u32, version: u32)
-    ensures { line.new ≡ line_with line.old (version_text text.now boot version) }
+    ensures { line.new ≡ line_with line.old (journal_version_text text.now boot version) }
 {
     push_boot_number(line, text, boot);
     line.push(" version ");
@@ -47,7 +47,7 @@ fn push_version_number(line: &mut Line, text: &str, boot: u32, version: u32)
 
 #[tactic(auto, using(lines::proofs::LinesCallerLemmas::pushed_append))]
 fn push_booted_body(line: &mut Line, net: &Net, text: &str, switch: u32, boot: u32)
-    ensures { line.new ≡ line_with line.old (boot_text (journal_text_with_name net.now text.now switch) boot) }
+    ensures { line.new ≡ line_with line.old (journal_boot_text (journal_text_with_name net.now text.now switch) boot) }
 {
     push_item_named_number(line, net, text, switch, " boot ", boot);
 }
@@ -55,7 +55,7 @@ fn push_booted_body(line: &mut Line, net: &Net, text: &str, switch: u32, boot: u
 #[tactic(auto, using(lines::proofs::LinesCallerLemmas::pushed_append))]
 fn push_answer_body(line: &mut Line, net: &Net, text: &str, switch: u32, boot: u32, version: u32)
     ensures { line.new
-        ≡ line_with line.old (version_text (journal_text_with_name net.now text.now switch) boot version) }
+        ≡ line_with line.old (journal_version_text (journal_text_with_name net.now text.now switch) boot version) }
 {
     push_booted_body(line, net, text, switch, boot);
     line.push(" version ");
@@ -93,8 +93,8 @@ fn push_journal_cache_rule(
 /// Adds an advert: its origin, boot and number, and the neighbours that it names.
 #[tactic(auto, using(lines::proofs::LinesCallerLemmas::pushed_append))]
 pub(crate) fn push_journal_advert_text(line: &mut Line, net: &Net, advert: &Advert)
-    ensures text { line.new ≡ line_with line.old (advert_text net.now advert.now) }
-    ensures of_type { IsNumber advert.now.boot × IsNumber advert.now.seq }
+    ensures text { line.new ≡ line_with line.old (journal_advert_text net.now advert.now) }
+    ensures of_type { IsNumberInPrintedLine advert.now.boot × IsNumberInPrintedLine advert.now.seq }
 {
     let Advert {
         origin,

@@ -1,6 +1,6 @@
 ghost use Rattle.std.specs.Prelude.{◌≡◌, ◌++◌, filter, codes};
 ghost use Rattle.base.specs.Masks.{has, switches};
-ghost use Rattle.net_file.specs.Net.{switch_name_of, net_switch_names_text};
+ghost use Rattle.net_file.specs.Net.{net_switch_name_of, net_switch_names_text};
 ghost use Rattle.journal_text.specs.Lines.{journal_mask_text};
 ghost use Rattle.lines.specs.Pushes.{line_with};
 
@@ -36,7 +36,7 @@ fn push_mask_switches(line: &mut Line, net: &Net, mask: u64)
 // Adds the name of the switch, after a blank.
 #[tactic(auto, using(lines::proofs::LinesCallerLemmas::pushed_append))]
 fn push_journal_name_behind_blank(line: &mut Line, net: &Net, s: u32)
-    ensures { line.new ≡ line_with line.old (codes " " ++ switch_name_of net.now s) }
+    ensures { line.new ≡ line_with line.old (codes " " ++ net_switch_name_of net.now s) }
 {
     line.push(" ");
     push_name(line, net, s);

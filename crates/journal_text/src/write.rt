@@ -1,7 +1,7 @@
 ghost use Rattle.std.specs.Prelude.{◌≡◌, []};
 ghost use Rattle.net_file.specs.Net.{IsNet};
 ghost use Rattle.journal_text.specs.Lines.{journal_text};
-ghost use Rattle.shelf.specs.SinkWrites.{IsAfterWrite};
+ghost use Rattle.shelf.specs.SinkWrites.{IsSinkAfterWrite};
 
 use crate::advert_texts::AdvertTexts;
 use crate::items::push_journal_line;
@@ -20,7 +20,7 @@ const ROOMY_BYTES: usize = 800;
 /// error like a failed one.
 pub fn write_text<K: Sink>(journal: &Journal, net: &Net, sink: &mut K) -> Result<(), SinkError>
     requires { IsNet net.now }
-    ensures after { IsAfterWrite (journal_text net.now journal.now) K.takes_memory
+    ensures after { IsSinkAfterWrite (journal_text net.now journal.now) K.takes_memory
         (K.state sink.old) (K.state sink.new) result }
     ensures no_text { journal_text net.now journal.now ≡ [] → sink.new ≡ sink.old }
 {

@@ -4,16 +4,16 @@ use Rattle.std.specs.Fmt.{digit_glyph}
 use Rattle.std.proofs.lemmas.Fmt.{length-decimal-le}
 use Rattle.std.proofs.lemmas.List.Elements.{All-get_or}
 use Rattle.std.proofs.lemmas.Option.{slice_get_cases}
-use Rattle.five_tuple.specs.Exports.{IsHeader, address_text, fields_text, proto_number_text}
+use Rattle.five_tuple.specs.Exports.{IsHeader, address_text, header_fields_text, proto_number_text}
 use Rattle.five_tuple.specs.declared.header.Header.{Header}
-use Rattle.net_file.specs.Exports.{IsNet, IsNetSwitchRow, NameLaws, switch_name_of, net_switch_names_text}
+use Rattle.net_file.specs.Exports.{IsNet, IsNetSwitchRow, NetNameLaws, net_switch_name_of, net_switch_names_text}
 use Rattle.net_file.specs.declared.net.Net.{Net}
 use Rattle.net_file.specs.declared.net.SwitchRow.{SwitchRow}
-use Rattle.policy_rules.specs.Exports.{action_text, rule_text}
+use Rattle.policy_rules.specs.Exports.{policy_action_text, policy_rule_text}
 use Rattle.policy_rules.specs.declared.policy.Action.{Action}
 use Rattle.policy_rules.specs.declared.policy.Action.TheVariants.{Drop, Out}
 use Rattle.ternary.specs.Exports.{WordValue, word_hex_digits, ternary_word_text}
-use Rattle.lines.specs.Sizes.{IsPrintedLineAction, IsNumber, IsPrintedLineRule}
+use Rattle.lines.specs.Sizes.{IsPrintedLineAction, IsNumberInPrintedLine, IsPrintedLineRule}
 
 -- at most so many bytes
 pub record IsWithin (most : ℕ) (text : List ℕ) : Type 0 where
@@ -35,16 +35,16 @@ widened a n le = record { size = omega (arith, a.size, le) }
 
 -- ---- numbers, rules, actions
 
-pub number : (n : ℕ) → IsNumber n → IsWithin 10 (decimal n)
+pub number : (n : ℕ) → IsNumberInPrintedLine n → IsWithin 10 (decimal n)
 number n small = record {
   size = length-decimal-le 10 n (omega arith) (omega (arith, small)) (omega (arith, small));
 }
 
-pub rule_within : (rule : Option ℕ) → IsPrintedLineRule rule → IsWithin 10 (rule_text rule)
+pub rule_within : (rule : Option ℕ) → IsPrintedLineRule rule → IsWithin 10 (policy_rule_text rule)
 rule_within (Some priority) is = number priority is
 rule_within None is = widened (all_of (codes "default")) 10 (omega arith)
 
-pub action_within : (action : Action) → IsPrintedLineAction action → IsWithin 14 (action_text action)
+pub action_within : (action : Action) → IsPrintedLineAction action → IsWithin 14 (policy_action_text action)
 action_within (Out port) is =
     joined_within (all_of (codes "out:")) (number port is)
 action_within Drop is = widened (all_of (codes "drop")) 14 (omega arith)
@@ -74,8 +74,8 @@ proto_within n small =
           ]
     ]
 
-pub fields_within : (header : Header) → IsHeader header → IsWithin 200 (fields_text header.fields)
-unfolding fields_text
+pub fields_within : (header : Header) → IsHeader header → IsWithin 200 (header_fields_text header.fields)
+unfolding header_fields_text
 fields_within header is =
     widened (joined_within (address_within header.fields.src is.src) (joined_within (all_of (32 ∷ []))
     (joined_within (address_within header.fields.dst is.dst) (joined_within (all_of (32 ∷ []))
@@ -100,13 +100,13 @@ word_within w = joined_within (digits_within 26 w.value)
 
 -- ---- names
 
-module _ (laws : NameLaws) (net : Net) (sound : IsNet net) where
-  pub name_within : (s : ℕ) → IsWithin 16 (switch_name_of net s)
+module _ (laws : NetNameLaws) (net : Net) (sound : IsNet net) where
+  pub name_within : (s : ℕ) → IsWithin 16 (net_switch_name_of net s)
   name_within s = by (slice_get_cases net.switches s).1 where
     by : ((row : SwitchRow) × (s < length net.switches) × (slice_get net.switches s ≡ Some row)
         × (get_or net.switches s row ≡ row))
         ⊎ ((length net.switches ≤ s) × (slice_get net.switches s ≡ None))
-        → IsWithin 16 (switch_name_of net s)
+        → IsWithin 16 (net_switch_name_of net s)
     by (inl w) =
         let is : IsNetSwitchRow w.0 = subst IsNetSwitchRow w.3
         (All-get_or IsNetSwitchRow net.switches s w.0 w.1 sound.switches) in

@@ -1,6 +1,6 @@
 ghost use Rattle.std.specs.Prelude.{◌≡◌, [], ◌∷◌, decimal};
 ghost use Rattle.std.specs.List.{join_with_byte};
-ghost use Rattle.five_tuple.specs.Printing.{address_text, fields_text, proto_number_text};
+ghost use Rattle.five_tuple.specs.Printing.{address_text, header_fields_text, proto_number_text};
 ghost use Rattle.lines.specs.Pushes.{line_with};
 
 use crate::line::Line;
@@ -44,7 +44,7 @@ fn push_line_protocol(line: &mut Line, proto: u8)
 
 /// Adds both addresses, both ports and the protocol, separated by blanks.
 pub fn push_line_fields(line: &mut Line, fields: &Fields)
-    ensures { line.new ≡ line_with line.old (fields_text fields.now) }
+    ensures { line.new ≡ line_with line.old (header_fields_text fields.now) }
 {
     push_line_address(line, fields.src);
     line.push(" ");

@@ -1,5 +1,5 @@
 ghost use Rattle.std.specs.Prelude.{◌≡◌};
-ghost use Rattle.net_file.specs.Net.{switch_name_of, net_switch_names_text};
+ghost use Rattle.net_file.specs.Net.{net_switch_name_of, net_switch_names_text};
 ghost use Rattle.lines.specs.Pushes.{line_with};
 
 use crate::line::Line;
@@ -7,7 +7,7 @@ use net_file::Net;
 
 /// Adds the name of the switch of this number; nothing if the network doesn't have it.
 pub fn push_name(line: &mut Line, net: &Net, s: u32)
-    ensures { line.new ≡ line_with line.old (switch_name_of net.now s) }
+    ensures { line.new ≡ line_with line.old (net_switch_name_of net.now s) }
 {
     let name = match net.switches.items().get(s as usize) {
         Some(row) => row.name.bytes(),

@@ -1,5 +1,5 @@
 ghost use Rattle.std.specs.Prelude.{◌≡◌};
-ghost use Rattle.policy_rules.specs.Policy.{action_text, rule_text};
+ghost use Rattle.policy_rules.specs.Policy.{policy_action_text, policy_rule_text};
 ghost use Rattle.ternary.specs.Word.{word_hex_digits, ternary_word_text};
 ghost use Rattle.lines.specs.Sizes.{IsPrintedLineAction, IsPrintedLineRule};
 ghost use Rattle.lines.specs.Pushes.{line_with};
@@ -48,7 +48,7 @@ pub fn push_line_word(line: &mut Line, word: &Word)
 
 /// Adds a rule's name: the priority of its row, or `default`.
 pub fn push_rule(line: &mut Line, rule: Option<u32>)
-    ensures text { line.new ≡ line_with line.old (rule_text rule) }
+    ensures text { line.new ≡ line_with line.old (policy_rule_text rule) }
     ensures of_type { IsPrintedLineRule rule }
 {
     match rule {
@@ -60,7 +60,7 @@ pub fn push_rule(line: &mut Line, rule: Option<u32>)
 /// Adds an action: `drop`, or `out:` and the port.
 #[tactic(auto, using(crate::proofs::LinesCallerLemmas::pushed_append))]
 pub fn push_line_action(line: &mut Line, action: Action)
-    ensures text { line.new ≡ line_with line.old (action_text action) }
+    ensures text { line.new ≡ line_with line.old (policy_action_text action) }
     ensures of_type { IsPrintedLineAction action }
 {
     match action {

@@ -3,21 +3,21 @@ use Rattle.std.proofs.Common.{[], ◌-◌, ◌∙◌, ◌≡◌, ◌≤◌, All,
 use Rattle.base.proofs.Exports.{All-head, IfSome-at_place, none-some, same_Some, slice_get-map}
 use Rattle.ctrl_msg.specs.declared.message.Message.{Message}
 use Rattle.ctrl_msg.specs.declared.message.Place.{Place}
-use Rattle.wire.specs.Exports.{wire_begun_for, body, frames, wire_frames_of_receiver, message as form, receiver}
+use Rattle.wire.specs.Exports.{wire_begun_for, body, frames, wire_frames_of_receiver, message as form, wire_receiver}
 use Rattle.message_bag.proofs.BagFramedMessages.{framed_is, known_by_frames}
 use Rattle.message_bag.proofs.BagFramesOfReceivers.{of_another_receiver}
 use Rattle.message_bag.proofs.BagFrameSizes.{IsSized, fields_of_message, frames_sized}
-use Rattle.message_bag.specs.Exports.{AreBagKeptFrames, First, HasBagFrames, HasShortBagSpelling, IsPostLike, IsBagNumberThere, bag_frames_in, posted_frames}
+use Rattle.message_bag.specs.Exports.{AreBagKeptFrames, BagFirst, HasBagFrames, HasShortBagSpelling, IsBagPostLike, IsBagNumberThere, bag_frames_in, bag_posted_frames}
 
 -- these are the frames of the message, perhaps to another receiver
-pub record AreLike (kept : List (List (List ℕ))) (first : First) (m : Message) : Type 0 where
+pub record AreLike (kept : List (List (List ℕ))) (first : BagFirst) (m : Message) : Type 0 where
   pub to : Place
   pub there : IsBagNumberThere kept first.1
   pub has : HasBagFrames (record m { to = to })
   pub are : bag_frames_in kept first ≡ frames (record m { to = to })
 
-known : (kept : List (List (List ℕ))) (first : First) (m : Message) (to : Place) → AreBagKeptFrames kept first
-    → bag_frames_in kept first ≡ posted_frames (record m { to = to }) → AreLike kept first m
+known : (kept : List (List (List ℕ))) (first : BagFirst) (m : Message) (to : Place) → AreBagKeptFrames kept first
+    → bag_frames_in kept first ≡ bag_posted_frames (record m { to = to }) → AreLike kept first m
 known kept first m to is same =
     let its = is.are in
     let other : record m { to = to } ≡ its.0 = known_by_frames its.0 (record m { to = to })
@@ -28,10 +28,10 @@ known kept first m to is same =
       are = its.2 ∙ ap frames (sym other);
     }
 
-pub found : (kept : List (List (List ℕ))) (firsts : List First) (bag : List (List (List ℕ))) (number : ℕ) (m : Message) (first : First)
-    → All (AreBagKeptFrames kept) firsts → map (bag_frames_in kept) firsts ≡ bag → IsPostLike bag number m
+pub found : (kept : List (List (List ℕ))) (firsts : List BagFirst) (bag : List (List (List ℕ))) (number : ℕ) (m : Message) (first : BagFirst)
+    → All (AreBagKeptFrames kept) firsts → map (bag_frames_in kept) firsts ≡ bag → IsBagPostLike bag number m
     → slice_get firsts (number - 1) ≡ Some first → AreLike kept first m
-found kept firsts bag zero m first all view like at = absurd (none-some (posted_frames (record m { to = like.0 })) like.1)
+found kept firsts bag zero m first all view like at = absurd (none-some (bag_posted_frames (record m { to = like.0 })) like.1)
 found kept firsts bag (suc place) m first all view like at =
     let here : slice_get firsts place ≡ Some first = ap (slice_get firsts) (omega arith) ∙ at in
     known kept first m like.0
@@ -60,8 +60,8 @@ long kept bytes tables m like =
     by_tables None sized = (All-head IsSized bytes [] sized).long
     by_tables (Some number) sized = (All-head IsSized bytes (drop 1 (get_or kept number [])) sized).long
 
-pub has : (kept : List (List (List ℕ))) (first : First) (m : Message) → AreLike kept first m
-    → receiver.fits m.to ≡ true → HasShortBagSpelling m → HasBagFrames m
+pub has : (kept : List (List (List ℕ))) (first : BagFirst) (m : Message) → AreLike kept first m
+    → wire_receiver.fits m.to ≡ true → HasShortBagSpelling m → HasBagFrames m
 unfolding form body
 has kept first m like to short = record {
   fits = rw (to, fields_of_message (record m { to = like.to }) like.has.fits, short.spelling.suits) refl;

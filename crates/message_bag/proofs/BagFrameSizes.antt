@@ -5,7 +5,7 @@ use Rattle.ctrl_msg.specs.declared.message.Body.{Body}
 use Rattle.ctrl_msg.specs.declared.message.Body.TheVariants.{Install, Stamp}
 use Rattle.ctrl_msg.specs.declared.message.Message.{Message}
 use Rattle.wire.specs.Fields as form
-use Rattle.wire.specs.Exports.{AreWireFramesRising, IsFrameOfCount, body, wire_chunks, wire_equal_chunks, wire_fields_fit, frame, frames, wire_frames_from, wire_first_chunk_len, message, most_of_chunk, n4, place_in_frame, receiver, wire_spelled_fields, stamp_form, wire_body_suits_receiver}
+use Rattle.wire.specs.Exports.{AreWireFramesRising, IsWireFrameOfCount, body, wire_chunks, wire_equal_chunks, wire_fields_fit, frame, frames, wire_frames_from, wire_first_chunk_len, message, most_of_wire_chunk, n4, place_in_wire_frame, wire_receiver, wire_spelled_fields, wire_stamp_form, wire_body_suits_receiver}
 use Rattle.wire.proofs.WireFrameBytes.{length_frame, place_of_frame, count_of_frame, chunk_of_frame}
 use Rattle.wire.proofs.WireSpellingCuts.{few_chunks}
 use Rattle.message_bag.specs.Exports.{HasBagFrames, bag_tables_version}
@@ -20,11 +20,11 @@ rising : (place count : ℕ) (parts : List (List ℕ)) → place + length parts 
     → AreWireFramesRising place count (wire_frames_from place count parts)
 rising place count [] all few = tt
 rising place count (part ∷ parts) all few =
-    let at : place_in_frame (frame place count part) ≡ place = place_of_frame place count part (omega arith) in
-    let of : IsFrameOfCount count (frame place count part) = record {
+    let at : place_in_wire_frame (frame place count part) ≡ place = place_of_frame place count part (omega arith) in
+    let of : IsWireFrameOfCount count (frame place count part) = record {
       below = omega arith;
       whole = ap (λ p. frame p count part) (sym at)
-          ∙ ap (frame (place_in_frame (frame place count part)) count)
+          ∙ ap (frame (place_in_wire_frame (frame place count part)) count)
           (sym (chunk_of_frame place count part));
       count_is = count_of_frame place count part few;
     } in (
@@ -56,16 +56,16 @@ record IsChunk (part : List ℕ) : Type 0 where
   pub some : 1 ≤ length part
   pub short : length part ≤ 16376
 
-slices_are : (count : ℕ) (bytes : List ℕ) → count * most_of_chunk < length bytes + most_of_chunk
-    → AllByRecursion IsChunk (wire_equal_chunks count most_of_chunk bytes)
+slices_are : (count : ℕ) (bytes : List ℕ) → count * most_of_wire_chunk < length bytes + most_of_wire_chunk
+    → AllByRecursion IsChunk (wire_equal_chunks count most_of_wire_chunk bytes)
 slices_are zero bytes enough = tt
 slices_are (suc count) bytes enough =
-    let first : IsChunk (take most_of_chunk bytes) = record {
-      some = omega (arith, length-take most_of_chunk bytes);
-      short = omega (arith, length-take most_of_chunk bytes);
+    let first : IsChunk (take most_of_wire_chunk bytes) = record {
+      some = omega (arith, length-take most_of_wire_chunk bytes);
+      short = omega (arith, length-take most_of_wire_chunk bytes);
     } in (
       first,
-      slices_are count (drop most_of_chunk bytes) (omega (arith, length-drop most_of_chunk bytes)),
+      slices_are count (drop most_of_wire_chunk bytes) (omega (arith, length-drop most_of_wire_chunk bytes)),
     )
 
 all_of : (b : Body) (bytes : List ℕ) → length (wire_spelled_fields b) ≤ 521
@@ -78,7 +78,7 @@ all_of b bytes short long = record {
 -- what fits and has no tables is short: of a stamp the version and its list
 fits_short : (b : Body) → bag_tables_version b ≡ None → wire_fields_fit b ≡ true
     → length (wire_spelled_fields b) ≤ 521
-unfolding stamp_form
+unfolding wire_stamp_form
 fits_short (Install boot t) alone fits = absurd cc
 fits_short (Stamp boot version touched) alone fits =
     let rest = (and_parts (n4.fits boot) (n4.fits version && form.touched.fits touched) fits).1 in
@@ -96,18 +96,18 @@ head_is b bytes fits long = all_of b bytes (fits_short b refl fits) long
 
 pub fields_of_message : (m : Message) → message.fits m ≡ true → wire_fields_fit m.body ≡ true
 unfolding message body
-fields_of_message m fits = (and_parts (receiver.fits m.to) (wire_fields_fit m.body)
-    (and_parts (receiver.fits m.to && wire_fields_fit m.body) (wire_body_suits_receiver m.to m.body) fits).0).1
+fields_of_message m fits = (and_parts (wire_receiver.fits m.to) (wire_fields_fit m.body)
+    (and_parts (wire_receiver.fits m.to && wire_fields_fit m.body) (wire_body_suits_receiver m.to m.body) fits).0).1
 
 chunks_are : (m : Message) → message.fits m ≡ true → AllByRecursion IsChunk (wire_chunks m)
 chunks_are m fits =
     let bytes = message.spell m in
     let rest = length bytes - wire_first_chunk_len m.body bytes in (
       head_is m.body bytes (fields_of_message m fits) (length_message m),
-      slices_are (div_ceil rest most_of_chunk) (drop (wire_first_chunk_len m.body bytes) bytes) (omega (
+      slices_are (div_ceil rest most_of_wire_chunk) (drop (wire_first_chunk_len m.body bytes) bytes) (omega (
         arith,
         length-drop (wire_first_chunk_len m.body bytes) bytes,
-        (div_ceil_times rest most_of_chunk (omega arith)).1,
+        (div_ceil_times rest most_of_wire_chunk (omega arith)).1,
       )),
     )
 

@@ -3,16 +3,16 @@ use Rattle.std.proofs.Common.{[], if◌then◌else◌, ◌∙◌, ◌≡◌, Boo
 use Rattle.ctrl_msg.specs.declared.message.Message.{Message}
 use Rattle.message_bag.proofs.BagFrameArrivals.{same_message}
 use Rattle.wire.specs.Exports.{frames, message as form}
-use Rattle.message_bag.specs.Exports.{posted_frames}
+use Rattle.message_bag.specs.Exports.{bag_posted_frames}
 
 -- of a message that has a spelling they are its frames
-pub framed_is : (m : Message) → form.fits m ≡ true → posted_frames m ≡ frames m
-unfolding posted_frames
+pub framed_is : (m : Message) → form.fits m ≡ true → bag_posted_frames m ≡ frames m
+unfolding bag_posted_frames
 framed_is m fits = rw fits refl
 
-pub known_by_frames : (m other : Message) → form.fits m ≡ true → posted_frames other
-    ≡ posted_frames m → other ≡ m
-unfolding posted_frames
+pub known_by_frames : (m other : Message) → form.fits m ≡ true → bag_posted_frames other
+    ≡ bag_posted_frames m → other ≡ m
+unfolding bag_posted_frames
 known_by_frames m other fits same = by_fit (form.fits other) refl (same ∙ framed_is m fits) where
   by_fit : (b : Bool) → form.fits other ≡ b → (if b then frames other else []) ≡ frames m
       → other ≡ m

@@ -3,7 +3,7 @@
 use Rattle.std.proofs.Common.{[], ◌+◌, ◌<◌, ◌^◌, ◌∙◌, ◌∷◌, ◌≡◌, ◌≢◌, ◌≤◌, Contains, IsSome, List, Some, ap, arith, inl, inr, le-ltb, length, lt-ltb, ltb, slice_get, subst, suc, sym, true, zero, ℕ}
 use Rattle.base.proofs.Exports.{cases_lt, same_Some, slice_get_within, some_passes}
 use Rattle.ctrl_msg.specs.declared.message.Message.{Message}
-use Rattle.wire.specs.Exports.{AreWireFramesHeld, IsRefusedFrame, wire_chunks, count_in_frame, frame, frames, wire_frames_from, frame_held_at, place_in_frame, frames_with_frame}
+use Rattle.wire.specs.Exports.{AreWireFramesHeld, IsRefusedWireFrame, wire_chunks, count_in_wire_frame, frame, frames, wire_frames_from, wire_frame_held_at, place_in_wire_frame, wire_frames_with_frame}
 use Rattle.wire.proofs.WireFrameBytes.{place_of_frame}
 use Rattle.wire.proofs.WireFramesHeld.{all_held}
 use Rattle.message_bag.specs.Exports.{HasBagFrames}
@@ -25,10 +25,10 @@ all_before m has = part_all (λ n. ltb n (length (frames m))) 0 (length (wire_ch
 -- ---- the frame of a place
 
 place_from : (place count : ℕ) (parts : List (List ℕ)) (i : ℕ) (f : List ℕ) → place + length parts ≤ count
-    → count < 2 ^ 32 → slice_get (wire_frames_from place count parts) i ≡ Some f → place_in_frame f ≡ place + i
+    → count < 2 ^ 32 → slice_get (wire_frames_from place count parts) i ≡ Some f → place_in_wire_frame f ≡ place + i
 place_from place count [] i f within few at = absurd (cc at)
 place_from place count (part ∷ parts) zero f within few at =
-    ap place_in_frame (sym (same_Some (frame place count part) f at))
+    ap place_in_wire_frame (sym (same_Some (frame place count part) f at))
     ∙ place_of_frame place count part (omega arith) ∙ omega arith
 place_from place count (part ∷ parts) (suc i) f within few at =
     place_from (place + 1) count parts i f (omega arith) few at ∙ omega arith
@@ -50,10 +50,10 @@ beside n place other = elim (cases_lt n place) [
 
 -- what comes of the frame of the next place
 pub record ComesNext (m : Message) (place : ℕ) (f : List ℕ) : Type 0 where
-  pub taken : IsRefusedFrame (frames_before m place) f → ⊥
-  pub held : frames_with_frame (frames_before m place) f ≡ frames_before m (place + 1)
-  pub some : place + 1 ≡ length (frames m) → AreWireFramesHeld (frames_before m (place + 1)) (count_in_frame f)
-  pub none : AreWireFramesHeld (frames_before m (place + 1)) (count_in_frame f) → place + 1 ≡ length (frames m)
+  pub taken : IsRefusedWireFrame (frames_before m place) f → ⊥
+  pub held : wire_frames_with_frame (frames_before m place) f ≡ frames_before m (place + 1)
+  pub some : place + 1 ≡ length (frames m) → AreWireFramesHeld (frames_before m (place + 1)) (count_in_wire_frame f)
+  pub none : AreWireFramesHeld (frames_before m (place + 1)) (count_in_wire_frame f) → place + 1 ≡ length (frames m)
 
 pub comes_next : (m : Message) (place : ℕ) (f : List ℕ) → HasBagFrames m → slice_get (frames m) place ≡ Some f
     → ComesNext m place f
@@ -69,19 +69,19 @@ comes_next m place f has at = record {
     | inr ge ↦ omega (arith, slice_get_within (frames m) place f at)
   ];
 } where
-  missing : (n : ℕ) → IsSome (frame_held_at (frames_before m n) n) → ⊥
+  missing : (n : ℕ) → IsSome (wire_frame_held_at (frames_before m n) n) → ⊥
   missing n some =
-      let passed : ltb n n ≡ true = some_passes (ltb n n) (frame_held_at (frames m) n) (subst IsSome (held_part (λ k. ltb k n) (frames m) n) some) in
+      let passed : ltb n n ≡ true = some_passes (ltb n n) (wire_frame_held_at (frames m) n) (subst IsSome (held_part (λ k. ltb k n) (frames m) n) some) in
       absurd (cc (sym passed ∙ le-ltb n n (omega arith)))
 
   one : IsOneOf m f
   one = is_one_of m f has (there (frames m) place f at)
 
-  here : place_in_frame f ≡ place
+  here : place_in_wire_frame f ≡ place
   here = place_from 0 (length (wire_chunks m)) (wire_chunks m) place f (omega arith) (few_frames m has) at
       ∙ omega arith
 
-  joined : frames_with_frame (frames_before m place) f ≡ frames_before m (place + 1)
+  joined : wire_frames_with_frame (frames_before m place) f ≡ frames_before m (place + 1)
   joined = with_part (λ n. ltb n place) (λ n. ltb n (place + 1)) 0 (length (wire_chunks m)) (frames m)
       f (frames_rise m has) one.at (λ n other. beside n place (λ e. other (e ∙ sym here)))
       (lt-ltb _ _ (omega (arith, here)))

@@ -6,10 +6,10 @@ use Rattle.ctrl_msg.specs.declared.message.Body.TheVariants.{Install}
 use Rattle.ctrl_msg.specs.declared.message.Message.{Message}
 use Rattle.ctrl_msg.specs.declared.message.Place.{Place}
 use Rattle.switch_table.specs.declared.tables.Tables.{Tables}
-use Rattle.wire.specs.Exports.{AreFrames, IsFront, chunk_in_frame, wire_chunks_behind_head, frame, frames, frames_of, wire_frames_of_version, wire_first_chunk_len, message, message_front, n4, spelled_front, wire_body_suits_receiver, tables}
+use Rattle.wire.specs.Exports.{AreWireFrames, IsWireFront, chunk_in_wire_frame, wire_chunks_behind_head, frame, frames, wire_frames_of, wire_frames_of_version, wire_first_chunk_len, message, wire_message_front, n4, wire_spelled_front, wire_body_suits_receiver, tables}
 use Rattle.wire.proofs.WireFrameBytes.{length_frame, length_n4, chunk_of_frame}
 use Rattle.wire.proofs.WireInstallationFronts.{one_front}
-use Rattle.message_bag.specs.Exports.{AreBagFramesOfInstall, AreBagFramesOfMessage, BagFramesCarryTables, frame_count, bag_install_frames, bag_table_frames, bag_tables_version}
+use Rattle.message_bag.specs.Exports.{AreBagFramesOfInstall, AreBagFramesOfMessage, BagFramesCarryTables, bag_install_frame_count, bag_install_frames, bag_table_frames, bag_tables_version}
 use Rattle.message_bag.proofs.BagFrameArrivals.{same_message}
 use Rattle.message_bag.proofs.BagTablesRestamped.{behind, fits_too, same_count}
 use Rattle.message_bag.proofs.BagInstallationSpelling.{fits_parts, fits_whole, installed, length_behind, some_behind, suits_any}
@@ -26,7 +26,7 @@ head_of b bytes alone = refl
 
 pub only_frame : (m : Message) → bag_tables_version m.body ≡ None → frames m ≡ frame 0 1 (message.spell m) ∷ []
 only_frame m alone =
-    ap frames_of (ap (λ head. wire_chunks_behind_head head (message.spell m))
+    ap wire_frames_of (ap (λ head. wire_chunks_behind_head head (message.spell m))
     (head_of m.body (message.spell m) alone) ∙ whole (message.spell m))
 
 -- ---- an installation
@@ -46,13 +46,13 @@ header_of place count chunk =
     take_at (n4.spell place ++ n4.spell count) chunk 8
     (omega (arith, length-append (n4.spell place) (n4.spell count), length_n4 place, length_n4 count))
 
-pub says : (m : Message) (fs : List (List ℕ)) (boot : ℕ) (t : Tables) → AreFrames m fs → m.body ≡ Install boot t
+pub says : (m : Message) (fs : List (List ℕ)) (boot : ℕ) (t : Tables) → AreWireFrames m fs → m.body ≡ Install boot t
     → BagFramesCarryTables t fs
 says m fs boot t are carries =
     subst (BagFramesCarryTables t) (sym (are.frames_are ∙ carried m boot t carries)) (record {
       behind = record { fits = tables_fit m boot t carries are.fits; are = refl };
       count = sym (add-one (length (bag_table_frames t))) ∙ length_behind t;
-      header = header_of 0 (frame_count t) (spelled_front m.to boot);
+      header = header_of 0 (bag_install_frame_count t) (wire_spelled_front m.to boot);
     })
 
 -- ---- the same tables under another version
@@ -85,9 +85,9 @@ pub of_message : (fs : List (List ℕ)) (first : List ℕ) → AreBagFramesOfIns
 of_message fs first of at = (of.message_is, of.has, with_first fs first at ∙ of.are)
 
 pub out_says : (fs : List (List ℕ)) (first : List ℕ) (m : Message) (boot : ℕ) (t : Tables) → slice_get fs 0 ≡ Some first
-    → AreFrames m (first ∷ drop 1 fs) → m.body ≡ Install boot t → BagFramesCarryTables t fs
+    → AreWireFrames m (first ∷ drop 1 fs) → m.body ≡ Install boot t → BagFramesCarryTables t fs
 out_says fs first m boot t at are carries =
-    says m fs boot t (subst (AreFrames m) (with_first fs first at) are) carries
+    says m fs boot t (subst (AreWireFrames m) (with_first fs first at) are) carries
 
 pub cloned_say : {E : Type 0} (N : E → Type 0) (r : Result Tables E) (t : Tables) (fs : List (List ℕ))
     → MatchResult r (λ copy. copy ≡ t) N → BagFramesCarryTables t fs → IfOk r (λ copy. BagFramesCarryTables copy fs)
@@ -96,10 +96,10 @@ cloned_say N (Err e) t fs is carry = tt
 
 -- another message doesn't come out
 pub not_alone : (fs : List (List ℕ)) (first : List ℕ) (m : Message) → AreBagFramesOfInstall fs → slice_get fs 0 ≡ Some first
-    → AreFrames m (first ∷ drop 1 fs) → bag_tables_version m.body ≡ None → ⊥
+    → AreWireFrames m (first ∷ drop 1 fs) → bag_tables_version m.body ≡ None → ⊥
 not_alone fs first m of at are alone =
     let same = same_message of.message_is m fs (record { fits = of.has.fits; frames_are = of.are })
-    (subst (AreFrames m) (with_first fs first at) are) in
+    (subst (AreWireFrames m) (with_first fs first at) are) in
     absurd (cc (ap bag_tables_version (sym (ap (λ (n : Message). n.body) same ∙ of.carries)) ∙ alone))
 
 -- ---- the first frame of an installation
@@ -136,9 +136,9 @@ first_put t fs own before with_header after chunk carry at put more =
 pub record IsInstalled (first : List ℕ) (t : Tables) : Type 0 where
   pub to : Place
   pub boot : ℕ
-  pub fits : message_front.fits (to, (1, boot)) ≡ true
+  pub fits : wire_message_front.fits (to, (1, boot)) ≡ true
   pub suits_it : wire_body_suits_receiver to (Install boot t) ≡ true
-  pub first_is : first ≡ frame 0 (frame_count t) (spelled_front to boot)
+  pub first_is : first ≡ frame 0 (bag_install_frame_count t) (wire_spelled_front to boot)
 
 lone : (m : Message) (first : List ℕ) (t : Tables) → bag_tables_version m.body ≡ None → first ∷ bag_table_frames t ≡ frames m → ⊥
 lone m first t alone are = absurd (omega (arith, ap length (are ∙ only_frame m alone), some_behind))
@@ -150,14 +150,14 @@ of_install : (to : Place) (boot : ℕ) (u : Tables) (first : List ℕ) (t : Tabl
     → message.fits (record { to = to; body = Install boot u }) ≡ true
     → first ∷ bag_table_frames t ≡ frames (record { to = to; body = Install boot u }) → IsInstalled first t
 of_install to boot u first t fits are =
-    let parts = parts_of first (frame 0 (frame_count u) (spelled_front to boot)) (bag_table_frames t) (bag_table_frames u)
+    let parts = parts_of first (frame 0 (bag_install_frame_count u) (wire_spelled_front to boot)) (bag_table_frames t) (bag_table_frames u)
     (are ∙ installed to boot u) in
     let fit = fits_parts to boot u fits in record {
       to = to;
       boot = boot;
       fits = fit.0;
       suits_it = suits_any to boot boot t u ∙ fit.2;
-      first_is = parts.0 ∙ ap (λ n. frame 0 n (spelled_front to boot)) (sym (length_behind u)
+      first_is = parts.0 ∙ ap (λ n. frame 0 n (wire_spelled_front to boot)) (sym (length_behind u)
           ∙ ap (λ (fs : List (List ℕ)). length fs + 1) (sym parts.1) ∙ length_behind t);
     }
 
@@ -170,29 +170,29 @@ is_installed : (first : List ℕ) (t : Tables) → AreBagFramesOfMessage (first 
 is_installed first t of = of_body of.0.to of.0.body first t of.1.fits of.2
 
 pub has_front : (first bytes : List ℕ) (t : Tables) → AreBagFramesOfMessage (first ∷ bag_table_frames t)
-    → bytes ≡ chunk_in_frame first → (to : Place) × (boot : ℕ) × IsFront to boot bytes
+    → bytes ≡ chunk_in_wire_frame first → (to : Place) × (boot : ℕ) × IsWireFront to boot bytes
 has_front first bytes t of is = let i = is_installed first t of in (
   i.to,
   i.boot,
   record {
     fits = i.fits;
-    spelled = cc (is, i.first_is, chunk_of_frame 0 (frame_count t) (spelled_front i.to i.boot));
+    spelled = cc (is, i.first_is, chunk_of_frame 0 (bag_install_frame_count t) (wire_spelled_front i.to i.boot));
   },
 )
 
 pub again_installed : (first bytes : List ℕ) (t : Tables) (to : Place) (boot : ℕ) → AreBagFramesOfMessage (first ∷ bag_table_frames t)
-    → tables.fits t ≡ true → bytes ≡ chunk_in_frame first → IsFront to boot bytes
-    → AreFrames (record { to = to; body = Install boot t }) (first ∷ bag_table_frames t)
+    → tables.fits t ≡ true → bytes ≡ chunk_in_wire_frame first → IsWireFront to boot bytes
+    → AreWireFrames (record { to = to; body = Install boot t }) (first ∷ bag_table_frames t)
 unfolding has_front is_installed
 again_installed first bytes t to boot of fits is front_is =
     let i = is_installed first t of in
-    let whole : AreFrames (record { to = i.to; body = Install i.boot t }) (first ∷ bag_table_frames t) = record {
+    let whole : AreWireFrames (record { to = i.to; body = Install i.boot t }) (first ∷ bag_table_frames t) = record {
       fits = fits_whole i.to i.boot t i.fits fits i.suits_it;
       frames_are = ap (λ f. f ∷ bag_table_frames t) i.first_is ∙ sym (installed i.to i.boot t);
     } in
-    subst (λ (p : Place × ℕ). AreFrames (record { to = p.0; body = Install p.1 t }) (first ∷ bag_table_frames t))
+    subst (λ (p : Place × ℕ). AreWireFrames (record { to = p.0; body = Install p.1 t }) (first ∷ bag_table_frames t))
     (one_front bytes i.to to i.boot boot (has_front first bytes t of is).2 front_is) whole
 
 pub long_installed : (first : List ℕ) (t : Tables) → AreBagFramesOfMessage (first ∷ bag_table_frames t) → 8 ≤ length first
 long_installed first t of = let i = is_installed first t of in
-    omega (arith, ap length i.first_is, length_frame 0 (frame_count t) (spelled_front i.to i.boot))
+    omega (arith, ap length i.first_is, length_frame 0 (bag_install_frame_count t) (wire_spelled_front i.to i.boot))

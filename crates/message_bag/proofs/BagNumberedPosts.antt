@@ -2,19 +2,19 @@
 use Rattle.std.proofs.Common.{[], if◌then◌else◌, ◌++◌, ◌+◌, ◌==◌, ◌∙◌, ◌∷◌, ◌≡◌, All, Err, IfSome, IsErr, List, None, Ok, Option, Result, Some, add-one, ap, arith, length, length-set, map, option_map, refl, set, slice_get, suc, zero, ℕ}
 use Rattle.base.proofs.Exports.{All-push, get_push_at, get_push_left, get_pushed, get_set_found, length-map, map_push, option_map_or, slice_get-map, slice_get_within}
 use Prim.Native.Nat.compare.{suc-suc}
-use Rattle.message_bag.specs.Exports.{HasPosted, item_numbered, bag_with_changed}
+use Rattle.message_bag.specs.Exports.{HasPosted, bag_item_numbered, bag_with_changed}
 
 -- one more gets the next number; the others stay
 pub numbered_pushed : {X : Type 0} (xs : List X) (x : X) (number : ℕ)
-    → item_numbered (xs ++ x ∷ []) number
-    ≡ (if number == length xs + 1 then Some x else item_numbered xs number)
+    → bag_item_numbered (xs ++ x ∷ []) number
+    ≡ (if number == length xs + 1 then Some x else bag_item_numbered xs number)
 numbered_pushed xs x zero = grind arith
 numbered_pushed xs x (suc place) = rw (add-one, suc-suc) (get_pushed xs x place)
 
 -- a change is of one number; the others stay
 pub numbered_changed : {X : Type 0} (change : X → X) (xs : List X) (changed number : ℕ)
-    → item_numbered (bag_with_changed change xs changed) number ≡ (if number == changed
-    then option_map change (item_numbered xs number) else item_numbered xs number)
+    → bag_item_numbered (bag_with_changed change xs changed) number ≡ (if number == changed
+    then option_map change (bag_item_numbered xs number) else bag_item_numbered xs number)
 numbered_changed change xs zero zero = grind arith
 numbered_changed change xs zero (suc place) = grind arith
 numbered_changed change xs (suc at) zero = grind arith
@@ -32,7 +32,7 @@ length_changed change xs (suc place) = by_one (slice_get xs place) where
 
 -- what each one gives
 pub numbered_map : {X Y : Type 0} (f : X → Y) (xs : List X) (number : ℕ)
-    → item_numbered (map f xs) number ≡ option_map f (item_numbered xs number)
+    → bag_item_numbered (map f xs) number ≡ option_map f (bag_item_numbered xs number)
 numbered_map f xs zero = refl
 numbered_map f xs (suc place) = get_map xs place where
   get_map : (xs : List _) (i : ℕ) → slice_get (map f xs) i ≡ option_map f (slice_get xs i)
@@ -64,13 +64,13 @@ module _ {X E : Type 0} (x : X) (old new : List X) where
 
   -- what had a number still has it
   pub still_numbered : (y : X) (number : ℕ) (r : Result ℕ E) → HasPosted r x old new
-      → item_numbered old number ≡ Some y → item_numbered new number ≡ Some y
+      → bag_item_numbered old number ≡ Some y → bag_item_numbered new number ≡ Some y
   still_numbered y zero r post is = absurd cc
   still_numbered y (suc place) (Ok number) post is =
       rw post.posted (get_push_left old x place (slice_get_within old place y is) ∙ is)
   still_numbered y (suc place) (Err e) post is = rw post.unchanged is
 
-  pub last_numbered : (number : ℕ) → HasPosted {E = E} (Ok number) x old new → item_numbered new number ≡ Some x
+  pub last_numbered : (number : ℕ) → HasPosted {E = E} (Ok number) x old new → bag_item_numbered new number ≡ Some x
   last_numbered zero post = absurd (omega (arith, post.number))
   last_numbered (suc place) post = rw post.posted (get_push_at old x place (omega (arith, post.number)))
 

@@ -3,20 +3,20 @@ use Rattle.std.proofs.Common.{[], ◌++◌, ◌-◌, ◌∙◌, ◌∷◌, ◌�
 use Rattle.base.proofs.Exports.{IfSome-at_place, slice_get-map}
 use Rattle.ctrl_msg.specs.declared.message.Message.{Message}
 use Rattle.message_bag.proofs.BagNumberedPosts.{all_posted, mapped_again, still_numbered}
-use Rattle.message_bag.specs.Exports.{AreBagKeptFrames, AreAdvertsPostedInBag, First, HasPosted, IsPostLike, IsAdvertPostedInBag, bag_frames_in, item_numbered, posted_frames}
+use Rattle.message_bag.specs.Exports.{AreBagKeptFrames, AreAdvertsPostedInBag, BagFirst, HasPosted, IsBagPostLike, IsAdvertPostedInBag, bag_frames_in, bag_item_numbered, bag_posted_frames}
 use Rattle.message_bag.specs.declared.sharing_bag.PostedAdvert.{PostedAdvert}
 
 -- ---- a message once more
 
-module _ {E : Type 0} (kept : List (List (List ℕ))) (firsts longer : List First) (bag : List (List (List ℕ)))
+module _ {E : Type 0} (kept : List (List (List ℕ))) (firsts longer : List BagFirst) (bag : List (List (List ℕ)))
     (r : Result ℕ E) (view : map (bag_frames_in kept) firsts ≡ bag) where
   pub repeated : (number : ℕ) → IfSome (slice_get firsts (number - 1)) (λ first. HasPosted r first firsts longer)
-      → IfSome (item_numbered bag number) (λ fs. HasPosted r fs bag (map (bag_frames_in kept) longer))
+      → IfSome (bag_item_numbered bag number) (λ fs. HasPosted r fs bag (map (bag_frames_in kept) longer))
   repeated zero again = tt
   repeated (suc place) again = let same : suc place - 1 ≡ place = omega arith in
       mapped_again (bag_frames_in kept) firsts longer bag place r view (rw same at again)
 
-  pub repeated_kept : (number : ℕ) → IsSome (item_numbered bag number)
+  pub repeated_kept : (number : ℕ) → IsSome (bag_item_numbered bag number)
       → IfSome (slice_get firsts (number - 1)) (λ first. HasPosted r first firsts longer)
       → All (AreBagKeptFrames kept) firsts → All (AreBagKeptFrames kept) longer
   repeated_kept zero is again all = absurd cc
@@ -24,7 +24,7 @@ module _ {E : Type 0} (kept : List (List (List ℕ))) (firsts longer : List Firs
       by_one (slice_get firsts place) refl (rw same at again)
       (subst (λ b. IsSome (slice_get b place)) (sym view) is)
     where
-      by_one : (o : Option First) → slice_get firsts place ≡ o → IfSome o (λ first. HasPosted r first firsts longer)
+      by_one : (o : Option BagFirst) → slice_get firsts place ≡ o → IfSome o (λ first. HasPosted r first firsts longer)
           → IsSome (slice_get (map (bag_frames_in kept) firsts) place) → All (AreBagKeptFrames kept) longer
       by_one None at post is = absurd (cc (is, slice_get-map (bag_frames_in kept) firsts place, at))
       by_one (Some first) at post is = all_posted first firsts longer (AreBagKeptFrames kept) r post all
@@ -39,13 +39,13 @@ pub adverts_posted : {E : Type 0} (r : Result ℕ E) (more : List (List ℕ)) (b
 adverts_posted r more bag longer adverts post posted = λ place. by_one (get_or adverts place None) (posted place) where
   by_one : (o : Option PostedAdvert) → IsAdvertPostedInBag bag o → IsAdvertPostedInBag longer o
   by_one None is = tt
-  by_one (Some last) is = still_numbered more bag longer (posted_frames last.message) last.number r post is
+  by_one (Some last) is = still_numbered more bag longer (bag_posted_frames last.message) last.number r post is
 
 pub again_posted : {E : Type 0} (r : Result ℕ E) (bag longer : List (List (List ℕ))) (adverts : List (Option PostedAdvert))
     (place : ℕ) (last : PostedAdvert) → AreAdvertsPostedInBag bag adverts → get_or adverts place None ≡ Some last
-    → IfSome (item_numbered bag last.number) (λ fs. HasPosted r fs bag longer) → AreAdvertsPostedInBag longer adverts
+    → IfSome (bag_item_numbered bag last.number) (λ fs. HasPosted r fs bag longer) → AreAdvertsPostedInBag longer adverts
 again_posted r bag longer adverts place last posted there again =
-    adverts_posted r (posted_frames last.message) bag longer adverts
+    adverts_posted r (bag_posted_frames last.message) bag longer adverts
     (rw (subst (IsAdvertPostedInBag bag) there (posted place)) at again) posted
 
 -- those of more places
@@ -67,10 +67,10 @@ one_set bag (a ∷ adverts) (suc place) o posted is (suc k) =
 -- the message of an advert that says the same, perhaps to another receiver
 pub likened : (bag : List (List (List ℕ))) (adverts : List (Option PostedAdvert)) (place : ℕ) (last : PostedAdvert) (m : Message)
     → AreAdvertsPostedInBag bag adverts → get_or adverts place None ≡ Some last → last.message.body ≡ m.body
-    → IsPostLike bag last.number m
+    → IsBagPostLike bag last.number m
 likened bag adverts place last m posted there same =
     let is : IsAdvertPostedInBag bag (Some last) = subst (IsAdvertPostedInBag bag) there (posted place) in
-    (last.message.to, is ∙ ap (λ b. Some (posted_frames (record { to = last.message.to; body = b }))) same)
+    (last.message.to, is ∙ ap (λ b. Some (bag_posted_frames (record { to = last.message.to; body = b }))) same)
 
 -- to the same receiver it is the same
 pub same_advert : (one other : Message) → one.to ≡ other.to → one.body ≡ other.body → one ≡ other

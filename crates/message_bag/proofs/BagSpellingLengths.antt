@@ -11,15 +11,15 @@ use Rattle.policy_rules.specs.declared.policy.Action.{Action}
 use Rattle.policy_rules.specs.declared.policy.Action.TheVariants.{Drop, Out}
 use Rattle.switch_table.specs.declared.tables.Tables.{Tables}
 use Rattle.ternary.specs.Exports.{WordValue}
-use Rattle.wire.specs.Exports.{acknowledgement, action, advert, body, boot_and_version, cache_rule_form, hello, install_form, kind_number, message, n1, n16, n4, n8, receiver, rule_name, wire_spelled_fields, wire_spelled_number, stamp_form, switch, tables, touched, wire_touched_count, word}
+use Rattle.wire.specs.Exports.{wire_acknowledgement, action, advert, body, wire_boot_and_version, wire_cache_rule_form, hello, wire_install_form, wire_kind_number, message, n1, n16, n4, n8, wire_receiver, wire_rule_name, wire_spelled_fields, wire_spelled_number, wire_stamp_form, switch, tables, touched, wire_touched_count, word}
 use Rattle.wire.proofs.WireFrameBytes.{length_n4}
 
-pub length_receiver : (to : Place) → length (receiver.spell to) ≡ 1
-unfolding receiver switch n1 wire_spelled_number
+pub length_receiver : (to : Place) → length (wire_receiver.spell to) ≡ 1
+unfolding wire_receiver switch n1 wire_spelled_number
 length_receiver (Switch s) = refl
 length_receiver Controller = refl
 
-pub length_kind : (b : Body) → length (n1.spell (kind_number b)) ≡ 1
+pub length_kind : (b : Body) → length (n1.spell (wire_kind_number b)) ≡ 1
 unfolding n1 wire_spelled_number
 length_kind b = refl
 
@@ -28,8 +28,8 @@ pub length_message : (m : Message) → length (message.spell m) ≡ 2 + length (
 unfolding message body
 length_message m = omega (
   arith,
-  length-append (receiver.spell m.to) (n1.spell (kind_number m.body) ++ wire_spelled_fields m.body),
-  length-append (n1.spell (kind_number m.body)) (wire_spelled_fields m.body),
+  length-append (wire_receiver.spell m.to) (n1.spell (wire_kind_number m.body) ++ wire_spelled_fields m.body),
+  length-append (n1.spell (wire_kind_number m.body)) (wire_spelled_fields m.body),
   length_receiver m.to,
   length_kind m.body,
 )
@@ -40,12 +40,12 @@ is_alone (Install _ _) = false
 is_alone (Stamp _ _ _) = false
 is_alone _ = true
 
-two_numbers : (a b : ℕ) → length (boot_and_version.spell (a, b)) ≡ 8
-unfolding boot_and_version n4 wire_spelled_number
+two_numbers : (a b : ℕ) → length (wire_boot_and_version.spell (a, b)) ≡ 8
+unfolding wire_boot_and_version n4 wire_spelled_number
 two_numbers a b = refl
 
-three_numbers : (s a b : ℕ) → length (acknowledgement.spell (s, (a, b))) ≡ 9
-unfolding acknowledgement boot_and_version switch n1 n4 wire_spelled_number
+three_numbers : (s a b : ℕ) → length (wire_acknowledgement.spell (s, (a, b))) ≡ 9
+unfolding wire_acknowledgement wire_boot_and_version switch n1 n4 wire_spelled_number
 three_numbers s a b = refl
 
 told : (s a : ℕ) → length (hello.spell (s, a)) ≡ 5
@@ -60,8 +60,8 @@ pub word_len : (w : WordValue) → length (word.spell w) ≡ 32
 unfolding word n16 n8 wire_spelled_number
 word_len w = refl
 
-pub rule_len : (o : Option ℕ) → length (rule_name.spell o) ≤ 5
-unfolding rule_name n1 n4 wire_spelled_number
+pub rule_len : (o : Option ℕ) → length (wire_rule_name.spell o) ≤ 5
+unfolding wire_rule_name n1 n4 wire_spelled_number
 rule_len None = omega arith
 rule_len (Some n) = omega arith
 
@@ -71,13 +71,13 @@ action_len Drop = omega arith
 action_len (Out port) = omega arith
 
 rule_fields : (version : ℕ) (w : WordValue) (rule : Option ℕ) (act : Action)
-    → length (cache_rule_form.spell (version, (w, (rule, act)))) ≤ 46
-unfolding cache_rule_form
+    → length (wire_cache_rule_form.spell (version, (w, (rule, act)))) ≤ 46
+unfolding wire_cache_rule_form
 rule_fields version w rule act = omega (
   arith,
-  length-append (n4.spell version) (word.spell w ++ (rule_name.spell rule ++ action.spell act)),
-  length-append (word.spell w) (rule_name.spell rule ++ action.spell act),
-  length-append (rule_name.spell rule) (action.spell act),
+  length-append (n4.spell version) (word.spell w ++ (wire_rule_name.spell rule ++ action.spell act)),
+  length-append (word.spell w) (wire_rule_name.spell rule ++ action.spell act),
+  length-append (wire_rule_name.spell rule) (action.spell act),
   length_n4 version,
   word_len w,
   rule_len rule,
@@ -127,7 +127,7 @@ touched_len list few = omega (
 
 pub stamp_short : (boot version : ℕ) (list : List WordValue) → length list ≤ 16
     → length (wire_spelled_fields (Stamp boot version list)) ≤ 521
-unfolding stamp_form
+unfolding wire_stamp_form
 stamp_short boot version list few = omega (
   arith,
   length-append (n4.spell boot) (n4.spell version ++ touched.spell list),
@@ -139,7 +139,7 @@ stamp_short boot version list few = omega (
 
 -- of an installation there is the boot
 pub install_long : (boot : ℕ) (t : Tables) → 4 ≤ length (wire_spelled_fields (Install boot t))
-unfolding install_form
+unfolding wire_install_form
 install_long boot t = omega (arith, length-append (n4.spell boot) (tables.spell t), length_n4 boot)
 
 -- so a message without tables is short

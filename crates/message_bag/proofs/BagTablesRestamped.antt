@@ -4,9 +4,9 @@ use Rattle.base.proofs.Exports.{and_parts, div_ceil, div_ceil_times, drop-append
 use Rattle.ctrl_msg.specs.declared.message.Place.{Place}
 use Rattle.ctrl_msg.specs.declared.message.Body.TheVariants.{Install}
 use Rattle.switch_table.specs.declared.tables.Tables.{Tables}
-use Rattle.wire.specs.Exports.{wire_equal_chunks, frame, frames, wire_frames_from, wire_frames_of_version, wire_list_of, most_of_chunk, n4, partition, region, spelled_front, tables}
+use Rattle.wire.specs.Exports.{wire_equal_chunks, frame, frames, wire_frames_from, wire_frames_of_version, wire_list_of, most_of_wire_chunk, n4, partition, region, wire_spelled_front, tables}
 use Rattle.wire.proofs.WireFrameBytes.{length_n4}
-use Rattle.message_bag.specs.Exports.{frame_count, bag_table_chunks, bag_table_frames}
+use Rattle.message_bag.specs.Exports.{bag_install_frame_count, bag_table_chunks, bag_table_frames}
 use Rattle.message_bag.proofs.BagInstallationSpelling.{installed}
 
 -- ---- the chunks
@@ -21,25 +21,25 @@ spelled t = refl
 
 -- the chunks behind the first one
 abbrev others : List ℕ → List (List ℕ)
-others rest = wire_equal_chunks (div_ceil (4 + length rest) most_of_chunk - 1) most_of_chunk
+others rest = wire_equal_chunks (div_ceil (4 + length rest) most_of_wire_chunk - 1) most_of_wire_chunk
     (drop 16372 rest)
 
 begin : (head rest : List ℕ) → length head ≡ 4
-    → wire_equal_chunks (div_ceil (length (head ++ rest)) most_of_chunk) most_of_chunk (head ++ rest)
+    → wire_equal_chunks (div_ceil (length (head ++ rest)) most_of_wire_chunk) most_of_wire_chunk (head ++ rest)
     ≡ (head ++ take 16372 rest) ∷ others rest
 begin head rest len =
     let bytes = head ++ rest in
     let long : length bytes ≡ 4 + length rest = omega (arith, length-append head rest) in
-    let some : div_ceil (length bytes) most_of_chunk
-    ≡ suc (div_ceil (4 + length rest) most_of_chunk - 1) =
-    omega (arith, ap (λ n. div_ceil n most_of_chunk) long, div_ceil_times) in
-    let whole : most_of_chunk ≡ length head + 16372 = omega arith in
+    let some : div_ceil (length bytes) most_of_wire_chunk
+    ≡ suc (div_ceil (4 + length rest) most_of_wire_chunk - 1) =
+    omega (arith, ap (λ n. div_ceil n most_of_wire_chunk) long, div_ceil_times) in
+    let whole : most_of_wire_chunk ≡ length head + 16372 = omega arith in
     let first = ap (λ n. take n bytes) whole ∙ take-append-add head rest 16372 in
-    ap (λ count. wire_equal_chunks count most_of_chunk bytes) some
-    ∙ ap (λ f. f ∷ wire_equal_chunks (div_ceil (4 + length rest) most_of_chunk - 1) most_of_chunk
-    (drop most_of_chunk bytes)) first
+    ap (λ count. wire_equal_chunks count most_of_wire_chunk bytes) some
+    ∙ ap (λ f. f ∷ wire_equal_chunks (div_ceil (4 + length rest) most_of_wire_chunk - 1) most_of_wire_chunk
+    (drop most_of_wire_chunk bytes)) first
     ∙ ap (λ bytes. (head ++ take 16372 rest)
-    ∷ wire_equal_chunks (div_ceil (4 + length rest) most_of_chunk - 1) most_of_chunk bytes)
+    ∷ wire_equal_chunks (div_ceil (4 + length rest) most_of_wire_chunk - 1) most_of_wire_chunk bytes)
     (ap (λ n. drop n bytes) whole ∙ drop-append-add head rest 16372)
 
 chunks_are : (t : Tables) → bag_table_chunks t ≡ (n4.spell t.version ++ take 16372 (rows t))
@@ -48,15 +48,15 @@ chunks_are t = cc (spelled t, begin (n4.spell t.version) (rows t) (length_n4 t.v
 
 -- ---- the frames
 
-count_is : (t : Tables) → frame_count t ≡ suc (length (others (rows t))) + 1
+count_is : (t : Tables) → bag_install_frame_count t ≡ suc (length (others (rows t))) + 1
 count_is t = ap (λ (parts : List (List ℕ)). length parts + 1) (chunks_are t)
 
-pub same_count : (version : ℕ) (t : Tables) → frame_count (record t { version = version }) ≡ frame_count t
+pub same_count : (version : ℕ) (t : Tables) → bag_install_frame_count (record t { version = version }) ≡ bag_install_frame_count t
 same_count version t = count_is (record t { version = version }) ∙ sym (count_is t)
 
 frames_are : (t : Tables) → bag_table_frames t
-    ≡ frame 1 (frame_count t) (n4.spell t.version ++ take 16372 (rows t)) ∷ wire_frames_from 2 (frame_count t) (others (rows t))
-frames_are t = ap (wire_frames_from 1 (frame_count t)) (chunks_are t)
+    ≡ frame 1 (bag_install_frame_count t) (n4.spell t.version ++ take 16372 (rows t)) ∷ wire_frames_from 2 (bag_install_frame_count t) (others (rows t))
+frames_are t = ap (wire_frames_from 1 (bag_install_frame_count t)) (chunks_are t)
 
 -- a frame whose chunk begins with other bytes
 pub replaced : (place count : ℕ) (head new rest : List ℕ) (end : ℕ) → end ≡ 8 + length head
@@ -79,7 +79,7 @@ replaced place count head new rest end is =
 pub behind : (version : ℕ) (first : List ℕ) (t : Tables)
     → wire_frames_of_version version (first ∷ bag_table_frames t) ≡ first ∷ bag_table_frames (record t { version = version })
 behind version first t =
-    let count = frame_count t in
+    let count = bag_install_frame_count t in
     let rest = take 16372 (rows t) in
     let last = wire_frames_from 2 count (others (rows t)) in
     ap (λ fs. wire_frames_of_version version (first ∷ fs)) (frames_are t)
@@ -92,8 +92,8 @@ pub of_another_version : (to : Place) (boot version : ℕ) (t : Tables)
     ≡ wire_frames_of_version version (frames (record { to = to; body = Install boot t }))
 of_another_version to boot version t =
     installed to boot (record t { version = version })
-    ∙ ap (λ n. frame 0 n (spelled_front to boot) ∷ bag_table_frames (record t { version = version })) (same_count version t)
-    ∙ sym (behind version (frame 0 (frame_count t) (spelled_front to boot)) t)
+    ∙ ap (λ n. frame 0 n (wire_spelled_front to boot) ∷ bag_table_frames (record t { version = version })) (same_count version t)
+    ∙ sym (behind version (frame 0 (bag_install_frame_count t) (wire_spelled_front to boot)) t)
     ∙ ap (wire_frames_of_version version) (sym (installed to boot t))
 
 -- ---- which tables have a spelling

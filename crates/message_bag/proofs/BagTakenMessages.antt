@@ -1,7 +1,7 @@
 -- What is taken out of the frames is the message of the number.
 use Rattle.std.proofs.Common.{◌<◌, ◌↔◌, ◌∙◌, ◌≡◌, ◌⊎◌, Err, IfOk, IfSome, IsNone, List, None, Ok, Option, Result, Some, ap, arith, inl, inr, is_some, length, refl, sym, true, zip, ℕ}
 use Rattle.ctrl_msg.specs.declared.message.Message.{Message}
-use Rattle.message_bag.specs.Exports.{IsBagMessageOf, IsPostedInBag, is_post_deliverable}
+use Rattle.message_bag.specs.Exports.{IsBagMessageOf, IsPostedInBag, is_bag_post_deliverable}
 use Rattle.wire.specs.Exports.{frames}
 use Rattle.message_bag.specs.Deliveries as statuses
 use Rattle.message_bag.specs.declared.deliveries.MessageState.{MessageState}
@@ -14,7 +14,7 @@ module _ {E : Type 0} (all : List (List (List ℕ))) (states : List MessageState
   -- a message that isn't forgotten is there
   pub found_known : (r : Result (Option Message) E)
       → IfOk r (λ answer. IsNone answer ↔ ((number ≡ 0) ⊎ (length all < number)))
-      → IfOk r (λ answer. is_some answer ≡ is_post_deliverable (zip all states) number)
+      → IfOk r (λ answer. is_some answer ≡ is_bag_post_deliverable (zip all states) number)
   found_known (Err error) none = tt
   found_known (Ok (Some message)) none = sym is ∙ deliverable_same all states number same
   found_known (Ok None) none = let within = deliverable_within states number is in

@@ -2,21 +2,21 @@
 use Rattle.std.proofs.Common.{[], if◌then◌else◌, ◌++◌, ◌+◌, ◌-◌, ◌<◌, ◌==◌, ◌^◌, ◌∙◌, ◌∷◌, ◌≡◌, ◌≤◌, Bool, IsTrue, List, None, Option, Some, ap, arith, cond, eq-eqb, false, find, get_or, inl, inr, length, length-append, max, ne_eqb, option_map, refl, set, slice_get, subst, suc, sym, take, true, zero, ℕ}
 use Rattle.base.proofs.Exports.{cases_eq, cases_lt, common_steps, get_or_from_slice_get, option_map_or, range_with_len, take-append_seam}
 use Rattle.message_bag.proofs.BagNumberedPosts.{length_changed, numbered_changed, numbered_pushed}
-use Rattle.message_bag.specs.Exports.{AreBagMessagesPassed, IsFirstWaiting, is_deliverable, is_waiting, item_numbered, may_be_delivered, next_waiting, bag_waiting_status, waits, bag_with_changed}
+use Rattle.message_bag.specs.Exports.{AreBagMessagesPassed, IsFirstWaitingInBag, is_deliverable, is_waiting, bag_item_numbered, bag_post_may_be_delivered, next_waiting, bag_waiting_status, bag_post_waits, bag_with_changed}
 use Rattle.message_bag.specs.declared.deliveries.MessageState.{MessageState}
 
-waits_as : (statuses after : List MessageState) (number : ℕ) (b : Bool) → item_numbered after number
-    ≡ item_numbered statuses number → is_waiting statuses number ≡ b → is_waiting after number ≡ b
-waits_as statuses after number b same is = ap (λ o. option_map_or waits o false) same ∙ is
+waits_as : (statuses after : List MessageState) (number : ℕ) (b : Bool) → bag_item_numbered after number
+    ≡ bag_item_numbered statuses number → is_waiting statuses number ≡ b → is_waiting after number ≡ b
+waits_as statuses after number b same is = ap (λ o. option_map_or bag_post_waits o false) same ∙ is
 
 status_before : (statuses : List MessageState) (status : MessageState) (number : ℕ) → number ≤ length statuses
-    → item_numbered (statuses ++ status ∷ []) number ≡ item_numbered statuses number
+    → bag_item_numbered (statuses ++ status ∷ []) number ≡ bag_item_numbered statuses number
 status_before statuses status number within = numbered_pushed statuses status number
-    ∙ ap (λ b. cond b (Some status) (item_numbered statuses number))
+    ∙ ap (λ b. cond b (Some status) (bag_item_numbered statuses number))
     (ne_eqb number (length statuses + 1) (λ same. absurd (omega arith)))
 
 status_last : (statuses : List MessageState) (status : MessageState) (number : ℕ) → number ≡ length statuses + 1
-    → item_numbered (statuses ++ status ∷ []) number ≡ Some status
+    → bag_item_numbered (statuses ++ status ∷ []) number ≡ Some status
 status_last statuses status number last =
     cc (numbered_pushed statuses status number, eq-eqb number (length statuses + 1) last)
 
@@ -31,7 +31,7 @@ pushed_passed passed statuses few are =
       here = λ below. elim (cases_lt passed (length statuses)) [
         | inl within ↦ waits_as statuses after (passed + 1) true
             (status_before statuses bag_waiting_status (passed + 1) (omega arith)) (are.here within)
-        | inr past ↦ ap (λ o. option_map_or waits o false)
+        | inr past ↦ ap (λ o. option_map_or bag_post_waits o false)
             (status_last statuses bag_waiting_status (passed + 1) (omega arith))
       ];
       none = λ number below. waits_as statuses after number false
@@ -55,7 +55,7 @@ taken_back passed statuses are =
     let within : passed ≤ length statuses = elim (cases_lt (length statuses) passed) [
       | inl past ↦ absurd (let last : is_waiting (statuses ++ bag_waiting_status ∷ [])
           (length statuses + 1)
-          ≡ true = ap (λ o. option_map_or waits o false)
+          ≡ true = ap (λ o. option_map_or bag_post_waits o false)
           (status_last statuses bag_waiting_status (length statuses + 1) refl) in
           let not_last = are.none (length statuses + 1) (omega (arith, past)) in cc)
       | inr within ↦ within
@@ -72,14 +72,14 @@ taken_back passed statuses are =
 
 -- after a change by which a message waits no more, nothing waits that didn't before
 still_none : (change : MessageState → MessageState) (statuses : List MessageState) (changed number : ℕ)
-    → ((status : MessageState) → waits (change status) ≡ false) → is_waiting statuses number ≡ false
+    → ((status : MessageState) → bag_post_waits (change status) ≡ false) → is_waiting statuses number ≡ false
     → is_waiting (bag_with_changed change statuses changed) number ≡ false
 still_none change statuses changed number still none =
-    ap (λ o. option_map_or waits o false) (numbered_changed change statuses changed number)
-    ∙ by_status (number == changed) (item_numbered statuses number) none
+    ap (λ o. option_map_or bag_post_waits o false) (numbered_changed change statuses changed number)
+    ∙ by_status (number == changed) (bag_item_numbered statuses number) none
   where
-    by_status : (b : Bool) (o : Option MessageState) → option_map_or waits o false ≡ false
-        → option_map_or waits (if b then option_map change o else o) false ≡ false
+    by_status : (b : Bool) (o : Option MessageState) → option_map_or bag_post_waits o false ≡ false
+        → option_map_or bag_post_waits (if b then option_map change o else o) false ≡ false
     by_status true None before = refl
     by_status true (Some status) before = still status
     by_status false o before = before
@@ -91,7 +91,7 @@ changed_place : (change : MessageState → MessageState) (statuses : List Messag
 changed_place change statuses place status is here = by_status (slice_get statuses place) refl is
   where
     by_status : (o : Option MessageState) → slice_get statuses place ≡ o
-        → IsTrue (option_map_or may_be_delivered o false)
+        → IsTrue (option_map_or bag_post_may_be_delivered o false)
         → set statuses place (change status) ≡ option_map_or (λ p. set statuses place (change p)) o statuses
     by_status None at none = absurd (cc)
     by_status (Some found) at some = ap (λ p. set statuses place (change p))
@@ -115,10 +115,10 @@ changed_from change before statuses number status is same here = changed_at chan
 -- the messages up to the first that waits have been passed
 pub changed_passed : (change : MessageState → MessageState) (passed number first : ℕ)
     → (before statuses seen : List MessageState) (status : MessageState)
-    → ((status : MessageState) → waits (change status) ≡ false) → AreBagMessagesPassed passed before
+    → ((status : MessageState) → bag_post_waits (change status) ≡ false) → AreBagMessagesPassed passed before
     → IsTrue (is_deliverable statuses number) → before ≡ statuses
     → status ≡ get_or before (number - 1) status
-    → seen ≡ set before (number - 1) (change status) → IsFirstWaiting seen passed first
+    → seen ≡ set before (number - 1) (change status) → IsFirstWaitingInBag seen passed first
     → AreBagMessagesPassed first (set before (number - 1) (change status))
 changed_passed change passed number first before statuses seen status still are there same here
     sees found =
@@ -127,8 +127,8 @@ changed_passed change passed number first before statuses seen status still are 
     ap (λ statuses. set statuses (number - 1) (change status)) same
     ∙ changed_from change before statuses number status there same here in
     let long = ap length changed ∙ length_changed change statuses number ∙ sym (ap length same) in
-    let is : IsFirstWaiting after passed first =
-    subst (λ statuses. IsFirstWaiting statuses passed first) sees found in record {
+    let is : IsFirstWaitingInBag after passed first =
+    subst (λ statuses. IsFirstWaitingInBag statuses passed first) sees found in record {
       few = omega (arith, are.few);
       within = is.within (omega (arith, are.within));
       here = is.here;
@@ -171,16 +171,16 @@ not_found p from (suc n) none =
 pub record IsSearched (statuses : List MessageState) (passed from start place : ℕ) : Type 0 where
   pub are : AreBagMessagesPassed passed statuses
   pub begins : start ≡ max (from - 1) passed
-  pub first : IsFirstWaiting statuses start place
+  pub first : IsFirstWaitingInBag statuses start place
 
 -- by whatever name the statuses go
 pub searched : {inside now seen : List MessageState} {passed start place : ℕ} (from : ℕ) → AreBagMessagesPassed passed inside
-    → start ≡ max (from - 1) passed → IsFirstWaiting seen start place → inside ≡ now → seen ≡ inside
+    → start ≡ max (from - 1) passed → IsFirstWaitingInBag seen start place → inside ≡ now → seen ≡ inside
     → IsSearched now passed from start place
 searched {passed = passed} {start = start} {place = place} from are begins first same sees = record {
   are = subst (AreBagMessagesPassed passed) same are;
   begins = begins;
-  first = subst (λ statuses. IsFirstWaiting statuses start place) (sees ∙ same) first;
+  first = subst (λ statuses. IsFirstWaitingInBag statuses start place) (sees ∙ same) first;
 }
 
 -- the search misses nothing

@@ -2,7 +2,7 @@
 -- carries: each is delivered any number of times, in any order, until it is forgotten.
 use Rattle.std.specs.Prelude.{◌&&◌, ◌+◌, ◌-◌, ◌<◌, ◌^◌, ◌≡◌, ◌≤◌, Bool, List, Option, false, find, length, not, true, ℕ}
 use Rattle.base.specs.Exports.{option_map_or, range_with_len}
-use Rattle.message_bag.specs.Numbered.{item_numbered}
+use Rattle.message_bag.specs.Numbered.{bag_item_numbered}
 use Rattle.message_bag.specs.declared.deliveries.MessageState.{MessageState}
 
 -- the status of a message that is posted now
@@ -15,20 +15,20 @@ bag_delivered_status status = record status { delivered = true }
 abbrev pub bag_forgotten_status : MessageState → MessageState
 bag_forgotten_status status = record status { forgotten = true }
 
-abbrev pub may_be_delivered : MessageState → Bool
-may_be_delivered status = not status.forgotten
+abbrev pub bag_post_may_be_delivered : MessageState → Bool
+bag_post_may_be_delivered status = not status.forgotten
 
-abbrev pub waits : MessageState → Bool
-waits status = not status.delivered && not status.forgotten
+abbrev pub bag_post_waits : MessageState → Bool
+bag_post_waits status = not status.delivered && not status.forgotten
 
 -- the number was posted, and isn't forgotten
 abbrev pub is_deliverable : List MessageState → ℕ → Bool
-is_deliverable statuses number = option_map_or may_be_delivered (item_numbered statuses number)
+is_deliverable statuses number = option_map_or bag_post_may_be_delivered (bag_item_numbered statuses number)
     false
 
 -- the number was posted, was never delivered, and isn't forgotten
 abbrev pub is_waiting : List MessageState → ℕ → Bool
-is_waiting statuses number = option_map_or waits (item_numbered statuses number) false
+is_waiting statuses number = option_map_or bag_post_waits (bag_item_numbered statuses number) false
 
 -- the least number at or above `from` of a message that waits
 abbrev pub next_waiting : List MessageState → ℕ → Option ℕ
@@ -44,7 +44,7 @@ pub record AreBagMessagesPassed (passed : ℕ) (statuses : List MessageState) : 
   pub none : (number : ℕ) → number ≤ passed → is_waiting statuses number ≡ false
 
 -- the place is the least at or above `from` whose message waits, or the end if none waits
-pub record IsFirstWaiting (statuses : List MessageState) (from : ℕ) (place : ℕ) : Type 0 where
+pub record IsFirstWaitingInBag (statuses : List MessageState) (from : ℕ) (place : ℕ) : Type 0 where
   pub above : from ≤ place
   pub within : from ≤ length statuses → place ≤ length statuses
   pub here : place < length statuses → is_waiting statuses (place + 1) ≡ true

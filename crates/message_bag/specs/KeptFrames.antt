@@ -4,7 +4,7 @@ use Rattle.ctrl_msg.specs.declared.message.Body.{Body}
 use Rattle.ctrl_msg.specs.declared.message.Body.TheVariants.{Install}
 use Rattle.ctrl_msg.specs.declared.message.Message.{Message}
 use Rattle.message_bag.specs.Feeding.{HasBagFrames, HasShortBagSpelling}
-use Rattle.message_bag.specs.Installing.{AreBagFramesBehindFirst, frame_count}
+use Rattle.message_bag.specs.Installing.{AreBagFramesBehindFirst, bag_install_frame_count}
 use Rattle.switch_table.specs.declared.tables.Tables.{Tables}
 use Rattle.wire.specs.Exports.{frames, message, n4}
 use Rattle.message_bag.specs.declared.firsts.Span.{Span}
@@ -26,18 +26,18 @@ IsBagInstallOf m tables = HasShortBagSpelling m × ((boot : ℕ) × (m.body ≡ 
 -- ---- how they are kept
 
 -- a first frame, and the number of kept frames that have the others, if there are others
-abbrev pub First : Type 0
-First = List ℕ × Option ℕ
+abbrev pub BagFirst : Type 0
+BagFirst = List ℕ × Option ℕ
 
 -- the first frame at a span of the bytes of all first frames
-abbrev pub first_in : List ℕ → Span → First
-first_in bytes span = (take span.len (drop span.start bytes), span.tables)
+abbrev pub bag_first_frame_in : List ℕ → Span → BagFirst
+bag_first_frame_in bytes span = (take span.len (drop span.start bytes), span.tables)
 
-abbrev pub IsWithin : List ℕ → Span → Type 0
-IsWithin bytes span = span.start + span.len ≤ length bytes
+abbrev pub IsBagSpanWithin : List ℕ → Span → Type 0
+IsBagSpanWithin bytes span = span.start + span.len ≤ length bytes
 
 -- all frames of a message: its own first one, and the kept ones after their first
-abbrev pub bag_frames_in : List (List (List ℕ)) → First → List (List ℕ)
+abbrev pub bag_frames_in : List (List (List ℕ)) → BagFirst → List (List ℕ)
 bag_frames_in kept (first, None) = first ∷ []
 bag_frames_in kept (first, Some number) = first ∷ drop 1 (get_or kept number [])
 
@@ -49,7 +49,7 @@ IsBagNumberThere kept (Some number) = number < length kept
 abbrev pub AreBagFramesOfMessage : List (List ℕ) → Type 0
 AreBagFramesOfMessage fs = (m : Message) × HasBagFrames m × (fs ≡ frames m)
 
-pub record AreBagKeptFrames (kept : List (List (List ℕ))) (first : First) : Type 0 where
+pub record AreBagKeptFrames (kept : List (List (List ℕ))) (first : BagFirst) : Type 0 where
   pub there : IsBagNumberThere kept first.1
   pub are : AreBagFramesOfMessage (bag_frames_in kept first)
 
@@ -65,8 +65,8 @@ pub record AreBagFramesOfInstall (fs : List (List ℕ)) : Type 0 where
 -- these are the frames of an installation of these tables, whatever its receiver and its boot
 pub record BagFramesCarryTables (t : Tables) (fs : List (List ℕ)) : Type 0 where
   pub behind : AreBagFramesBehindFirst t fs
-  pub count : length fs ≡ frame_count t
-  pub header : take 8 (get_or fs 0 []) ≡ n4.spell 0 ++ n4.spell (frame_count t)
+  pub count : length fs ≡ bag_install_frame_count t
+  pub header : take 8 (get_or fs 0 []) ≡ n4.spell 0 ++ n4.spell (bag_install_frame_count t)
 
 -- these are the frames of an installation of these tables under some version
 pub record BagFramesCarryRows (t : Tables) (fs : List (List ℕ)) : Type 0 where

@@ -3,9 +3,9 @@ use Rattle.std.specs.Prelude.{[], ◌++◌, ◌+◌, ◌∷◌, ◌≡◌, IfOk,
 use Rattle.base.specs.Exports.{option_map_or}
 
 -- the item of a number
-abbrev pub item_numbered : {X : Type 0} → List X → ℕ → Option X
-item_numbered xs zero = None
-item_numbered xs (suc place) = slice_get xs place
+abbrev pub bag_item_numbered : {X : Type 0} → List X → ℕ → Option X
+bag_item_numbered xs zero = None
+bag_item_numbered xs (suc place) = slice_get xs place
 
 -- the items with that of a number changed, if there is one
 abbrev pub bag_with_changed : {X : Type 0} → (X → X) → List X → ℕ → List X

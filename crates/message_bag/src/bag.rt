@@ -3,8 +3,8 @@ ghost use Rattle.ctrl_msg.specs.declared.message.Body.TheVariants.{Install};
 ghost use Rattle.wire.specs.Messages.{message as form};
 ghost use Rattle.message_bag.specs.KeptFrames.{IsPostedInBag, bag_tables_version};
 ghost use Rattle.message_bag.specs.Feeding.{HasShortBagSpelling};
-ghost use Rattle.message_bag.specs.Numbered.{HasPosted, item_numbered};
-ghost use Rattle.message_bag.specs.Posts.{IsPostLike, posted_frames};
+ghost use Rattle.message_bag.specs.Numbered.{HasPosted, bag_item_numbered};
+ghost use Rattle.message_bag.specs.Posts.{IsBagPostLike, bag_posted_frames};
 
 use crate::firsts::Firsts;
 use crate::reading::{bag_message_of_frame, tables_of};
@@ -56,7 +56,7 @@ impl Bag {
         requires spelling { HasShortBagSpelling message.now }
         requires few { length self.old < 2 ^ 32 - 1 }
         ensures fits { OnOk result (form.fits message.now ≡ true) }
-        ensures posted { HasPosted result (posted_frames message.now) self.old self.new }
+        ensures posted { HasPosted result (bag_posted_frames message.now) self.old self.new }
     {
         let alloc = *self.tables.allocator();
         match tables_of(&message.body) {
@@ -71,9 +71,9 @@ impl Bag {
     /// # Errors
     /// Only out of memory; then nothing changes.
     pub fn repeat(&mut self, number: u32) -> Result<u32, AllocError>
-        requires there { IsSome (item_numbered self.old number) }
+        requires there { IsSome (bag_item_numbered self.old number) }
         requires few { length self.old < 2 ^ 32 - 1 }
-        ensures posted { IfSome (item_numbered self.old number)
+        ensures posted { IfSome (bag_item_numbered self.old number)
             (λ frames. HasPosted result frames self.old self.new) }
     {
         self.firsts.repeat(number as usize - 1)
@@ -87,10 +87,10 @@ impl Bag {
     /// then nothing changes.
     pub fn post_like(&mut self, message: &Message, number: u32) -> Result<u32, AllocError>
         requires spelling { HasShortBagSpelling message.now }
-        requires like { IsPostLike self.old number message.now }
+        requires like { IsBagPostLike self.old number message.now }
         requires few { length self.old < 2 ^ 32 - 1 }
         ensures fits { OnOk result (form.fits message.now ≡ true) }
-        ensures posted { HasPosted result (posted_frames message.now) self.old self.new }
+        ensures posted { HasPosted result (bag_posted_frames message.now) self.old self.new }
     {
         let Some((frame, tables)) = self.firsts.get(number as usize - 1) else {
             unreachable!();
@@ -108,7 +108,7 @@ impl Bag {
         requires few { length self.old < 2 ^ 32 - 1 }
         requires message_of_frame { bag_tables_version message.now.body ≡ None }
         ensures fits { OnOk result (form.fits message.now ≡ true) }
-        ensures posted { HasPosted result (posted_frames message.now) self.old self.new }
+        ensures posted { HasPosted result (bag_posted_frames message.now) self.old self.new }
     {
         self.scratch.clear();
         self.scratch.extend_from_slice(&[0, 0, 0, 0, 0, 0, 0, 1])?;
@@ -128,7 +128,7 @@ impl Bag {
         requires few { length self.old < 2 ^ 32 - 1 }
         requires carries { message.now.body ≡ Install boot tables.now }
         ensures fits { OnOk result (form.fits message.now ≡ true) }
-        ensures posted { HasPosted result (posted_frames message.now) self.old self.new }
+        ensures posted { HasPosted result (bag_posted_frames message.now) self.old self.new }
     {
         let number = spell_bag_install(
             &mut self.tables,

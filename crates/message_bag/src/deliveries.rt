@@ -1,7 +1,7 @@
 #![tactic(auto, using(crate::proofs::BagWaitingStatuses::changed_from))]
 
 ghost use Rattle.std.specs.Prelude.{◌≡◌, ◌<◌, ◌+◌, ◌-◌, ◌^◌, [], ◌∷◌, ◌++◌, List, length, IsTrue, OnOk, OnErr};
-ghost use Rattle.message_bag.specs.Deliveries.{bag_delivered_status, bag_forgotten_status, is_deliverable, may_be_delivered, next_waiting, bag_waiting_status, waits, IsFirstWaiting};
+ghost use Rattle.message_bag.specs.Deliveries.{bag_delivered_status, bag_forgotten_status, is_deliverable, bag_post_may_be_delivered, next_waiting, bag_waiting_status, bag_post_waits, IsFirstWaitingInBag};
 ghost use Rattle.message_bag.specs.Numbered.{bag_with_changed};
 ghost use Rattle.message_bag.specs.declared.deliveries.MessageState.{MessageState};
 
@@ -30,7 +30,7 @@ impl MessageState {
 
     // Whether it was never delivered and isn't forgotten.
     fn waits(self) -> bool
-        ensures { result ≡ waits self }
+        ensures { result ≡ bag_post_waits self }
     {
         !self.delivered && !self.forgotten
     }
@@ -148,7 +148,7 @@ impl Deliveries {
 // messages, or this place if it is greater.
 fn first_waiting_message(statuses: &[MessageState], from: u32) -> u32
     requires { length statuses.now < 2 ^ 32 }
-    ensures { IsFirstWaiting statuses.now from result }
+    ensures { IsFirstWaitingInBag statuses.now from result }
 {
     for place in from..statuses.len() as u32 {
         if statuses[place as usize].waits() {

@@ -32,13 +32,13 @@ pub struct Firsts {
 
 impl Model for Firsts {
     ghost use Rattle.std.specs.Prelude.{List, Option, All, map};
-    ghost use Rattle.message_bag.specs.KeptFrames.{First, IsWithin, first_in};
+    ghost use Rattle.message_bag.specs.KeptFrames.{BagFirst, IsBagSpanWithin, bag_first_frame_in};
 
-    ghost Value = { List First };
+    ghost Value = { List BagFirst };
 
-    ghost view = { λ f. map (first_in f.bytes.items) f.spans.items };
+    ghost view = { λ f. map (bag_first_frame_in f.bytes.items) f.spans.items };
 
-    ghost invariant = { λ f. All (IsWithin f.bytes.items) f.spans.items };
+    ghost invariant = { λ f. All (IsBagSpanWithin f.bytes.items) f.spans.items };
 }
 
 impl Firsts {

@@ -4,8 +4,8 @@ ghost use Rattle.ctrl_msg.specs.declared.message.Body.TheVariants.{Install};
 ghost use Rattle.ctrl_msg.specs.declared.message.Message.{Message};
 ghost use Rattle.ctrl_msg.specs.declared.message.Place.{Place};
 ghost use Rattle.switch_table.specs.declared.tables.Tables.{Tables};
-ghost use Rattle.wire.specs.Assembly.{AreWireFramesHeld, IsRefusedFrame};
-ghost use Rattle.wire.specs.Frames.{AreFrames, count_in_frame, frames, wire_frames_of_receiver, wire_frames_of_version};
+ghost use Rattle.wire.specs.Assembly.{AreWireFramesHeld, IsRefusedWireFrame};
+ghost use Rattle.wire.specs.Frames.{AreWireFrames, count_in_wire_frame, frames, wire_frames_of_receiver, wire_frames_of_version};
 ghost use Rattle.message_bag.specs.Feeding.{AreBagFramesAllFed, AreBagFramesOf, HasBagFrames, bag_frames_held_after};
 ghost use Rattle.message_bag.specs.Installing.{bag_install_frames};
 
@@ -17,17 +17,17 @@ ghost use Rattle.message_bag.specs.Installing.{bag_install_frames};
 /// message then and at each repeat.
 pub fn bag_frames_in_any_order()
     ensures taken { (m : Message) (f : List ℕ) (fed : List (List ℕ)) → HasBagFrames m
-        → AreBagFramesOf m (f ∷ fed) → IsRefusedFrame (bag_frames_held_after fed) f → ⊥ }
+        → AreBagFramesOf m (f ∷ fed) → IsRefusedWireFrame (bag_frames_held_after fed) f → ⊥ }
     ensures all_held { (m : Message) (f : List ℕ) (fed : List (List ℕ)) → HasBagFrames m
         → AreBagFramesOf m (f ∷ fed)
-        → (AreWireFramesHeld (bag_frames_held_after (f ∷ fed)) (count_in_frame f) ↔ AreBagFramesAllFed m (f ∷ fed)) }
+        → (AreWireFramesHeld (bag_frames_held_after (f ∷ fed)) (count_in_wire_frame f) ↔ AreBagFramesAllFed m (f ∷ fed)) }
     ensures whole { (m : Message) (fed : List (List ℕ)) → HasBagFrames m → AreBagFramesOf m fed
         → AreBagFramesAllFed m fed → bag_frames_held_after fed ≡ frames m }
 {}
 
 /// Frames belong to at most one message.
 pub fn bag_frames_have_one_message()
-    ensures { (m other : Message) (fs : List (List ℕ)) → AreFrames m fs → AreFrames other fs
+    ensures { (m other : Message) (fs : List (List ℕ)) → AreWireFrames m fs → AreWireFrames other fs
         → other ≡ m }
 {}
 

@@ -1,6 +1,6 @@
 ghost use Rattle.std.specs.Prelude.{◌≡◌, ◌<◌, ◌-◌, ◌^◌, [], length, is_some, IsTrue, IfOk, IfSome};
 ghost use Rattle.message_bag.specs.Numbered.{HasPosted};
-ghost use Rattle.message_bag.specs.Posts.{IsBagMessageOf, is_post_deliverable, next_waiting_post, new_post, bag_returned_number, posts_with_delivered, posts_with_forgotten};
+ghost use Rattle.message_bag.specs.Posts.{IsBagMessageOf, is_bag_post_deliverable, next_waiting_bag_post, new_bag_post, bag_returned_number, bag_posts_with_delivered, bag_posts_with_forgotten};
 ghost use Rattle.message_bag.specs.Feeding.{HasShortBagSpelling};
 
 use crate::deliveries::Deliveries;
@@ -57,7 +57,7 @@ impl PostBag {
         requires spelling { HasShortBagSpelling message }
         requires few { length self.old < 2 ^ 32 - 1 }
         ensures message { IfOk result (λ both. both.1 ≡ message) }
-        ensures posted { HasPosted (bag_returned_number result) (new_post message) self.old self.new }
+        ensures posted { HasPosted (bag_returned_number result) (new_bag_post message) self.old self.new }
     {
         self.deliveries.add()?;
         match self.frames.post_shared(alloc, message) {
@@ -83,7 +83,7 @@ impl PostBag {
     /// # Errors
     /// Only out of memory.
     pub fn get(&self, number: u32) -> Result<Option<Message>, AllocError>
-        ensures found { IfOk result (λ answer. is_some answer ≡ is_post_deliverable self.now number) }
+        ensures found { IfOk result (λ answer. is_some answer ≡ is_bag_post_deliverable self.now number) }
         ensures message { IfOk result (λ answer. IfSome answer (IsBagMessageOf self.now number)) }
     {
         if self.may_be_delivered(number) {
@@ -96,7 +96,7 @@ impl PostBag {
     /// Whether a message of this number was posted and isn't forgotten.
     #[tactic(auto, using(crate::proofs::BagFramesByStatus::deliverable_same))]
     pub fn may_be_delivered(&self, number: u32) -> bool
-        ensures { result ≡ is_post_deliverable self.now number }
+        ensures { result ≡ is_bag_post_deliverable self.now number }
     {
         self.deliveries.may_be_delivered(number)
     }
@@ -104,8 +104,8 @@ impl PostBag {
     /// Notes that the message of this number was delivered, perhaps again.
     #[tactic(auto, using(crate::proofs::BagFramesByStatus::deliverable_same))]
     pub fn deliver(&mut self, number: u32)
-        requires { IsTrue (is_post_deliverable self.old number) }
-        ensures { self.new ≡ posts_with_delivered self.old number }
+        requires { IsTrue (is_bag_post_deliverable self.old number) }
+        ensures { self.new ≡ bag_posts_with_delivered self.old number }
     {
         self.deliveries.deliver(number);
     }
@@ -113,8 +113,8 @@ impl PostBag {
     /// Forgets the message of this number: it is never delivered again.
     #[tactic(auto, using(crate::proofs::BagFramesByStatus::deliverable_same))]
     pub fn forget(&mut self, number: u32)
-        requires { IsTrue (is_post_deliverable self.old number) }
-        ensures { self.new ≡ posts_with_forgotten self.old number }
+        requires { IsTrue (is_bag_post_deliverable self.old number) }
+        ensures { self.new ≡ bag_posts_with_forgotten self.old number }
     {
         self.deliveries.forget(number);
     }
@@ -122,7 +122,7 @@ impl PostBag {
     /// The least number at or above `from` of a message that was never delivered and isn't
     /// forgotten; `None` exactly if there is none.
     pub fn next_waiting(&self, from: u32) -> Option<u32>
-        ensures { result ≡ next_waiting_post self.now from }
+        ensures { result ≡ next_waiting_bag_post self.now from }
     {
         self.deliveries.next_waiting(from)
     }

@@ -2,9 +2,9 @@
 ghost use Rattle.std.specs.Prelude.{◌≡◌, ◌∷◌, ◌↔◌, ℕ, [], None, drop, IfOk, IfSome, IsNone, IsSome, OnOk};
 ghost use Rattle.ctrl_msg.specs.declared.message.Body.TheVariants.{Install};
 ghost use Rattle.ctrl_msg.specs.declared.message.Place.{Place};
-ghost use Rattle.wire.specs.Assembly.{AreWireFramesHeld, IsRefusedFrame, frames_with_frame};
-ghost use Rattle.wire.specs.Frames.{AreFrames, count_in_frame};
-ghost use Rattle.wire.specs.Messages.{IsFront};
+ghost use Rattle.wire.specs.Assembly.{AreWireFramesHeld, IsRefusedWireFrame, wire_frames_with_frame};
+ghost use Rattle.wire.specs.Frames.{AreWireFrames, count_in_wire_frame};
+ghost use Rattle.wire.specs.Messages.{IsWireFront};
 ghost use Rattle.message_bag.specs.KeptFrames.{AreBagFramesOfInstall, AreBagFramesOfMessage, BagFramesCarryTables, bag_tables_version};
 
 use ctrl_msg::{Body, Message, Place, SharedTables};
@@ -17,7 +17,7 @@ use wire::{Assembler, Frames, HEADER_LEN, WireError, decode, decode_front};
 /// Only out of memory.
 pub fn bag_message_of_frame(alloc: Global, frame: &[u8]) -> Result<Message, AllocError>
     requires { AreBagFramesOfMessage (frame.now ∷ []) }
-    ensures { IfOk result (λ message. AreFrames message (frame.now ∷ [])) }
+    ensures { IfOk result (λ message. AreWireFrames message (frame.now ∷ [])) }
 {
     match decode(alloc, &frame[HEADER_LEN..]) {
         Ok(message) => Ok(message),
@@ -28,11 +28,11 @@ pub fn bag_message_of_frame(alloc: Global, frame: &[u8]) -> Result<Message, Allo
 
 // Feeds the assembler with a frame that it doesn't refuse.
 fn feed(assembler: &mut Assembler, frame: &[u8]) -> Result<Option<Message>, AllocError>
-    requires { IsRefusedFrame assembler.old frame.now → ⊥ }
-    ensures held { OnOk result (assembler.new ≡ frames_with_frame assembler.old frame.now) }
+    requires { IsRefusedWireFrame assembler.old frame.now → ⊥ }
+    ensures held { OnOk result (assembler.new ≡ wire_frames_with_frame assembler.old frame.now) }
     ensures some { IfOk result (λ answer.
-        IsSome answer ↔ AreWireFramesHeld assembler.new (count_in_frame frame.now)) }
-    ensures message { IfOk result (λ answer. IfSome answer (λ m. AreFrames m assembler.new)) }
+        IsSome answer ↔ AreWireFramesHeld assembler.new (count_in_wire_frame frame.now)) }
+    ensures message { IfOk result (λ answer. IfSome answer (λ m. AreWireFrames m assembler.new)) }
 {
     match assembler.feed(frame) {
         Ok(answer) => Ok(answer),
@@ -48,7 +48,7 @@ fn assembled_bag_message(
     frames: &Frames,
 ) -> Result<Message, AllocError>
     requires { AreBagFramesOfMessage (first.now ∷ drop 1 frames.now) }
-    ensures { IfOk result (λ message. AreFrames message (first.now ∷ drop 1 frames.now)) }
+    ensures { IfOk result (λ message. AreWireFrames message (first.now ∷ drop 1 frames.now)) }
 {
     let mut assembler = Assembler::new(alloc);
     let mut frame = first;
@@ -98,8 +98,8 @@ pub fn tables_in_bag_frames(alloc: Global, frames: &Frames) -> Result<SharedTabl
 /// # Errors
 /// Only out of memory.
 pub fn read_bag_install_front(alloc: Global, front: &[u8]) -> Result<(Place, u32), AllocError>
-    requires { (to : Place) × (boot : ℕ) × IsFront to boot front.now }
-    ensures { IfOk result (λ read. IsFront read.0 read.1 front.now) }
+    requires { (to : Place) × (boot : ℕ) × IsWireFront to boot front.now }
+    ensures { IfOk result (λ read. IsWireFront read.0 read.1 front.now) }
 {
     match decode_front(alloc, front) {
         Ok(read) => Ok(read),

@@ -3,7 +3,7 @@
 ghost use Rattle.std.specs.Prelude.{◌≡◌, ◌<◌, ◌-◌, ◌^◌, [], ℕ, None, Some, get_or, length, IfOk, IfSome, IsTrue, OnOk};
 ghost use Rattle.message_bag.specs.Feeding.{HasShortBagSpelling};
 ghost use Rattle.message_bag.specs.Numbered.{HasPosted};
-ghost use Rattle.message_bag.specs.Posts.{posted_frames, bag_returned_number};
+ghost use Rattle.message_bag.specs.Posts.{bag_posted_frames, bag_returned_number};
 ghost use Rattle.message_bag.specs.Sharing.{AreAdvertsPostedInBag};
 
 use crate::bag::Bag;
@@ -74,7 +74,7 @@ impl SharingBag {
         requires spelling { HasShortBagSpelling message }
         requires few { length self.old < 2 ^ 32 - 1 }
         ensures message { IfOk result (λ both. both.1 ≡ message) }
-        ensures posted { HasPosted (bag_returned_number result) (posted_frames message) self.old self.new }
+        ensures posted { HasPosted (bag_returned_number result) (bag_posted_frames message) self.old self.new }
     {
         let Some(place) = bag_place_of_advert(&message) else {
             let shared = Shared::new(alloc, message)?;
@@ -101,7 +101,7 @@ impl SharingBag {
         requires place { place < 4160 }
         requires spelling { HasShortBagSpelling message.now }
         requires few { length self.old < 2 ^ 32 - 1 }
-        ensures { HasPosted result (posted_frames message.now) self.old self.new }
+        ensures { HasPosted result (bag_posted_frames message.now) self.old self.new }
     {
         let shared = message.clone()?;
         make_bag_advert_place(&mut self.last, place)?;
@@ -127,7 +127,7 @@ fn post_new_bag_advert(
     requires adverts { AreAdvertsPostedInBag bag.old adverts.old.items }
     requires spelling { HasShortBagSpelling advert.now }
     requires few { length bag.old < 2 ^ 32 - 1 }
-    ensures posted { HasPosted result (posted_frames advert.now) bag.old bag.new }
+    ensures posted { HasPosted result (bag_posted_frames advert.now) bag.old bag.new }
     ensures adverts { AreAdvertsPostedInBag bag.new adverts.new.items }
     ensures as_many { length adverts.new.items ≡ length adverts.old.items }
 {

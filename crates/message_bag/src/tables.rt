@@ -2,9 +2,9 @@
 ghost use Rattle.std.specs.Prelude.{◌≡◌, ◌<◌, ◌++◌, ◌∷◌, [], Some, true, drop, get_or, length, IfOk, IfSome, IsTrue, OnOk};
 ghost use Rattle.ctrl_msg.specs.declared.message.Body.TheVariants.{Install};
 ghost use Rattle.switch_table.specs.declared.tables.Tables.{Tables};
-ghost use Rattle.wire.specs.Frames.{AreFrames, frame, frames};
+ghost use Rattle.wire.specs.Frames.{AreWireFrames, frame, frames};
 ghost use Rattle.message_bag.specs.Feeding.{HasShortBagSpelling};
-ghost use Rattle.wire.specs.Messages.{IsWirePlace, message_front, message as form, spelled_front};
+ghost use Rattle.wire.specs.Messages.{IsWirePlace, wire_message_front, message as form, wire_spelled_front};
 ghost use Rattle.message_bag.specs.KeptFrames.{AreBagFramesOfMessage, IsBagGrown, IsBagInstallOf, BagFramesCarryRows, BagFramesCarryTables, bag_frames_in};
 
 use crate::digest::bag_tables_digest_of;
@@ -95,9 +95,9 @@ impl BagTableFrames {
     // the boot are its own.
     fn put_first(&self, out: &mut Vec<u8>, to: Place, boot: u32) -> Result<(), AllocError>
         requires { IsWirePlace to }
-        ensures fits { OnOk result (message_front.fits (to, (1, boot)) ≡ true) }
+        ensures fits { OnOk result (wire_message_front.fits (to, (1, boot)) ≡ true) }
         ensures put { OnOk result (out.new.items
-            ≡ out.old.items ++ frame 0 (length self.now) (spelled_front to boot)) }
+            ≡ out.old.items ++ frame 0 (length self.now) (wire_spelled_front to boot)) }
     {
         match self.frames.get(0) {
             Some(own) => out.extend_from_slice(own.split_at(HEADER_LEN).0)?,
@@ -113,7 +113,7 @@ impl BagTableFrames {
     pub fn message(&self, alloc: Global, first: &[u8]) -> Result<Message, AllocError>
         requires { AreBagFramesOfMessage (first.now ∷ drop 1 self.now) }
         ensures { IfOk result (λ message.
-            AreFrames message (first.now ∷ drop 1 self.now)) }
+            AreWireFrames message (first.now ∷ drop 1 self.now)) }
     {
         let tables = self.said.clone()?;
         let (to, boot) = read_bag_install_front(alloc, &first[HEADER_LEN..])?;

@@ -2,7 +2,7 @@
 use Rattle.std.proofs.Common.{[], ◌++◌, ◌+◌, ◌<◌, ◌==◌, ◌||◌, ◌∙◌, ◌∷◌, ◌≡◌, ◌≢◌, ◌≤◌, Bool, List, add-one, ap, append-nil, append_assoc, arith, cond, drop, drop_of_length-le, false, filter, get_or, length, length-take-le, map, ne_eqb, not, refl, remove, set, suc, sym, take, take_all, true, zero, ℕ}
 use Rattle.base.proofs.Exports.{drop_at_item, drop_set, filter-append, list_any, map-append, nat_tests, or_assoc, range_with_len, remove-set, seam_at, take_more_set}
 use Rattle.policy_rules.specs.declared.packet.Leaving.{Leaving}
-use Rattle.meters.specs.Exports.{IsMeterNoted, PortLeavings, Seen, has_ended, is_meter_ended_within, meter_port_leavings, meter_with_leavings, meters_after}
+use Rattle.meters.specs.Exports.{IsMeterNoted, MeterPortLeavings, SeenMeter, meter_has_ended, is_meter_ended_within, meter_port_leavings, meter_with_leavings, meters_after}
 use Rattle.meters.specs.declared.meter.Stay.TheVariants as stay
 
 -- ---- the moments of one meter
@@ -14,20 +14,20 @@ list_any-shift f h same from (suc count) =
     ap (λ now. now || list_any f (range_with_len (from + 1 + 1) count)) (same from)
     ∙ ap (λ rest. h from || rest) (list_any-shift f h same (from + 1) count)
 
-holding-append : (left more : List Leaving) (meter : Seen)
+holding-append : (left more : List Leaving) (meter : SeenMeter)
     → meter_with_leavings (left ++ more) meter ≡ meter_with_leavings more (meter_with_leavings left meter)
 holding-append left more meter =
     ap (λ held. record meter { held = held }) (sym (append_assoc meter.held left more))
 
-is_over_within-cons : (one : Leaving) (more : List Leaving) (meter : Seen)
+is_over_within-cons : (one : Leaving) (more : List Leaving) (meter : SeenMeter)
     → is_meter_ended_within (one ∷ more) meter
-    ≡ (has_ended (meter_with_leavings (one ∷ []) meter) || is_meter_ended_within more (meter_with_leavings (one ∷ []) meter))
-is_over_within-cons one more meter = ap (λ rest. has_ended (meter_with_leavings (one ∷ []) meter) || rest)
-    (list_any-shift (λ k. has_ended (meter_with_leavings (take k (one ∷ more)) meter))
-    (λ k. has_ended (meter_with_leavings (take k more) (meter_with_leavings (one ∷ []) meter))) (λ k. rw add-one
-    (ap has_ended (holding-append (one ∷ []) (take k more) meter))) 1 (length more))
+    ≡ (meter_has_ended (meter_with_leavings (one ∷ []) meter) || is_meter_ended_within more (meter_with_leavings (one ∷ []) meter))
+is_over_within-cons one more meter = ap (λ rest. meter_has_ended (meter_with_leavings (one ∷ []) meter) || rest)
+    (list_any-shift (λ k. meter_has_ended (meter_with_leavings (take k (one ∷ more)) meter))
+    (λ k. meter_has_ended (meter_with_leavings (take k more) (meter_with_leavings (one ∷ []) meter))) (λ k. rw add-one
+    (ap meter_has_ended (holding-append (one ∷ []) (take k more) meter))) 1 (length more))
 
-is_over_within-append : (left more : List Leaving) (meter : Seen)
+is_over_within-append : (left more : List Leaving) (meter : SeenMeter)
     → is_meter_ended_within (left ++ more) meter
     ≡ (is_meter_ended_within left meter || is_meter_ended_within more (meter_with_leavings left meter))
 is_over_within-append [] more meter =
@@ -38,23 +38,23 @@ is_over_within-append (one ∷ left) more meter =
     let same : meter_with_leavings (one ∷ left) meter ≡ meter_with_leavings left now =
     holding-append (one ∷ []) left meter in
     is_over_within-cons one (left ++ more) meter
-    ∙ ap (λ rest. has_ended now || rest) (is_over_within-append left more now)
-    ∙ sym (or_assoc (has_ended now) (is_meter_ended_within left now) then)
+    ∙ ap (λ rest. meter_has_ended now || rest) (is_over_within-append left more now)
+    ∙ sym (or_assoc (meter_has_ended now) (is_meter_ended_within left now) then)
     ∙ ap (λ before. before || then) (sym (is_over_within-cons one left meter))
     ∙ ap (λ held. is_meter_ended_within (one ∷ left) meter || is_meter_ended_within more held) (sym same)
 
-meter_port_leavings-append : (port : ℕ) (left more : PortLeavings)
+meter_port_leavings-append : (port : ℕ) (left more : MeterPortLeavings)
     → meter_port_leavings port (left ++ more) ≡ meter_port_leavings port left ++ meter_port_leavings port more
 meter_port_leavings-append port left more = rw (filter-append, map-append)
 
 -- ---- lists of meters
 
-pub kept-append : (left : PortLeavings) (some others : List Seen)
+pub kept-append : (left : MeterPortLeavings) (some others : List SeenMeter)
     → meters_after left (some ++ others) ≡ meters_after left some ++ meters_after left others
 unfolding meters_after
 kept-append left some others = rw (filter-append, map-append)
 
-pub kept-nothing : (meters : List Seen) → meters_after [] meters ≡ meters
+pub kept-nothing : (meters : List SeenMeter) → meters_after [] meters ≡ meters
 unfolding meters_after
 kept-nothing [] = refl
 kept-nothing (meter ∷ meters) =
@@ -63,25 +63,25 @@ kept-nothing (meter ∷ meters) =
     ap (λ first. first ∷ meters_after [] meters) now
     ∙ ap (λ rest. meter ∷ rest) (kept-nothing meters)
 
-map-cond : (f : Seen → Seen) (meter : Seen) (over : Bool)
+map-cond : (f : SeenMeter → SeenMeter) (meter : SeenMeter) (over : Bool)
     → map f (cond (not over) (meter ∷ []) []) ≡ cond over [] (f meter ∷ [])
 map-cond f meter true = refl
 map-cond f meter false = refl
 
-pub kept-one : (left : PortLeavings) (meter : Seen)
+pub kept-one : (left : MeterPortLeavings) (meter : SeenMeter)
     → meters_after left (meter ∷ []) ≡ cond (is_meter_ended_within (meter_port_leavings meter.port left) meter) []
     (meter_with_leavings (meter_port_leavings meter.port left) meter ∷ [])
 unfolding meters_after
 kept-one left meter = map-cond (λ m. meter_with_leavings (meter_port_leavings m.port left) m) meter
     (is_meter_ended_within (meter_port_leavings meter.port left) meter)
 
-map-chosen : {M : Type 0} (seen : M → Seen) (first : M) (chosen : Bool) (some : List M)
-    → (others : List Seen) → map seen some ≡ others
+map-chosen : {M : Type 0} (seen : M → SeenMeter) (first : M) (chosen : Bool) (some : List M)
+    → (others : List SeenMeter) → map seen some ≡ others
     → map seen (cond chosen (first ∷ some) some) ≡ cond chosen (seen first ∷ others) others
 map-chosen seen first true some others same = ap (λ rest. seen first ∷ rest) same
 map-chosen seen first false some others same = same
 
-pub map-filter : {M : Type 0} (seen : M → Seen) (test : Seen → Bool) (meters : List M)
+pub map-filter : {M : Type 0} (seen : M → SeenMeter) (test : SeenMeter → Bool) (meters : List M)
     → map seen (filter (λ m. test (seen m)) meters) ≡ filter test (map seen meters)
 map-filter seen test [] = refl
 map-filter seen test (meter ∷ meters) =
@@ -92,25 +92,25 @@ map-filter seen test (meter ∷ meters) =
 same : (port other : ℕ) → other ≡ port → (port == other) ≡ true
 same port other equal = grind (arith, nat_tests)
 
-leavings_here : (port : ℕ) (leaving : Leaving) (meter : Seen) → meter.port ≡ port
+leavings_here : (port : ℕ) (leaving : Leaving) (meter : SeenMeter) → meter.port ≡ port
     → meter_port_leavings meter.port ((port, leaving) ∷ []) ≡ leaving ∷ []
 leavings_here port leaving meter here =
     ap (λ test. map (λ (one : ℕ × Leaving). one.1) (cond test ((port, leaving) ∷ []) []))
     (same port meter.port here)
 
-leavings_elsewhere : (port : ℕ) (leaving : Leaving) (meter : Seen) → meter.port ≢ port
+leavings_elsewhere : (port : ℕ) (leaving : Leaving) (meter : SeenMeter) → meter.port ≢ port
     → meter_port_leavings meter.port ((port, leaving) ∷ []) ≡ []
 leavings_elsewhere port leaving meter apart =
     ap (λ test. map (λ (one : ℕ × Leaving). one.1) (cond test ((port, leaving) ∷ []) []))
     (ne_eqb port meter.port (λ same. apart (sym same)))
 
-over_after_one : (leaving : Leaving) (old new : Seen) (over : Bool)
-    → new ≡ meter_with_leavings (leaving ∷ []) old → has_ended new ≡ over
+over_after_one : (leaving : Leaving) (old new : SeenMeter) (over : Bool)
+    → new ≡ meter_with_leavings (leaving ∷ []) old → meter_has_ended new ≡ over
     → is_meter_ended_within (leaving ∷ []) old ≡ (over || false)
 over_after_one leaving old new over is_new is_over_now =
-    ap (λ now. now || false) (ap has_ended (sym is_new) ∙ is_over_now)
+    ap (λ now. now || false) (ap meter_has_ended (sym is_new) ∙ is_over_now)
 
-pub kept-stay : (port : ℕ) (leaving : Leaving) (old new : Seen) → old.port ≡ port
+pub kept-stay : (port : ℕ) (leaving : Leaving) (old new : SeenMeter) → old.port ≡ port
     → IsMeterNoted leaving old new stay.Stay → meters_after ((port, leaving) ∷ []) (old ∷ []) ≡ new ∷ []
 kept-stay port leaving old new here noted = rw (
   kept-one ((port, leaving) ∷ []) old,
@@ -118,7 +118,7 @@ kept-stay port leaving old new here noted = rw (
   over_after_one leaving old new false noted.0 noted.1,
 ) (ap (λ m. m ∷ []) (sym noted.0))
 
-pub kept-leave : (port : ℕ) (leaving : Leaving) (old new : Seen) → old.port ≡ port
+pub kept-leave : (port : ℕ) (leaving : Leaving) (old new : SeenMeter) → old.port ≡ port
     → IsMeterNoted leaving old new stay.Leave → meters_after ((port, leaving) ∷ []) (old ∷ []) ≡ []
 kept-leave port leaving old new here noted = rw (
   kept-one ((port, leaving) ∷ []) old,
@@ -126,7 +126,7 @@ kept-leave port leaving old new here noted = rw (
   over_after_one leaving old new true noted.0 noted.1,
 ) refl
 
-pub kept_elsewhere : (port : ℕ) (leaving : Leaving) (meter : Seen) → meter.port ≢ port
+pub kept_elsewhere : (port : ℕ) (leaving : Leaving) (meter : SeenMeter) → meter.port ≢ port
     → meters_after ((port, leaving) ∷ []) (meter ∷ []) ≡ meter ∷ []
 kept_elsewhere port leaving meter apart =
     rw (kept-one ((port, leaving) ∷ []) meter, leavings_elsewhere port leaving meter apart)
@@ -134,7 +134,7 @@ kept_elsewhere port leaving meter apart =
 
 -- ---- a step over a list whose meters before a place noted the leavings already
 
-pub after_stay : {M : Type 0} (seen : M → Seen) (left : PortLeavings) (meters : List M) (at : ℕ)
+pub after_stay : {M : Type 0} (seen : M → SeenMeter) (left : MeterPortLeavings) (meters : List M) (at : ℕ)
     → (old new : M) → at < length meters → get_or meters at old ≡ old
     → meters_after left (seen old ∷ []) ≡ seen new ∷ []
     → map seen (take at meters) ++ meters_after left (map seen (drop at meters))
@@ -153,7 +153,7 @@ after_stay seen left meters at old new within is_old stays =
     (ap (λ more. first ++ more) (kept-append left (seen old ∷ []) rest
     ∙ ap (λ one. one ++ meters_after left rest) stays))
 
-pub after_leave : {M : Type 0} (seen : M → Seen) (left : PortLeavings) (meters : List M) (at : ℕ)
+pub after_leave : {M : Type 0} (seen : M → SeenMeter) (left : MeterPortLeavings) (meters : List M) (at : ℕ)
     → (old new : M) (after : List M) → at < length meters → get_or meters at old ≡ old
     → meters_after left (seen old ∷ []) ≡ [] → after ≡ remove (set meters at new) at
     → map seen (take at meters) ++ meters_after left (map seen (drop at meters))
@@ -172,14 +172,14 @@ after_leave seen left meters at old new after within is_old leaves is_after =
     (ap (λ more. map seen (take at meters) ++ more) (kept-append left (seen old ∷ []) rest
     ∙ ap (λ one. one ++ meters_after left rest) leaves))
 
-pub after_all : {M : Type 0} (seen : M → Seen) (left : PortLeavings) (meters : List M) (at : ℕ)
+pub after_all : {M : Type 0} (seen : M → SeenMeter) (left : MeterPortLeavings) (meters : List M) (at : ℕ)
     → length meters ≤ at
     → map seen (take at meters) ++ meters_after left (map seen (drop at meters)) ≡ map seen meters
 unfolding meters_after
 after_all seen left meters at past =
     rw (take_all at meters past, drop_of_length-le meters past, append-nil) refl
 
-kept-cond : (more : PortLeavings) (meter : Seen) (over : Bool)
+kept-cond : (more : MeterPortLeavings) (meter : SeenMeter) (over : Bool)
     → cond (over || is_meter_ended_within (meter_port_leavings meter.port more) meter) []
     (meter_with_leavings (meter_port_leavings meter.port more) meter ∷ [])
     ≡ meters_after more (cond over [] (meter ∷ []))
@@ -187,7 +187,7 @@ unfolding meters_after
 kept-cond more meter true = refl
 kept-cond more meter false = sym (kept-one more meter)
 
-kept_on_one : (left more : PortLeavings) (meter : Seen)
+kept_on_one : (left more : MeterPortLeavings) (meter : SeenMeter)
     → meters_after (left ++ more) (meter ∷ []) ≡ meters_after more (meters_after left (meter ∷ []))
 kept_on_one left more meter =
     let before = meter_port_leavings meter.port left in
@@ -202,7 +202,7 @@ kept_on_one left more meter =
     (kept-cond more (meter_with_leavings before meter) (is_meter_ended_within before meter))
 
 -- who stays through all leavings stays through the earlier ones, and from there through the others
-pub kept_on : (left more : PortLeavings) (meters : List Seen)
+pub kept_on : (left more : MeterPortLeavings) (meters : List SeenMeter)
     → meters_after (left ++ more) meters ≡ meters_after more (meters_after left meters)
 unfolding meters_after
 kept_on left more [] = refl

@@ -3,7 +3,7 @@ use Rattle.std.specs.Prelude.{Bool, List, ℕ}
 use Rattle.policy_rules.specs.declared.packet.Leaving.{Leaving}
 use Rattle.meters.specs.declared.flows.FlowRecord.{FlowRecord}
 
-pub record Seen : Type 0 where
+pub record SeenMeter : Type 0 where
   pub port : ℕ
   pub held : List Leaving
   pub is_ended : List Leaving → Bool

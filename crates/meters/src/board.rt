@@ -2,7 +2,7 @@
 ghost use Rattle.std.specs.Prelude.{◌≡◌, ◌∷◌, ◌++◌, [], map, filter, OnOk};
 ghost use Rattle.base.specs.Masks.{has};
 ghost use Rattle.meters.specs.Meters.{meters_after, kept_meters, meter_flow_records_of};
-ghost use Rattle.meters.specs.Gone.{GainsLeaving, meters_gone_after, seen_board, leaving_records};
+ghost use Rattle.meters.specs.Gone.{MeterBoardGainsLeaving, meters_gone_after, seen_meter_board, meter_leaving_records};
 
 use crate::flows::Flows;
 use crate::meter::{Meter, Stay};
@@ -18,9 +18,9 @@ pub struct Board<M> {
 }
 
 impl<M> Model for Board<M> {
-    ghost use Rattle.meters.specs.Gone.{BoardValue};
+    ghost use Rattle.meters.specs.Gone.{MeterBoardValue};
 
-    ghost Value = { BoardValue M };
+    ghost Value = { MeterBoardValue M };
 
     ghost view = { λ board. record { meters = board.meters.items; gone = board.gone } };
 }
@@ -51,7 +51,7 @@ impl<M: Meter> Board<M> {
         ensures told { OnOk result (self.new.gone
             ≡ self.old.gone ++ meters_gone_after ((port, leaving.now) ∷ []) (map M.seen self.old.meters)) }
         ensures goes_on { OnOk result
-            (GainsLeaving (port, leaving.now) (seen_board M.seen self.old) (seen_board M.seen self.new)) }
+            (MeterBoardGainsLeaving (port, leaving.now) (seen_meter_board M.seen self.old) (seen_meter_board M.seen self.new)) }
     {
         let mut at = 0;
         while at < self.meters.len() {
@@ -97,9 +97,9 @@ fn offer_leaving<M: Meter>(meter: &mut M, port: u32, leaving: &Leaving) -> Stay
     ensures leave { result ≡ Stay.Leave
         → meters_after ((port, leaving.now) ∷ []) (M.seen meter.old ∷ []) ≡ [] }
     ensures silent { result ≡ Stay.Stay
-        → leaving_records (port, leaving.now) (M.seen meter.old) ≡ [] }
+        → meter_leaving_records (port, leaving.now) (M.seen meter.old) ≡ [] }
     ensures told { result ≡ Stay.Leave
-        → leaving_records (port, leaving.now) (M.seen meter.old) ≡ meter_flow_records_of (M.seen meter.new) }
+        → meter_leaving_records (port, leaving.now) (M.seen meter.old) ≡ meter_flow_records_of (M.seen meter.new) }
 {
     if meter.port() == port {
         meter.note(leaving)

@@ -70,9 +70,9 @@ pub struct FirstN {
 }
 
 impl Model for FirstN {
-    ghost use Rattle.meters.specs.Meters.{LimitedRecorder};
+    ghost use Rattle.meters.specs.Meters.{LimitedMeterRecorder};
 
-    ghost Value = { LimitedRecorder };
+    ghost Value = { LimitedMeterRecorder };
 
     ghost view = { λ m. record { recorder = m.recorder; most = m.most } };
 }

@@ -1,7 +1,7 @@
 //! What each kind of meter does: the trait `Meter`.
 ghost use Rattle.std.specs.Prelude.{◌≡◌, length, IfOk};
 ghost use Rattle.meters.specs.Meters.{IsMeterNoted, meter_flow_records_of};
-ghost use Rattle.meters.specs.Seen.{Seen};
+ghost use Rattle.meters.specs.Seen.{SeenMeter};
 
 use crate::flows::Flows;
 use policy_rules::Leaving;
@@ -21,7 +21,7 @@ pub enum Stay {
 /// A recorder at a port, which keeps the list of the leavings that it recorded.
 pub trait Meter: Drop {
     /// What contracts know about it.
-    ghost seen: { Self → Seen };
+    ghost seen: { Self → SeenMeter };
 
     /// Its port.
     fn port(&self) -> u32

@@ -4,7 +4,7 @@ use Rattle.base.proofs.Exports.{list_all, list_all-map, list_any, list_any-appen
 use Rattle.toml.specs.Data.{Data, Members, as_integer, get_member}
 use Rattle.toml.specs.View.{view}
 use Rattle.toml.specs.declared.value.Value.{Value}
-use Rattle.net_file.specs.Exports.{IsNetPortMask, are_distinct_ports, are_new_net_ports, toml_array_in, has_port, have_port, toml_port_read, net_switch_ports_at, require_net_value}
+use Rattle.net_file.specs.Exports.{IsNetPortMask, are_distinct_net_ports, are_new_net_ports, toml_array_in, net_switch_has_port, net_switches_have_port, toml_port_read, net_switch_ports_at, require_net_value}
 use Rattle.net_file.specs.declared.net.SwitchRow.{SwitchRow}
 use Rattle.net_file.specs.declared.error.NetRefusal.TheVariants as refusal
 use Rattle.net_file.proofs.NetFilePortMasks.{in_mask, in_mask_with}
@@ -44,10 +44,10 @@ one_more false false seen true = refl
 one_more false false seen false = refl
 
 pub are_fresh_is : (mask : ℕ) (ports : List ℕ)
-    → are_fresh mask ports ≡ (are_distinct_ports ports && not (list_any (in_mask mask) ports))
+    → are_fresh mask ports ≡ (are_distinct_net_ports ports && not (list_any (in_mask mask) ports))
 are_fresh_is mask [] = refl
 are_fresh_is mask (p ∷ ports) = rw (are_fresh_is (bit_or mask (2 ^ p)) ports, any_with mask p ports)
-    (one_more (in_mask mask p) (are_distinct_ports ports) (list_any (in_mask mask) ports)
+    (one_more (in_mask mask p) (are_distinct_net_ports ports) (list_any (in_mask mask) ports)
     (list_any (nat_eq p) ports))
 
 pub any_same : (s t : ℕ → Bool) (ports : List ℕ) → ((k : ℕ) → s k ≡ t k)
@@ -57,10 +57,10 @@ any_same s t (p ∷ ports) same = rw (same p, any_same s t ports same) refl
 
 -- the ports of an array are new where they are fresh behind the mask of the earlier switches
 pub are_new_is : (taken : ℕ) (earlier : List SwitchRow) (ports : List ℕ)
-    → IsNetPortMask taken (have_port earlier) → are_new_net_ports earlier ports ≡ are_fresh taken ports
+    → IsNetPortMask taken (net_switches_have_port earlier) → are_new_net_ports earlier ports ≡ are_fresh taken ports
 are_new_is taken earlier ports mask =
-    sym (are_fresh_is taken ports ∙ ap (λ b. are_distinct_ports ports && not b)
-    (any_same (in_mask taken) (have_port earlier) ports mask))
+    sym (are_fresh_is taken ports ∙ ap (λ b. are_distinct_net_ports ports && not b)
+    (any_same (in_mask taken) (net_switches_have_port earlier) ports mask))
 
 pub fresh_next : (mask p : ℕ) (ports : List ℕ) → in_mask mask p ≡ false → are_fresh mask (p ∷ ports)
     ≡ are_fresh (bit_or mask (2 ^ p)) ports
@@ -90,9 +90,9 @@ pub ports_less : (ds more : List Data) (d : Data) → ds ≡ d ∷ more → None
 ports_less ds more d split is = rw (split, ← is) refl
 
 pub have_port_push : (rows : List SwitchRow) (row : SwitchRow) (k : ℕ)
-    → have_port (rows ++ row ∷ []) k ≡ (have_port rows k || has_port k row)
-have_port_push rows row k = list_any-append (has_port k) rows (row ∷ [])
-    ∙ ap (λ b. have_port rows k || b) (or-false (has_port k row))
+    → net_switches_have_port (rows ++ row ∷ []) k ≡ (net_switches_have_port rows k || net_switch_has_port k row)
+have_port_push rows row k = list_any-append (net_switch_has_port k) rows (row ∷ [])
+    ∙ ap (λ b. net_switches_have_port rows k || b) (or-false (net_switch_has_port k row))
 
 -- what the checks of the array `ports` say of its values
 pub ports_tested : (table : Members) (d : Data) (vs : List Value) (integers ports : Bool)

@@ -4,7 +4,7 @@ use Rattle.base.proofs.Exports.{Any-from_list_any, and_parts, both_ways, bytes_e
 use Rattle.net_file.specs.declared.net.SwitchRow.{SwitchRow}
 use Rattle.net_file.specs.declared.net.LinkRow.{LinkRow}
 use Rattle.net_file.specs.declared.net.Net.{Net}
-use Rattle.net_file.specs.Exports.{AreApart, IsNetLink, IsNet, IsPlainNetByte, IsNetSwitchRow, NameLaws, NetLinkLaws, NetPortLaws, are_linked_in_net, are_name_bytes, has_port, have_port, is_net_label, is_name, is_name_byte, joins, net_port_owner, port_mask}
+use Rattle.net_file.specs.Exports.{AreNetSwitchesApart, IsNetLink, IsNet, IsPlainNetByte, IsNetSwitchRow, NetNameLaws, NetLinkLaws, NetPortLaws, are_linked_in_net, are_net_name_bytes, net_switch_has_port, net_switches_have_port, is_net_label, is_net_name, is_net_name_byte, net_link_joins, net_port_owner, port_mask}
 use Rattle.net_file.proofs.NetFilePortMasks.{in_mask, in_mask_of, in_mask_past}
 
 -- ---- places
@@ -12,17 +12,17 @@ use Rattle.net_file.proofs.NetFilePortMasks.{in_mask, in_mask_of, in_mask_past}
 no_switch : SwitchRow
 no_switch = record { name = []; ports = 0; room = 0 }
 
-no_port : (port : ℕ) (row : SwitchRow) → IsNetSwitchRow row → 64 ≤ port → has_port port row ≡ false
+no_port : (port : ℕ) (row : SwitchRow) → IsNetSwitchRow row → 64 ≤ port → net_switch_has_port port row ≡ false
 no_port port row sound past = in_mask_past row.ports port sound.ports past
 
 pub no_owner : (switches : List SwitchRow) (port : ℕ) → All IsNetSwitchRow switches → 64 ≤ port
     → net_port_owner switches port ≡ None
-no_owner switches port sound past = position_none (has_port port) switches
-    (list_any_none (has_port port) switches (λ k d within. no_port port _ (sound k d within) past))
+no_owner switches port sound past = position_none (net_switch_has_port port) switches
+    (list_any_none (net_switch_has_port port) switches (λ k d within. no_port port _ (sound k d within) past))
 
 -- ---- names
 
-plain_byte : (byte : ℕ) → is_name_byte byte ≡ true → IsPlainNetByte byte
+plain_byte : (byte : ℕ) → is_net_name_byte byte ≡ true → IsPlainNetByte byte
 plain_byte byte h = record {
   no_comma = λ e. absurd (false≢true (rw e at h));
   no_blank = λ e. absurd (false≢true (rw e at h));
@@ -36,21 +36,21 @@ plain_letter byte h = record {
   no_line_feed = λ e. absurd (false≢true (rw e at h));
 }
 
-plain_bytes : (bytes : List ℕ) → are_name_bytes bytes ≡ true → All IsPlainNetByte bytes
+plain_bytes : (bytes : List ℕ) → are_net_name_bytes bytes ≡ true → All IsPlainNetByte bytes
 plain_bytes [] h k d within = absurd (omega arith)
 plain_bytes (b ∷ bytes) h zero d within =
-    plain_byte b (and_parts (is_name_byte b) (are_name_bytes bytes) h).0
+    plain_byte b (and_parts (is_net_name_byte b) (are_net_name_bytes bytes) h).0
 plain_bytes (b ∷ bytes) h (suc k) d within = plain_bytes bytes
-    (and_parts (is_name_byte b) (are_name_bytes bytes) h).1 k d (omega arith)
+    (and_parts (is_net_name_byte b) (are_net_name_bytes bytes) h).1 k d (omega arith)
 
 plain_label : (name : List ℕ) → is_net_label name ≡ true → All IsPlainNetByte name
 plain_label [] h = absurd (false≢true h)
 plain_label (b ∷ more) h = at where
-  parts : (is_ascii_alphabetic b && are_name_bytes more ≡ true) × (nat_le (length more) 15 ≡ true)
-  parts = and_parts (is_ascii_alphabetic b && are_name_bytes more) (nat_le (length more) 15) h
+  parts : (is_ascii_alphabetic b && are_net_name_bytes more ≡ true) × (nat_le (length more) 15 ≡ true)
+  parts = and_parts (is_ascii_alphabetic b && are_net_name_bytes more) (nat_le (length more) 15) h
 
-  letters : (is_ascii_alphabetic b ≡ true) × (are_name_bytes more ≡ true)
-  letters = and_parts (is_ascii_alphabetic b) (are_name_bytes more) parts.0
+  letters : (is_ascii_alphabetic b ≡ true) × (are_net_name_bytes more ≡ true)
+  letters = and_parts (is_ascii_alphabetic b) (are_net_name_bytes more) parts.0
 
   at : All IsPlainNetByte (b ∷ more)
   at zero d within = plain_letter b letters.0
@@ -60,25 +60,25 @@ label_size : (name : List ℕ) → is_net_label name ≡ true → (1 ≤ length 
 label_size [] h = absurd (false≢true h)
 label_size (b ∷ more) h =
     let few = leb-true (length more) 15
-    (and_parts (is_ascii_alphabetic b && are_name_bytes more) (nat_le (length more) 15) h).1 in
+    (and_parts (is_ascii_alphabetic b && are_net_name_bytes more) (nat_le (length more) 15) h).1 in
     (omega arith, omega (arith, few))
 
 same_bytes : (bytes : List ℕ) → bytes_eq bytes bytes ≡ true
 same_bytes bytes = (bytes_eq-Decides bytes bytes).1 refl
 
-name_parts : (name : List ℕ) → is_name name ≡ true → (is_net_label name ≡ true)
+name_parts : (name : List ℕ) → is_net_name name ≡ true → (is_net_label name ≡ true)
     × (bytes_eq name (codes "controller") ≡ false)
 name_parts name h =
     let (label, other) = and_parts (is_net_label name) (not (bytes_eq name (codes "controller"))) h in
     (label, not-true _ other)
 
 earlier_apart : (net : Net) (s k : ℕ) (row : SwitchRow) → IsNet net
-    → slice_get net.switches s ≡ Some row → k < s → AreApart (get_or net.switches k row) row
-earlier_apart net s k row sound there before = subst (AreApart (get_or net.switches k row))
+    → slice_get net.switches s ≡ Some row → k < s → AreNetSwitchesApart (get_or net.switches k row) row
+earlier_apart net s k row sound there before = subst (AreNetSwitchesApart (get_or net.switches k row))
     (get_or_from_slice_get net.switches s row row there)
     (sound.apart k s row before (slice_get_within net.switches s row there))
 
-pub names : NameLaws
+pub names : NetNameLaws
 names = record {
   plain = λ name h. plain_label name (name_parts name h).0;
   size = λ name h. label_size name (name_parts name h).0;
@@ -108,19 +108,19 @@ port_small net port s sound e = elim (cases_lt port 64) [
 port_bits : (net : Net) (port : ℕ) → IsNet net → in_mask (port_mask net.switches) port ≡ is_some
     (net_port_owner net.switches port)
 port_bits net port sound = elim (cases_lt port 64) [
-  | inl small ↦ in_mask_of (have_port net.switches) port small
-      ∙ sym (some_position (has_port port) net.switches)
-  | inr past ↦ in_mask_past _ port (mask_of_lt (have_port net.switches)) past
+  | inl small ↦ in_mask_of (net_switches_have_port net.switches) port small
+      ∙ sym (some_position (net_switch_has_port port) net.switches)
+  | inr past ↦ in_mask_past _ port (mask_of_lt (net_switches_have_port net.switches)) past
       ∙ sym (ap is_some (no_owner net.switches port sound.switches past))
 ]
 
 pub ports : NetPortLaws
 ports = record {
-  owner = λ net port s row sound there has. position_at (has_port port) net.switches s row there has
+  owner = λ net port s row sound there has. position_at (net_switch_has_port port) net.switches s row there has
       (λ k before. false_from_ne_true _ (λ shared. both_ways _
       ((earlier_apart net s k row sound there before).ports port shared) has));
-  has = λ switches port s e. position_row (has_port port) switches s no_switch e;
-  below = λ switches port s e. (position-Some (has_port port) switches s no_switch e).0;
+  has = λ switches port s e. position_row (net_switch_has_port port) switches s no_switch e;
+  below = λ switches port s e. (position-Some (net_switch_has_port port) switches s no_switch e).0;
   small = port_small;
   mask = port_bits;
 }
@@ -134,7 +134,7 @@ linked_turn (link ∷ links) s x = rw (
   linked_turn links s x,
 ) refl
 
-not_joined : (count s : ℕ) (link : LinkRow) → IsNetLink count link → joins s s link ≡ false
+not_joined : (count s : ℕ) (link : LinkRow) → IsNetLink count link → net_link_joins s s link ≡ false
 not_joined count s link sound = false_from_ne_true _ (λ both.
     elim (or_cases (link.one == s && link.two == s) (link.one == s && link.two == s) both)
     [ inl here ↦ apart here | inr here ↦ apart here ])
@@ -143,7 +143,7 @@ not_joined count s link sound = false_from_ne_true _ (λ both.
     apart here = let (one, two) = and_parts (link.one == s) (link.two == s) here in
         sound.apart (eqb-true link.one s one ∙ sym (eqb-true link.two s two))
 
-pub joined_below : (count s x : ℕ) (link : LinkRow) → IsNetLink count link → joins s x link ≡ true
+pub joined_below : (count s x : ℕ) (link : LinkRow) → IsNetLink count link → net_link_joins s x link ≡ true
     → x < count
 joined_below count s x link sound joined =
     elim (or_cases (link.one == s && link.two == x) (link.one == x && link.two == s) joined) [
@@ -156,14 +156,14 @@ joined_below count s x link sound joined =
 linked_below : (net : Net) (s x : ℕ) → IsNet net → are_linked_in_net net.links s x ≡ true
     → x < length net.switches
 linked_below net s x sound linked =
-    let (place, link, within, here, joined) = Any-from_list_any (joins s x) net.links linked in
+    let (place, link, within, here, joined) = Any-from_list_any (net_link_joins s x) net.links linked in
     joined_below (length net.switches) s x link
     (subst (IsNetLink (length net.switches)) here (sound.links place link within)) joined
 
 pub links : NetLinkLaws
 links = record {
   both_ways = linked_turn;
-  not_itself = λ net s sound. list_any_none (joins s s) net.links
+  not_itself = λ net s sound. list_any_none (net_link_joins s s) net.links
       (λ k d within. not_joined (length net.switches) s _ (sound.links k d within));
   below = linked_below;
   mask = λ net s sound k. elim (cases_lt k 64) [

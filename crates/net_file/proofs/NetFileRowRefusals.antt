@@ -3,7 +3,7 @@ use Rattle.std.proofs.Common.{[], ◌++◌, ◌+◌, ◌∷◌, ◌≡◌, List,
 use Rattle.toml.specs.Data.{Data}
 use Rattle.net_file.specs.declared.error.NetRefusal.{NetRefusal}
 use Rattle.net_file.specs.Exports.{net_rows_read, with_toml_value}
-use Rattle.base.specs.Exports.{IsCallRefusal, in_row}
+use Rattle.base.specs.Exports.{IsCallRefusal, refusal_in_row}
 use Rattle.base.specs.declared.error.Failure.{Failure}
 use Rattle.base.specs.declared.error.Failure.TheVariants.{Refused, NoMemory}
 use Rattle.base.specs.declared.row.InRow.{InRow}
@@ -24,9 +24,9 @@ refused_with read next NoMemory h = tt
 pub refused_row : {X : Type 0} (base : ℕ) (read : List X → Data → Result X NetRefusal)
     (earlier : List X) (d : Data) (ds : List Data) (row : ℕ) (e : Failure (InRow NetRefusal))
     → base + (length earlier + 1) ≡ row
-    → IsCallRefusal (in_row row (read earlier d)) e → IsCallRefusal (net_rows_read base read earlier (d ∷ ds)) e
+    → IsCallRefusal (refusal_in_row row (read earlier d)) e → IsCallRefusal (net_rows_read base read earlier (d ∷ ds)) e
 refused_row base read earlier d ds row e same h =
-    refused_with (in_row (base + (length earlier + 1)) (read earlier d))
+    refused_with (refusal_in_row (base + (length earlier + 1)) (read earlier d))
     (λ next. net_rows_read base read (earlier ++ next ∷ []) ds) e (rw same h)
 
 pub refused_same : {X : Type 0} (a b : Result X (InRow NetRefusal)) (e : Failure (InRow NetRefusal)) → a ≡ b → IsCallRefusal b e

@@ -17,10 +17,10 @@ net_value_of_type (Some value) = Ok value
 net_value_of_type None = Err refusal.WrongType
 
 -- what a key's value is read as, or its default if the key is absent
-abbrev pub at_key : {X : Type 0} → (Data → Result X NetRefusal) → Result X NetRefusal → Members
+abbrev pub net_value_at_key : {X : Type 0} → (Data → Result X NetRefusal) → Result X NetRefusal → Members
     → List ℕ
     → Result X NetRefusal
-at_key read absent table key = option_map_or read (get_member key table) absent
+net_value_at_key read absent table key = option_map_or read (get_member key table) absent
 
 -- the integer, if it lies from low to high
 abbrev pub toml_integer_within : ℕ → ℕ → ℤ → Option ℕ

@@ -1,12 +1,12 @@
--- The laws of networks: a function of `src` ensures each record.
+-- The laws of networks: a function of `src` ensures each record of laws.
 use Rattle.std.specs.Prelude.{◌<◌, ◌==◌, ◌≡◌, ◌≢◌, ◌≤◌, All, Bool, List, Some, codes, false, is_some, length, slice_get, true, ℕ}
 use Rattle.base.specs.Exports.{bit_at}
 use Rattle.net_file.specs.declared.net.SwitchRow.{SwitchRow}
 use Rattle.net_file.specs.declared.net.LinkRow.{LinkRow}
 use Rattle.net_file.specs.declared.net.Net.{Net}
-use Rattle.net_file.specs.Net.{IsNet, is_name}
-use Rattle.net_file.specs.Owners.{have_net_switch_name, port_mask, switch_number, links_of}
-use Rattle.net_file.specs.Joins.{are_linked_in_net, has_port, net_port_owner}
+use Rattle.net_file.specs.Net.{IsNet, is_net_name}
+use Rattle.net_file.specs.Owners.{have_net_switch_name, port_mask, net_switch_number_named, links_of}
+use Rattle.net_file.specs.Joins.{are_linked_in_net, net_switch_has_port, net_port_owner}
 
 -- the byte is no comma, no blank and no line feed
 pub record IsPlainNetByte (byte : ℕ) : Type 0 where
@@ -14,28 +14,28 @@ pub record IsPlainNetByte (byte : ℕ) : Type 0 where
   pub no_blank : byte ≢ 32
   pub no_line_feed : byte ≢ 10
 
-pub record NameLaws : Type 0 where
-  pub plain : (name : List ℕ) → is_name name ≡ true → All IsPlainNetByte name
-  pub size : (name : List ℕ) → is_name name ≡ true → (1 ≤ length name) × (length name ≤ 16)
-  pub not_controller : (name : List ℕ) → is_name name ≡ true → name ≢ codes "controller"
+pub record NetNameLaws : Type 0 where
+  pub plain : (name : List ℕ) → is_net_name name ≡ true → All IsPlainNetByte name
+  pub size : (name : List ℕ) → is_net_name name ≡ true → (1 ≤ length name) × (length name ≤ 16)
+  pub not_controller : (name : List ℕ) → is_net_name name ≡ true → name ≢ codes "controller"
   -- the number of a name is that of the switch that has it
   pub number : (net : Net) (s : ℕ) (row : SwitchRow) → IsNet net
-      → slice_get net.switches s ≡ Some row → switch_number net.switches row.name ≡ Some s
+      → slice_get net.switches s ≡ Some row → net_switch_number_named net.switches row.name ≡ Some s
   pub named : (switches : List SwitchRow) (name : List ℕ) (s : ℕ)
-      → switch_number switches name ≡ Some s
+      → net_switch_number_named switches name ≡ Some s
       → (row : SwitchRow) × (slice_get switches s ≡ Some row) × (row.name ≡ name)
   pub below : (switches : List SwitchRow) (name : List ℕ) (s : ℕ)
-      → switch_number switches name ≡ Some s → s < length switches
+      → net_switch_number_named switches name ≡ Some s → s < length switches
   pub some : (switches : List SwitchRow) (name : List ℕ)
-      → is_some (switch_number switches name) ≡ have_net_switch_name switches name
+      → is_some (net_switch_number_named switches name) ≡ have_net_switch_name switches name
 
 pub record NetPortLaws : Type 0 where
   -- the owner of a port is the one switch that has it
   pub owner : (net : Net) (port s : ℕ) (row : SwitchRow) → IsNet net
-      → slice_get net.switches s ≡ Some row → has_port port row ≡ true
+      → slice_get net.switches s ≡ Some row → net_switch_has_port port row ≡ true
       → net_port_owner net.switches port ≡ Some s
   pub has : (switches : List SwitchRow) (port s : ℕ) → net_port_owner switches port ≡ Some s
-      → (row : SwitchRow) × (slice_get switches s ≡ Some row) × (has_port port row ≡ true)
+      → (row : SwitchRow) × (slice_get switches s ≡ Some row) × (net_switch_has_port port row ≡ true)
   pub below : (switches : List SwitchRow) (port s : ℕ) → net_port_owner switches port ≡ Some s
       → s < length switches
   pub small : (net : Net) (port s : ℕ) → IsNet net → net_port_owner net.switches port ≡ Some s → port < 64

@@ -1,7 +1,7 @@
 ghost use Rattle.std.specs.Prelude.{◌≡◌, option_map};
 ghost use Rattle.toml.specs.Data.{as_str, as_table, get_member};
 ghost use Rattle.toml.specs.View.{table_view, view};
-ghost use Rattle.net_file.specs.Exports.{toml_array_in, toml_number_stated, net_value_of_type, net_number_or_default, toml_integer_within};
+ghost use Rattle.net_file.specs.Exports.{toml_array_in, toml_integer_stated, net_value_of_type, net_number_or_default, toml_integer_within};
 ghost use Rattle.net_file.specs.Outcomes.{IsNetRowRead, toml_seen_values};
 
 use crate::error::NetRefusal;
@@ -15,7 +15,7 @@ pub fn toml_value_at<'a>(table: &'a Table, key: &str) -> Option<&'a Value>
 }
 
 /// The number, if it is from `low` to `high`; otherwise `None`.
-pub fn toml_number_in_range(low: u32, high: u32, number: i64) -> Option<u32>
+pub fn toml_integer_within(low: u32, high: u32, number: i64) -> Option<u32>
     ensures { result ≡ toml_integer_within low high number }
 {
     if number < low as i64 || (high as i64) < number {
@@ -25,14 +25,14 @@ pub fn toml_number_in_range(low: u32, high: u32, number: i64) -> Option<u32>
 }
 
 /// The integer that a value is; `WrongType` for any other value, `Range` if it is out of range.
-pub fn toml_integer_in(low: u32, high: u32, value: &Value) -> Result<u32, NetRefusal>
-    ensures { result ≡ toml_number_stated low high (view value.now) }
+pub fn toml_integer_stated(low: u32, high: u32, value: &Value) -> Result<u32, NetRefusal>
+    ensures { result ≡ toml_integer_stated low high (view value.now) }
 {
     let number = value.as_integer().ok_or(NetRefusal::WrongType)?;
-    toml_number_in_range(low, high, number).ok_or(NetRefusal::Range)
+    toml_integer_within(low, high, number).ok_or(NetRefusal::Range)
 }
 
-/// The number at a key, as `toml_integer_in` reads it, or the default if the key is absent.
+/// The number at a key, as `toml_integer_stated` reads it, or the default if the key is absent.
 pub fn setting_of(
     table: &Table,
     key: &str,
@@ -43,7 +43,7 @@ pub fn setting_of(
     ensures { result ≡ net_number_or_default (table_view table.now) key.now low high default }
 {
     match toml_value_at(table, key) {
-        Some(value) => toml_integer_in(low, high, value),
+        Some(value) => toml_integer_stated(low, high, value),
         None => Ok(default),
     }
 }

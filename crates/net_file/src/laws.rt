@@ -1,11 +1,11 @@
 ghost use Rattle.std.specs.Prelude.{◌≡◌, ℕ, List, Ok};
-ghost use Rattle.net_file.specs.Exports.{IsNet, NameLaws, NetLinkLaws, NetPortLaws, net_of, net_of_one_switch};
+ghost use Rattle.net_file.specs.Exports.{IsNet, NetNameLaws, NetLinkLaws, NetPortLaws, net_of, net_of_one_switch};
 ghost use Rattle.net_file.specs.declared.net.Net.{Net};
 
 /// Names and numbers of switches correspond one to one, and no byte of a name is a comma, a blank
 /// or a line feed.
 pub fn switch_name_laws()
-    ensures { NameLaws }
+    ensures { NetNameLaws }
 {}
 
 /// A port has at most one owner, and the mask of all ports has exactly those with an owner.

@@ -1,6 +1,6 @@
 ghost use Rattle.std.specs.Prelude.{◌≡◌, ◌≤◌, ◌<◌, Ok, [], IfOk, IfErr, length, map, Err};
 ghost use Rattle.toml.specs.View.{table_view, view};
-ghost use Rattle.net_file.specs.Exports.{are_linked_in_net, link_end_read, toml_ends_in, net_link_array, net_link_of, net_links_in};
+ghost use Rattle.net_file.specs.Exports.{are_linked_in_net, net_link_end_read, toml_ends_in, net_link_array, net_link_of, net_links_in};
 ghost use Rattle.net_file.specs.Outcomes.{IsNetRowRead, toml_seen_values};
 ghost use Rattle.base.specs.Refusals.{IsCallRefusal};
 
@@ -48,7 +48,7 @@ fn toml_ends_in(value: &Value) -> Result<(&str, &str), NetRefusal>
 // The number of the switch with this name; `UnknownName` if there is none.
 fn net_file_link_end(switches: &[SwitchRow], name: &str) -> Result<u32, NetRefusal>
     requires { length switches.now ≤ 64 }
-    ensures { result ≡ link_end_read switches.now name.now }
+    ensures { result ≡ net_link_end_read switches.now name.now }
 {
     net_switch_number(switches, name.as_bytes()).ok_or(NetRefusal::UnknownName)
 }

@@ -1,6 +1,6 @@
 ghost use Rattle.std.specs.Prelude.{◌≡◌, ◌++◌, OnOk, IsTrue};
 ghost use Rattle.std.specs.String.{string_bytes};
-ghost use Rattle.net_file.specs.Net.{IsNet, is_name, switch_name_of, net_switch_names_text};
+ghost use Rattle.net_file.specs.Net.{IsNet, is_net_name, net_switch_name_of, net_switch_names_text};
 
 use crate::net::Net;
 use std::alloc::AllocError;
@@ -11,7 +11,7 @@ impl Net {
     /// The name of the switch of this number, or an empty text if there is no such switch.
     pub fn name(&self, s: u32) -> &str
         requires { IsNet self.now }
-        ensures { result.now ≡ switch_name_of self.now s }
+        ensures { result.now ≡ net_switch_name_of self.now s }
     {
         match self.switches.items().get(s as usize) {
             Some(row) => net_name_text(row.name.bytes()),
@@ -39,7 +39,7 @@ impl Net {
 // A name as text.
 #[tactic(auto, using(crate::proofs::NetFileNames::name_is_text))]
 fn net_name_text(name: &[u8]) -> &str
-    requires { IsTrue (is_name name.now) }
+    requires { IsTrue (is_net_name name.now) }
     ensures { result.now ≡ name.now }
 {
     match str::from_utf8(name) {

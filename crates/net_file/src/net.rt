@@ -1,5 +1,5 @@
 ghost use Rattle.std.specs.Prelude.{◌≡◌, ◌≤◌, ◌<◌, ◌==◌, ℕ, false, IfOk, IfNone, IfSome, length};
-ghost use Rattle.net_file.specs.Exports.{AreNetPortOwners, IsNetLink, IsNet, joins, links_of, net_port_owner, port_mask, net_of_one_switch, switch_number};
+ghost use Rattle.net_file.specs.Exports.{AreNetPortOwners, IsNetLink, IsNet, net_link_joins, links_of, net_port_owner, port_mask, net_of_one_switch, net_switch_number_named};
 
 use crate::ports::{Ports, net_port_owners};
 use base::{Items, has, with};
@@ -59,7 +59,7 @@ pub struct Net {
 impl LinkRow {
     /// Whether the link joins these two switches, in either order.
     pub fn joins(&self, one: u32, two: u32) -> bool
-        ensures { result ≡ joins one two self.now }
+        ensures { result ≡ net_link_joins one two self.now }
     {
         (self.one == one && self.two == two) || (self.one == two && self.two == one)
     }
@@ -68,8 +68,8 @@ impl LinkRow {
     fn other_end(&self, switch: u32) -> Option<u32>
         requires { IsNetLink 64 self.now }
         ensures small { IfSome result (λ other. other < 64) }
-        ensures other { IfSome result (λ other. (x : ℕ) → joins switch x self.now ≡ (x == other)) }
-        ensures none { IfNone result ((x : ℕ) → joins switch x self.now ≡ false) }
+        ensures other { IfSome result (λ other. (x : ℕ) → net_link_joins switch x self.now ≡ (x == other)) }
+        ensures none { IfNone result ((x : ℕ) → net_link_joins switch x self.now ≡ false) }
     {
         if self.one == switch {
             Some(self.two)
@@ -103,7 +103,7 @@ impl Name {
 
 // The place of the switch with this name; `None` if no switch has it.
 fn net_switch_place(switches: &[SwitchRow], name: &[u8]) -> Option<usize>
-    ensures place { result ≡ switch_number switches.now name.now }
+    ensures place { result ≡ net_switch_number_named switches.now name.now }
     ensures there { IfSome result (λ place. place < length switches.now) }
 {
     switches.iter().position(|row| row.name.bytes() == name)
@@ -112,7 +112,7 @@ fn net_switch_place(switches: &[SwitchRow], name: &[u8]) -> Option<usize>
 /// The number of the switch with this name; `None` if no switch has it.
 pub(crate) fn net_switch_number(switches: &[SwitchRow], name: &[u8]) -> Option<u32>
     requires { length switches.now ≤ 64 }
-    ensures { result ≡ switch_number switches.now name.now }
+    ensures { result ≡ net_switch_number_named switches.now name.now }
 {
     match net_switch_place(switches, name) {
         Some(place) => Some(place as u32),
@@ -169,7 +169,7 @@ impl Net {
     /// The number of the switch with this name, or `None` if no switch has it.
     pub fn number(&self, name: &[u8]) -> Option<u32>
         requires { IsNet self.now }
-        ensures { result ≡ switch_number self.now.switches name.now }
+        ensures { result ≡ net_switch_number_named self.now.switches name.now }
     {
         net_switch_number(self.switches.items(), name)
     }

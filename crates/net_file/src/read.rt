@@ -1,7 +1,7 @@
 ghost use Rattle.std.specs.Prelude.{◌≡◌, Ok, Some, IfOk, IfErr, ok_or};
 ghost use Rattle.toml.specs.View.{table_view};
 ghost use Rattle.net_file.specs.Exports.{IsNet, toml_document_of, net_of, net_read};
-ghost use Rattle.base.specs.Refusals.{IsCallRefusal, in_row};
+ghost use Rattle.base.specs.Refusals.{IsCallRefusal, refusal_in_row};
 ghost use Rattle.net_file.specs.declared.error.NetRefusal.TheVariants.{Toml};
 
 use crate::error::{NetError, NetRefusal};
@@ -34,7 +34,7 @@ fn read_net_document(alloc: Global, table: &Table) -> Result<Net, NetError>
 // The TOML document of the bytes; `Toml` in row 0 if they are none.
 fn read_document(alloc: Global, bytes: &[u8]) -> Result<Table, NetError>
     ensures document { IfOk result (λ table. toml_document_of bytes.now ≡ Some (table_view table)) }
-    ensures refused { IfErr result (IsCallRefusal (in_row 0 (ok_or (toml_document_of bytes.now) Toml))) }
+    ensures refused { IfErr result (IsCallRefusal (refusal_in_row 0 (ok_or (toml_document_of bytes.now) Toml))) }
 {
     match toml::table_from_slice(alloc, bytes) {
         Ok(table) => Ok(table),

@@ -2,13 +2,13 @@ ghost use Rattle.std.specs.Prelude.{◌≡◌, ◌≤◌, ◌<◌, Ok, [], IfOk,
 ghost use Rattle.std.specs.List.{list_all};
 ghost use Rattle.toml.specs.Data.{as_integer};
 ghost use Rattle.toml.specs.View.{table_view, view};
-ghost use Rattle.net_file.specs.Exports.{IsNetPortMask, are_name_bytes, are_new_net_ports, have_net_switch_name, have_port, is_net_label, is_name, is_name_byte, switch_name_at, port_bits, toml_port_read, net_switch_ports_at, toml_ports_of, net_row_stated, net_switch_array, net_switch_read, net_switch_with, switches_read};
+ghost use Rattle.net_file.specs.Exports.{IsNetPortMask, are_net_name_bytes, are_new_net_ports, have_net_switch_name, net_switches_have_port, is_net_label, is_net_name, is_net_name_byte, net_switch_name_at, net_port_bits, toml_port_read, net_switch_ports_at, toml_ports_of, net_row_stated, net_switch_array, net_switch_read, net_switch_with, net_switches_read};
 ghost use Rattle.net_file.specs.Outcomes.{IsNetRowRead, toml_seen_values};
-ghost use Rattle.base.specs.Refusals.{IsCallRefusal, in_row};
+ghost use Rattle.base.specs.Refusals.{IsCallRefusal, refusal_in_row};
 
 use crate::error::{NetError, NetRefusal};
 use crate::keys::{
-    setting_of, toml_array_in, toml_number_in_range, toml_table_in, toml_text_in, toml_value_at,
+    setting_of, toml_array_in, toml_integer_within, toml_table_in, toml_text_in, toml_value_at,
 };
 use crate::net::{Name, SwitchRow};
 use base::{InRow, MAX_SWITCHES, has, with};
@@ -42,14 +42,14 @@ pub fn net_switch_array(table: &Table) -> Result<&[Value], NetRefusal>
 
 // Whether the byte may occur in a name.
 fn is_name_byte(byte: u8) -> bool
-    ensures { result ≡ is_name_byte byte }
+    ensures { result ≡ is_net_name_byte byte }
 {
     byte.is_ascii_alphanumeric() || byte == b'_' || byte == b'-'
 }
 
 // Whether each byte may occur in a name.
 fn are_name_bytes(bytes: &[u8]) -> bool
-    ensures { result ≡ are_name_bytes bytes.now }
+    ensures { result ≡ are_net_name_bytes bytes.now }
 {
     bytes.iter().all(|byte| is_name_byte(*byte))
 }
@@ -69,14 +69,14 @@ fn is_net_label(name: &[u8]) -> bool
 /// Whether the bytes can be a switch's name: a letter and then up to 15 letters, digits, `_` or
 /// `-`, but not `controller`, which is the controller's name in a journal.
 pub fn is_name(name: &[u8]) -> bool
-    ensures { result ≡ is_name name.now }
+    ensures { result ≡ is_net_name name.now }
 {
     is_net_label(name) && name != b"controller".as_slice()
 }
 
 // The name of a switch; `MissingKey` without the key, `Range` if it can't be a name.
 fn read_name(keys: &Table) -> Result<&str, NetRefusal>
-    ensures { IsNetRowRead (λ name. name.now) (switch_name_at (table_view keys.now)) result }
+    ensures { IsNetRowRead (λ name. name.now) (net_switch_name_at (table_view keys.now)) result }
 {
     let Some(value) = toml_value_at(keys, "name") else {
         return Err(NetRefusal::MissingKey);
@@ -93,7 +93,7 @@ fn toml_port_of(value: &Value) -> Option<u32>
     ensures port { result ≡ toml_port_read (view value.now) }
     ensures small { IfSome result (λ port. port < 64) }
 {
-    toml_number_in_range(0, 63, value.as_integer()?)
+    toml_integer_within(0, 63, value.as_integer()?)
 }
 
 // Whether each value is an integer.
@@ -137,9 +137,9 @@ fn have_net_switch_name(rows: &[SwitchRow], name: &[u8]) -> bool
 
 // The mask of the ports; `None` if one occurs twice or is in `taken`, the earlier ports.
 fn new_net_ports(values: &[Value], earlier: &[SwitchRow], taken: u64) -> Option<u64>
-    requires { IsNetPortMask taken (have_port earlier.now) }
+    requires { IsNetPortMask taken (net_switches_have_port earlier.now) }
     ensures new { is_some result ≡ are_new_net_ports earlier.now (toml_ports_of (map view values.now)) }
-    ensures mask { IfSome result (λ mask. mask ≡ port_bits (toml_ports_of (map view values.now))) }
+    ensures mask { IfSome result (λ mask. mask ≡ net_port_bits (toml_ports_of (map view values.now))) }
 {
     let mut seen = taken;
     let mut ports = 0;
@@ -168,7 +168,7 @@ fn read_switch_keys<'a>(
     taken: u64,
     keys: &'a Table,
 ) -> Result<Stated<'a>, NetRefusal>
-    requires { IsNetPortMask taken (have_port earlier.now) }
+    requires { IsNetPortMask taken (net_switches_have_port earlier.now) }
     ensures { IsNetRowRead net_row_stated (net_switch_with earlier.now (table_view keys.now)) result }
 {
     let name = read_name(keys)?;
@@ -189,9 +189,9 @@ fn read_switch(
     value: &Value,
     row: u32,
 ) -> Result<SwitchRow, NetError>
-    requires { IsNetPortMask taken (have_port earlier.now) }
+    requires { IsNetPortMask taken (net_switches_have_port earlier.now) }
     ensures switch { IfOk result (λ switch. net_switch_read earlier.now (view value.now) ≡ Ok switch) }
-    ensures refused { IfErr result (IsCallRefusal (in_row row (net_switch_read earlier.now
+    ensures refused { IfErr result (IsCallRefusal (refusal_in_row row (net_switch_read earlier.now
         (view value.now)))) }
 {
     let keys = match toml_table_in(value) {
@@ -213,8 +213,8 @@ fn read_switch(
 pub fn read_switches(alloc: Global, values: &[Value]) -> Result<Vec<SwitchRow>, NetError>
     requires { length values.now ≤ 64 }
     ensures few { IfOk result (λ rows. vec_len rows ≤ 64) }
-    ensures switches { IfOk result (λ rows. switches_read (map view values.now) ≡ Ok rows.items) }
-    ensures refused { IfErr result (IsCallRefusal (switches_read (map view values.now))) }
+    ensures switches { IfOk result (λ rows. net_switches_read (map view values.now) ≡ Ok rows.items) }
+    ensures refused { IfErr result (IsCallRefusal (net_switches_read (map view values.now))) }
 {
     let mut rows = Vec::new(alloc);
     let mut taken = 0;

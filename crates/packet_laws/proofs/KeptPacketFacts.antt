@@ -1,14 +1,14 @@
 -- Items that have their causes keep each packet on its way.
 use Rattle.std.proofs.Common.{[], ◌<◌, ◌∙◌, ◌∷◌, ◌≡◌, ◌≤◌, ◌⊎◌, All, Contains, IsTrue, List, None, Option, Some, ap, arith, eqb-true, false, inl, inr, is_some, length, refl, rules, subst, sym, unwrap_or, ℕ}
 use Rattle.base.proofs.Exports.{All-contains, Any-from_list_any, find-there, some_same}
-use Rattle.five_tuple.specs.Exports.{IsHeader, number_of}
-use Rattle.update_machine.specs.Exports.{Action, AuthorityRule, CacheEntry, Decision, Exit, Found, JournalItemsHaveCauses, Header, How, IsSetting, Item, Leg, NamesSettingPort, Seek, Setting, Tables, journal_cache_of, journal_current_mark, journal_found_down, lookup_at, no_switch, owner, policy_at, journal_retired_mark, journal_route_from, journal_stamp_of, journal_leg_targets}
+use Rattle.five_tuple.specs.Exports.{IsHeader, header_number_of}
+use Rattle.update_machine.specs.Exports.{Action, MachineAuthorityRule, CacheEntry, Decision, Exit, Found, JournalItemsHaveCauses, Header, How, IsMachineSetting, Item, Leg, NamesMachineSettingPort, Seek, Setting, Tables, journal_cache_of, journal_current_mark, journal_found_down, machine_lookup_at, machine_no_switch, owner, machine_policy_at, journal_retired_mark, journal_route_from, journal_stamp_of, journal_leg_targets}
 use Rattle.net_file.specs.Exports.{IsNet, are_linked_in_net, net_port_owner}
 use Rattle.net_file.proofs.NetFileRowPlaces.{joined_below}
 use Rattle.policy_rules.specs.Exports.{scan}
-use Rattle.switch_table.specs.Exports.{Hosted, first_entry, table_lookup}
+use Rattle.switch_table.specs.Exports.{HostedPolicyPartition, first_cache_entry, switch_table_lookup}
 use Rattle.ternary.specs.Exports.{holds}
-use Rattle.control_laws.specs.Exports.{HasControlItemCause, AdvertisedLinksAreThere}
+use Rattle.control_laws.specs.Exports.{HasControlItemCause, ControlAdvertisedLinksAreThere}
 use Rattle.control_laws.proofs.Exports.{HasBothCauses}
 use Rattle.packet_laws.specs.Exports.{AuthorityDecidesPacket, PacketRouteAvoidsFound, Blocked, CacheDecidesPacket, CameIn, PacketDecidesBy, HasKeptPacketFacts, IsPacketAt, IsPacketDecided, IsPacketLookedUp, IsPacketOnLeg, IsPacketOnWay, IsPacketPartitionOf, IsPacketRedirectedHere, IsRightPacketCacheEntry, IsPacketRightlyDecided, IsSoughtByPacket, IsPacketUnderWay, Judged, PacketRouteLeadsToTarget, PacketMeetsDown, PacketMovesOver, OnWay, PacketFacts, PacketStage, PacketTakesDetour, PacketTakesExit, PacketTakesRoute, packet_facts_after, packet_stage_of, packet_facts_of}
 use Rattle.packet_laws.proofs.PacketHeaderLookups.{FindsTargets, IsHere, decision_in, found_in, here_of, leg_in, next_in, redirect_found, rules_of, scan_named, seeking_of}
@@ -19,10 +19,10 @@ use Rattle.packet_laws.proofs.PacketCacheRules.{scan_of_version}
 -- what is known of the journal before an item, and kept of its packet
 pub record Knows (setting : Setting) (before : List Item) (i : ℕ) (stage : Option PacketStage) : Type 0
   where
-    pub is : IsSetting setting
+    pub is : IsMachineSetting setting
     pub have : JournalItemsHaveCauses (HasControlItemCause setting) [] before
     pub both : JournalItemsHaveCauses (HasBothCauses setting) [] before
-    pub links : AdvertisedLinksAreThere setting before
+    pub links : ControlAdvertisedLinksAreThere setting before
     pub kept : HasKeptPacketFacts setting before (packet_facts_of before i) stage
 
 -- where it is
@@ -80,12 +80,12 @@ stage_alone h0 = search rules
 -- the partition to which a lookup sends it
 pub redirected_to : (setting : Setting) (before : List Item) (i s version partition : ℕ)
     → (here : IsHere setting before i s) → IsPacketRedirectedHere setting before i s version partition
-    → (hosted : Hosted) × IsPacketPartitionOf setting before here.under.header version partition hosted
+    → (hosted : HostedPolicyPartition) × IsPacketPartitionOf setting before here.under.header version partition hosted
 redirected_to setting before i s version partition here takes =
     let leads : FindsTargets setting before s here.under.header partition takes.targets =
     redirect_found setting before s here.under.header partition takes.targets here.stamped
-    here.under.sound (ap (lookup_at setting before s) (sym here.header) ∙ takes.answer) in
-    let hosted : Hosted = leads.part.hosted in (
+    here.under.sound (ap (machine_lookup_at setting before s) (sym here.header) ∙ takes.answer) in
+    let hosted : HostedPolicyPartition = leads.part.hosted in (
       hosted,
       subst (λ v. IsPacketPartitionOf setting before here.under.header v partition hosted)
           (sym takes.stamp) (record {
@@ -98,7 +98,7 @@ redirected_to setting before i s version partition here takes =
 
 -- whose targets the leg to it has
 seek_targets : (setting : Setting) (before : List Item) (header : Header) (version partition : ℕ)
-    (hosted : Hosted) → IsPacketPartitionOf setting before header version partition hosted
+    (hosted : HostedPolicyPartition) → IsPacketPartitionOf setting before header version partition hosted
     → journal_leg_targets setting before (Seek version partition) ≡ hosted.1
 seek_targets setting before header version partition hosted own = cc own.found
 
@@ -126,7 +126,7 @@ seeking_after setting before i mark version partition route knows takes =
     let s : ℕ = takes.switch in
     let here : IsHere setting before i s = here_known setting before i s knows takes.at in
     let part = redirected_to setting before i s version partition here takes.takes in
-    let hosted : Hosted = part.0 in
+    let hosted : HostedPolicyPartition = part.0 in
     let way = route_way setting before s hosted.1 facts.found route knows.links
     (subst (λ down. journal_route_from setting before s hosted.1 down ≡ Some route) (found_in before i)
     (ap (λ all. journal_route_from setting before s all (journal_found_down before i)) (sym (seek_targets setting
@@ -142,11 +142,11 @@ seeking_after setting before i mark version partition route knows takes =
       leads = way.leads;
     })
 
-is_home : (o : Option ℕ) → IsTrue (is_some o) → o ≡ Some (unwrap_or o no_switch)
+is_home : (o : Option ℕ) → IsTrue (is_some o) → o ≡ Some (unwrap_or o machine_no_switch)
 is_home o e = search rules
 
 pub port_named : (setting : Setting) (port : ℕ) (act : Action) → act ≡ Action.Out port
-    → NamesSettingPort setting act → net_port_owner setting.net.switches port ≡ Some (owner setting port)
+    → NamesMachineSettingPort setting act → net_port_owner setting.net.switches port ≡ Some (owner setting port)
 port_named setting port act is named = is_home (net_port_owner setting.net.switches port) (rw is at named)
 
 pub exiting_after : (setting : Setting) (before : List Item) (i mark : ℕ) (route : List ℕ)
@@ -267,14 +267,14 @@ entered_after setting before i s header facts there sound undecided no_leg = sea
 -- ---- decisions
 
 table_not_cached : (tables : Tables) (header : Header) (entry : CacheEntry)
-    → table_lookup tables header ≡ Found.Cached entry → ⊥
+    → switch_table_lookup tables header ≡ Found.Cached entry → ⊥
 table_not_cached tables header entry = search rules
 
 cached_found : (setting : Setting) (journal : List Item) (s : ℕ) (header : Header)
-    (entry : CacheEntry) → lookup_at setting journal s header ≡ Found.Cached entry
-    → first_entry (journal_stamp_of journal s) (number_of header) (journal_cache_of setting journal s).entries
+    (entry : CacheEntry) → machine_lookup_at setting journal s header ≡ Found.Cached entry
+    → first_cache_entry (journal_stamp_of journal s) (header_number_of header) (journal_cache_of setting journal s).entries
     ≡ Some entry
-unfolding lookup_at
+unfolding machine_lookup_at
 cached_found setting journal s header entry answer = search (rules, table_not_cached)
 
 -- what decides the packet
@@ -282,24 +282,24 @@ pub record DecidesRightly (setting : Setting) (before : List Item) (facts : Pack
     (header : Header) (version : ℕ) (rule : Option ℕ) (act : Action) : Type 0 where
   pub not_retired : facts.mark < version
   pub current : version ≤ journal_current_mark before
-  pub first_match : scan (policy_at setting before version) header
+  pub first_match : scan (machine_policy_at setting before version) header
       ≡ record { rule = rule; action = act }
-  pub named : NamesSettingPort setting act
+  pub named : NamesMachineSettingPort setting act
 
 -- a cache answers by an entry that it has, of the version with which its switch stamps
 record HasCached (setting : Setting) (before : List Item) (s : ℕ) (header : Header)
     (entry : CacheEntry) : Type 0 where
   there : Contains (journal_cache_of setting before s).entries entry
   stamp : entry.version ≡ journal_stamp_of before s
-  held : IsTrue (holds entry.word (number_of header))
+  held : IsTrue (holds entry.word (header_number_of header))
 
 has_cached : (setting : Setting) (before : List Item) (s : ℕ) (header : Header)
-    (entry : CacheEntry) → lookup_at setting before s header ≡ Found.Cached entry
+    (entry : CacheEntry) → machine_lookup_at setting before s header ≡ Found.Cached entry
     → HasCached setting before s header entry
 has_cached setting before s header entry answer = search (rules, find-there, cached_found, eqb-true)
 
 cache_decides : (setting : Setting) (before : List Item) (i s version : ℕ) (rule : Option ℕ)
-    (act : Action) (message : ℕ) → IsSetting setting → (here : IsHere setting before i s)
+    (act : Action) (message : ℕ) → IsMachineSetting setting → (here : IsHere setting before i s)
     → All (IsRightPacketCacheEntry setting before) (journal_cache_of setting before s).entries
     → CacheDecidesPacket setting before i s version rule act message
     → DecidesRightly setting before (packet_facts_of before i) here.under.header version rule act
@@ -307,11 +307,11 @@ cache_decides setting before i s version rule act message is here right by =
     let entry : CacheEntry = by.entry in
     let header : Header = here.under.header in
     let cached = has_cached setting before s header entry
-    (ap (lookup_at setting before s) (sym here.header) ∙ by.answer) in
+    (ap (machine_lookup_at setting before s) (sym here.header) ∙ by.answer) in
     let own = All-contains (IsRightPacketCacheEntry setting before) (journal_cache_of setting before s).entries entry
     right cached.there in
     let stamp : entry.version ≡ journal_stamp_of before s = cached.stamp in
-    let match = ap (λ v. scan (policy_at setting before v) header) by.of_version
+    let match = ap (λ v. scan (machine_policy_at setting before v) header) by.of_version
     ∙ scan_of_version setting before entry.version header _ is
     (own.decides header here.under.sound cached.held)
     ∙ ap (λ r. record { rule = r; action = entry.action }) (sym by.by_rule)
@@ -325,7 +325,7 @@ cache_decides setting before i s version rule act message is here right by =
       );
       current = omega (arith, by.of_version, own.current);
       first_match = match;
-      named = rw (ap (λ v. scan (policy_at setting before v) header) (sym (by.of_version ∙ stamp))
+      named = rw (ap (λ v. scan (machine_policy_at setting before v) header) (sym (by.of_version ∙ stamp))
           ∙ match) at (scan_named setting _ _ header here.stamped.planned);
     }
 
@@ -338,7 +338,7 @@ authority_decides setting before i s version rule act partition knows here by =
     let rules = rules_of setting before i s version _ knows.is knows.have here (sought_of setting
     before i s _ knows.kept here (stage_alone (stage_when before i s version by.when))) by.finds in
     let match = sym rules.finds.decides
-    ∙ ap (λ (f : AuthorityRule). record { rule = f.rule.rule; action = f.rule.action })
+    ∙ ap (λ (f : MachineAuthorityRule). record { rule = f.rule.rule; action = f.rule.action })
     (sym rules.same) ∙ ap (λ r. record { rule = r; action = by.found.rule.action }) (sym by.by_rule)
     ∙ ap (λ a. record { rule = rule; action = a }) (sym by.says) in record {
       not_retired = rules.not_retired;

@@ -1,11 +1,11 @@
 -- The blocks of a packet's items have their causes, whatever journal they follow.
 use Rattle.std.proofs.Common.{[], ◌++◌, ◌∙◌, ◌∷◌, ◌≡◌, ◌⊎◌, Bool, IsTrue, List, None, Option, Some, false, inl, inr, refl, rules, slice_get, subst, sym, true, unwrap_or, ℕ}
 use Rattle.base.proofs.Exports.{option_or}
-use Rattle.update_machine.specs.Exports.{Action, AuthorityRule, Decision, Exit, Found, JournalItemsHaveCauses, Header, How, Item, Leg, Lose, Message, Seek, Setting, journal_leg_arrival_items, machine_arrive_items, machine_authority_items, journal_authority_rule, journal_cache_items, journal_decision_of, machine_end_items, first_place, journal_found_down, found_items, machine_item_gives_decision, machine_item_gives_serving, machine_item_gives_standing, machine_item_gives_travelling, go_on, journal_packet_header_at, journal_packet_header, holds_version, machine_hop_items, in_turn, journal_items_then, machine_leg_items, journal_leg_of, lookup_at, machine_lookup_items, lose_items, machine_move_items, near, journal_next_switch, nothing, machine_packet_items, journal_plan_at, journal_present_step, journal_reroute_by, machine_reroute_items, journal_packet_route, journal_route_in, route_place, machine_sent_items_from, serves, journal_stamp_of, standing, machine_stuck_on_leg_item, machine_takes_route, travels}
+use Rattle.update_machine.specs.Exports.{Action, MachineAuthorityRule, Decision, Exit, Found, JournalItemsHaveCauses, Header, How, Item, Leg, Lose, Message, Seek, Setting, journal_leg_arrival_items, machine_arrive_items, machine_authority_items, journal_authority_rule, journal_cache_items, journal_decision_of, machine_end_items, machine_first_rule_place, journal_found_down, machine_found_items, machine_item_gives_decision, machine_item_gives_serving, machine_item_gives_standing, machine_item_gives_travelling, machine_onward_items, journal_packet_header_at, journal_packet_header, holds_version, machine_hop_items, machine_blocks_in_turn, journal_items_then, machine_leg_items, journal_leg_of, machine_lookup_at, machine_lookup_items, machine_lose_items, machine_move_items, near, journal_next_switch, nothing, machine_packet_items, journal_plan_at, journal_present_step, journal_reroute_by, machine_reroute_items, journal_packet_route, journal_route_in, journal_route_place, machine_sent_items_from, serves, journal_stamp_of, journal_standing_of, machine_stuck_on_leg_item, machine_takes_route, travels_in_journal}
 use Rattle.base.specs.Exports.{has}
 use Rattle.update_machine.proofs.Exports.{folded_append, have_append, have_first, last_given_append, lookup_stays, near_stays, policies_keep, switch_keeps}
 use Rattle.control_laws.proofs.Exports.{last_more, own, serving_more}
-use Rattle.packet_laws.specs.Exports.{ArePacketsResting, PacketArrivesHere, AuthorityFinds, Blocked, CameIn, IsPacketAt, IsPacketLookedUp, IsPacketLookedUpBy, PacketIsOfRow, Judged, OnWay, HasPacketItemCause, PacketReachesAuthority, PacketStage, PacketTakesLeg, gives_packet_stage, packet_stage_of}
+use Rattle.packet_laws.specs.Exports.{ArePacketsResting, PacketArrivesHere, PacketAuthorityFinds, Blocked, CameIn, IsPacketAt, IsPacketLookedUp, IsPacketLookedUpBy, PacketIsOfRow, Judged, OnWay, HasPacketItemCause, PacketReachesAuthority, PacketStage, PacketTakesLeg, gives_packet_stage, packet_stage_of}
 use Rattle.packet_laws.proofs.PacketKnownRoutes.{first_usable}
 
 abbrev pub Ways : Setting → List Item → List Item → Type 0
@@ -14,18 +14,18 @@ Ways setting journal items = JournalItemsHaveCauses (HasPacketItemCause setting)
 -- ---- what stays behind one more item
 
 pub travels_more : (before : List Item) (next : Item) (i : ℕ)
-    → travels (before ++ next ∷ []) i ≡ unwrap_or (machine_item_gives_travelling i next) (travels before i)
-unfolding travels
+    → travels_in_journal (before ++ next ∷ []) i ≡ unwrap_or (machine_item_gives_travelling i next) (travels_in_journal before i)
+unfolding travels_in_journal
 travels_more before next i = last_more (machine_item_gives_travelling i) before next false
 
 -- an item with which it ends
 pub ended : (before : List Item) (next : Item) (i : ℕ) → machine_item_gives_travelling i next ≡ Some false
-    → travels (before ++ next ∷ []) i ≡ false
+    → travels_in_journal (before ++ next ∷ []) i ≡ false
 ended before next i ends = rw (travels_more before next i, ends) refl
 
 pub standing_more : (before : List Item) (next : Item) (i : ℕ)
-    → standing (before ++ next ∷ []) i ≡ option_or (machine_item_gives_standing i next) (standing before i)
-unfolding standing
+    → journal_standing_of (before ++ next ∷ []) i ≡ option_or (machine_item_gives_standing i next) (journal_standing_of before i)
+unfolding journal_standing_of
 standing_more before next i = last_given_append (machine_item_gives_standing i) before (next ∷ [])
 
 pub stage_next : (before : List Item) (next : Item) (i : ℕ)
@@ -113,9 +113,9 @@ unfolding journal_leg_of
 leg_more journal i version rule act by = search (rules, folded_append)
 
 -- a decision changes nothing of what decides
-finds_on : (setting : Setting) (journal : List Item) (i s version : ℕ) (found : AuthorityRule)
-    (rule : Option ℕ) (act : Action) (by : How) → AuthorityFinds setting journal i s version found
-    → AuthorityFinds setting (journal ++ Item.Decided i version rule act by ∷ []) i s version found
+finds_on : (setting : Setting) (journal : List Item) (i s version : ℕ) (found : MachineAuthorityRule)
+    (rule : Option ℕ) (act : Action) (by : How) → PacketAuthorityFinds setting journal i s version found
+    → PacketAuthorityFinds setting (journal ++ Item.Decided i version rule act by ∷ []) i s version found
 finds_on setting journal i s version found rule act by finds =
     let decided : Item = Item.Decided i version rule act by in
     let same_plan : journal_plan_at setting (journal ++ decided ∷ []) version
@@ -136,20 +136,20 @@ finds_on setting journal i s version found rule act by finds =
         })
         | inr sought ↦ inr (record {
           seeks = leg_more journal i version rule act by ∙ sought.seeks;
-          first = rw (same_header, same_plan, first_place) sought.first;
+          first = rw (same_header, same_plan, machine_first_rule_place) sought.first;
         })
       ];
     }
 
-cache_ways : (setting : Setting) (journal : List Item) (i s : ℕ) (found : AuthorityRule)
+cache_ways : (setting : Setting) (journal : List Item) (i s : ℕ) (found : MachineAuthorityRule)
     → let decision : Decision = record {
       version = found.version;
       rule = found.rule.rule;
       action = found.rule.action;
     } in
-    IsDecidedHere journal i s decision → AuthorityFinds setting journal i s found.version found
+    IsDecidedHere journal i s decision → PacketAuthorityFinds setting journal i s found.version found
     → Ways setting journal
-    (in_turn (journal_cache_items setting i s found ∷ machine_end_items setting i s found.rule.action ∷ []) journal)
+    (machine_blocks_in_turn (journal_cache_items setting i s found ∷ machine_end_items setting i s found.rule.action ∷ []) journal)
 unfolding journal_cache_items machine_sent_items_from
 cache_ways setting journal i s found here finds = search (rules, have_append, end_ways, judged_on)
 
@@ -159,20 +159,20 @@ WhenDecided journal i s version =
     IsPacketLookedUpBy journal i s version ⊎ PacketReachesAuthority journal i s version
 
 pub authority_ways : (setting : Setting) (journal : List Item) (i s version : ℕ)
-    (o : Option AuthorityRule) → IsPacketAt journal i s → WhenDecided journal i s version
-    → ((found : AuthorityRule) → o ≡ Some found
-    → (found.version ≡ version) × AuthorityFinds setting journal i s version found)
+    (o : Option MachineAuthorityRule) → IsPacketAt journal i s → WhenDecided journal i s version
+    → ((found : MachineAuthorityRule) → o ≡ Some found
+    → (found.version ≡ version) × PacketAuthorityFinds setting journal i s version found)
     → Ways setting journal (machine_authority_items setting i s o journal)
 unfolding machine_authority_items
 authority_ways setting journal i s version None at when finds = tt
 authority_ways setting journal i s version (Some found) at when finds =
     let own_version : found.version ≡ version = (finds found refl).0 in
-    let here = subst (λ v. AuthorityFinds setting journal i s v found) (sym own_version)
+    let here = subst (λ v. PacketAuthorityFinds setting journal i s v found) (sym own_version)
     (finds found refl).1 in
     have_first (HasPacketItemCause setting)
     (Item.Decided i found.version found.rule.rule found.rule.action
     (How.Authority s found.part.number))
-    (in_turn (journal_cache_items setting i s found ∷ machine_end_items setting i s found.rule.action ∷ []))
+    (machine_blocks_in_turn (journal_cache_items setting i s found ∷ machine_end_items setting i s found.rule.action ∷ []))
     journal
     (record {
       switch = s;
@@ -194,13 +194,13 @@ authority_ways setting journal i s version (Some found) at when finds =
 
 -- the rule of a partition is of its version
 rule_version : (setting : Setting) (journal : List Item) (version partition place : ℕ)
-    (found : AuthorityRule) → journal_authority_rule setting journal version partition place ≡ Some found
+    (found : MachineAuthorityRule) → journal_authority_rule setting journal version partition place ≡ Some found
     → found.version ≡ version
 rule_version setting journal version partition place found is = search rules
 
 found_ways : (setting : Setting) (journal : List Item) (i s : ℕ) (what : Found) → IsPacketAt journal i s
-    → IsPacketLookedUp journal i s → lookup_at setting journal s (journal_packet_header_at journal i) ≡ what
-    → Ways setting journal (found_items setting i s what journal)
+    → IsPacketLookedUp journal i s → machine_lookup_at setting journal s (journal_packet_header_at journal i) ≡ what
+    → Ways setting journal (machine_found_items setting i s what journal)
 found_ways setting journal i s (Found.Cached entry) at looked answer =
     have_first (HasPacketItemCause setting)
     (Item.Decided i entry.version entry.rule entry.action (How.Cached entry.message))
@@ -239,7 +239,7 @@ arrive_ways setting journal i s at arrives = by_leg (journal_leg_of journal i) r
       → holds_version journal s version ≡ b → Ways setting journal (elim b [
         | false ↦ machine_lookup_items setting i s journal
         | true ↦ machine_authority_items setting i s (journal_authority_rule setting journal version partition
-            (first_place setting journal version partition (journal_packet_header_at journal i))) journal
+            (machine_first_rule_place setting journal version partition (journal_packet_header_at journal i))) journal
       ])
   by_held version partition false seeks held = lookup_ways setting journal i s at (inr (record {
     arrives = arrives;
@@ -249,7 +249,7 @@ arrive_ways setting journal i s at arrives = by_leg (journal_leg_of journal i) r
     missing = held;
   }))
   by_held version partition true seeks held =
-      let place : ℕ = first_place setting journal version partition (journal_packet_header_at journal i) in
+      let place : ℕ = machine_first_rule_place setting journal version partition (journal_packet_header_at journal i) in
       authority_ways setting journal i s version
       (journal_authority_rule setting journal version partition place) at
       (inr (record { arrives = arrives; partition = partition; seeks = seeks; held = held }))
@@ -273,13 +273,13 @@ arrive_ways setting journal i s at arrives = by_leg (journal_leg_of journal i) r
 -- behind a new route the packet is at its first place
 route_now : (journal : List Item) (i : ℕ) (route : List ℕ)
     → journal_next_switch (journal ++ Item.Rerouted i route ∷ []) i ≡ slice_get route 1
-unfolding journal_next_switch journal_route_in route_place
+unfolding journal_next_switch journal_route_in journal_route_place
 route_now journal i route = rw (last_given_append, folded_append, own) refl
 
 go_on_ways : (setting : Setting) (journal : List Item) (i s : ℕ) → IsPacketAt journal i s
     → packet_stage_of journal i ≡ Some OnWay
     → ((next : ℕ) → journal_next_switch journal i ≡ Some next → IsTrue (has (near setting journal s) next))
-    → Ways setting journal (go_on setting i s journal)
+    → Ways setting journal (machine_onward_items setting i s journal)
 go_on_ways setting journal i s at moving usable = search (rules, arrive_ways)
 
 reroute_ways : (setting : Setting) (journal : List Item) (i s : ℕ) → IsPacketAt journal i s
@@ -288,9 +288,9 @@ unfolding machine_reroute_items
 reroute_ways setting journal i s at blocked = by_leg (journal_leg_of journal i) refl where
   detour : (leg : Leg) (route : List ℕ) → journal_leg_of journal i ≡ Some leg
       → journal_packet_route setting journal i s leg ≡ Some route
-      → Ways setting journal (journal_items_then (Item.Rerouted i route ∷ []) (go_on setting i s) journal)
+      → Ways setting journal (journal_items_then (Item.Rerouted i route ∷ []) (machine_onward_items setting i s) journal)
   detour leg route takes leads = let turned : Item = Item.Rerouted i route in
-      have_first (HasPacketItemCause setting) turned (go_on setting i s) journal
+      have_first (HasPacketItemCause setting) turned (machine_onward_items setting i s) journal
       (record {
         switch = s;
         at = at;
@@ -306,7 +306,7 @@ reroute_ways setting journal i s at blocked = by_leg (journal_leg_of journal i) 
   by_route : (leg : Leg) (o : Option (List ℕ)) → journal_leg_of journal i ≡ Some leg
       → journal_packet_route setting journal i s leg ≡ o → Ways setting journal (elim o [
         | None ↦ machine_stuck_on_leg_item setting journal i s leg ∷ []
-        | Some route ↦ journal_items_then (Item.Rerouted i route ∷ []) (go_on setting i s) journal
+        | Some route ↦ journal_items_then (Item.Rerouted i route ∷ []) (machine_onward_items setting i s) journal
       ])
   by_route leg None takes none = (
     record {
@@ -377,6 +377,6 @@ unfolding machine_hop_items
 hop_ways setting journal i rests = search (rules, move_ways)
 
 pub lose_ways : (setting : Setting) (journal : List Item) (i : ℕ)
-    → journal_present_step journal ≡ Some (Lose i) → Ways setting journal (lose_items i journal)
-unfolding lose_items
+    → journal_present_step journal ≡ Some (Lose i) → Ways setting journal (machine_lose_items i journal)
+unfolding machine_lose_items
 lose_ways setting journal i loses = search rules

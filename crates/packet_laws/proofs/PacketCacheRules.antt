@@ -1,16 +1,16 @@
 -- The cache rule of the rule by which a partition of a plan decides a header is right: the policy
 -- decides each header of its word so.
 use Rattle.std.proofs.Common.{[], ◌&&◌, ◌++◌, ◌<◌, ◌==◌, ◌^◌, ◌||◌, ◌∙◌, ◌∷◌, ◌≡◌, ◌≤◌, ◌⊎◌, All, Bool, Contains, IsNone, IsSomeAnd, IsTrue, List, None, Option, Some, ap, arith, cond, drop, eqb-true, false, find, if◌then◌else◌, inl, inr, length, map, mod-eq_of_lt, nat_le, nat_lt, option_map, refl, slice_get, subst, suc, sym, take, true, zero, ℕ, rules}
-use Rattle.update_machine.specs.Exports.{Action, Body, CacheEntry, CacheRule, Exit, SettingHasPlan, JournalItemsHaveCauses, Header, Hit, IsSetting, Item, Leg, OpenAt, Partition, Row, Rule, Seek, Setting, Stamp, JournalVersionsAreNumbered, journal_body_to_switch, machine_cache_after, journal_cache_of, machine_cache_carried_from, changes_journal_cache, journal_current_mark, journal_plan_at, policy_at, policy_in, raised_from, journal_retired_mark, journal_stamp_of, machine_touched_by, journal_version_count}
-use Rattle.policy_rules.specs.Exports.{IsFirstMatch, first_rule, policy_hit_of_rule, is_held, is_in_policy_partition, scan}
+use Rattle.update_machine.specs.Exports.{Action, Body, CacheEntry, CacheRule, Exit, MachineVersionHasPlan, JournalItemsHaveCauses, Header, Hit, IsMachineSetting, Item, Leg, OpenAt, Partition, Row, Rule, Seek, Setting, Stamp, JournalVersionsAreNumbered, journal_body_to_switch, machine_cache_after, journal_cache_of, machine_cache_carried_from, changes_journal_cache, journal_current_mark, journal_plan_at, machine_policy_at, machine_policy_in, machine_cache_raised_from, journal_retired_mark, journal_stamp_of, machine_touched_by, journal_version_count}
+use Rattle.policy_rules.specs.Exports.{IsFirstPolicyMatch, first_policy_rule, policy_hit_of_rule, is_held_by_policy_rule, is_in_policy_partition, scan}
 use Rattle.policy_rules.proofs.PolicyRulesCallerLemmas.{first_match-only, first_match-scan, none_from_not_some}
 use Rattle.update_machine.proofs.Exports.{folded_append, plan_stays, policy_stays, touched_apart, versions_own}
 use Rattle.base.proofs.Exports.{All-append, All-contains, All-drop, All-filter, All-push, All-tail, All-take, All-weaker, and_mask, get_or_from_slice_get, list_any, option_map_or, same_Some, slice_get-map, slice_get_within}
 use Rattle.cache_maker.specs.Independent.{IsIndependentCacheWord, is_cache_word_independent, widen, widening_of}
 use Rattle.cache_maker.proofs.IndependentCacheWords.{test_true}
-use Rattle.five_tuple.specs.Exports.{IsHeader, number_of}
-use Rattle.switch_table.specs.Exports.{CacheValue, Hosted, WasCacheEntryCarried, cache_after_carry, cache_after_raise, cache_word_meets_touched, newest_cache_entries, part_of, same_key}
-use Rattle.ternary.specs.Exports.{WordValue, word_covers_of, exact_word, ternary_with_bit_freed, holds, meet_of}
+use Rattle.five_tuple.specs.Exports.{IsHeader, header_number_of}
+use Rattle.switch_table.specs.Exports.{CacheValue, HostedPolicyPartition, WasCacheEntryCarried, cache_after_carry, cache_after_raise, cache_word_meets_touched, newest_cache_entries, switch_table_part_of, same_cache_key}
+use Rattle.ternary.specs.Exports.{WordValue, word_covers_of, exact_word, ternary_with_bit_freed, holds, word_meet_of}
 use Rattle.ternary.proofs.TernaryCallerLemmas.{covers_held, meet_disjoint}
 use Rattle.packet_laws.proofs.PacketHeaderLookups.{Finds, IsPlanned}
 use Rattle.switch_table.proofs.CacheCarryLemmas.{only_carried}
@@ -22,13 +22,13 @@ use Rattle.control_laws.proofs.Exports.{bounded, caused_numbered, current_rises,
 
 -- what a scan finds is the first match
 pub first_match_by_scan : (rows : List Row) (header : Header) (hit : Hit) → scan rows header ≡ hit
-    → IsFirstMatch rows header hit
+    → IsFirstPolicyMatch rows header hit
 first_match_by_scan rows header hit is = rw is at (first_match-scan rows header)
 
 -- and the first match under a version is what a scan of its policy finds
 pub scan_of_version : (setting : Setting) (journal : List Item) (version : ℕ) (header : Header)
-    (hit : Hit) → IsSetting setting → IsFirstMatch (policy_at setting journal version) header hit
-    → scan (policy_at setting journal version) header ≡ hit
+    (hit : Hit) → IsMachineSetting setting → IsFirstPolicyMatch (machine_policy_at setting journal version) header hit
+    → scan (machine_policy_at setting journal version) header ≡ hit
 scan_of_version setting journal version header hit is first =
     search (rules, first_match-only, versions_own)
 
@@ -39,77 +39,77 @@ scan_of_version setting journal version header hit is first =
 -- the rule that covers a word, which no earlier rule meets, is the first to hold what it holds
 first_found : (rules : List Rule) (index : ℕ) (rule : Rule) (word : WordValue) (number : ℕ)
     → slice_get rules index ≡ Some rule → IsTrue (word_covers_of rule.word word)
-    → All (λ earlier. IsNone (meet_of word earlier.word)) (take index rules) →
-    IsTrue (holds word number) → find (is_held number) rules ≡ Some rule
+    → All (λ earlier. IsNone (word_meet_of word earlier.word)) (take index rules) →
+    IsTrue (holds word number) → find (is_held_by_policy_rule number) rules ≡ Some rule
 first_found [] index rule word number at covered earlier held = absurd cc
 first_found (first ∷ rules) zero rule word number at covered earlier held =
     let here : holds rule.word number ≡ true = covers_held rule.word word number covered held in
     let same : rule ≡ first = cc in
-    ap (λ b. cond b (Some first) (find (is_held number) rules))
-    (ap (is_held number) (sym same) ∙ here) ∙ ap Some (sym same)
+    ap (λ b. cond b (Some first) (find (is_held_by_policy_rule number) rules))
+    (ap (is_held_by_policy_rule number) (sym same) ∙ here) ∙ ap Some (sym same)
 first_found (first ∷ rules) (suc index) rule word number at covered earlier held =
     let apart = sym (ap (λ b. b && holds first.word number) held) ∙ meet_disjoint word first.word
-    number (none_from_not_some (meet_of word first.word) (earlier 0 first (omega arith))) in
-    ap (λ b. cond b (Some first) (find (is_held number) rules)) apart
+    number (none_from_not_some (word_meet_of word first.word) (earlier 0 first (omega arith))) in
+    ap (λ b. cond b (Some first) (find (is_held_by_policy_rule number) rules)) apart
     ∙ first_found rules index rule word number at covered
-    (All-tail (λ later. IsNone (meet_of word later.word)) first (take index rules) earlier) held
+    (All-tail (λ later. IsNone (word_meet_of word later.word)) first (take index rules) earlier) held
 
 exact_number : (number other : ℕ) → number < 2 ^ 104 → other < 2 ^ 104
     → IsTrue (holds (exact_word number) other) → other ≡ number
 unfolding holds
 exact_number number other bound fits held = search (rules, and_mask, mod-eq_of_lt, eqb-true)
 
-number_bound : (header : Header) → IsHeader header → number_of header < 2 ^ 104
+number_bound : (header : Header) → IsHeader header → header_number_of header < 2 ^ 104
 number_bound header sound = search rules
 
 -- ---- headers of a partition
 
 -- the first rule of a partition of a plan decides each header of its region
-region_decides : (setting : Setting) (rows : List Row) (plan : List Hosted)
-    (number : ℕ) (hosted : Hosted) (header : Header) → IsPlanned setting rows plan → IsHeader header
-    → slice_get plan number ≡ Some hosted → IsTrue (is_in_policy_partition header (part_of hosted))
-    → option_map policy_hit_of_rule (first_rule hosted.0.rules header) ≡ Some (scan rows header)
+region_decides : (setting : Setting) (rows : List Row) (plan : List HostedPolicyPartition)
+    (number : ℕ) (hosted : HostedPolicyPartition) (header : Header) → IsPlanned setting rows plan → IsHeader header
+    → slice_get plan number ≡ Some hosted → IsTrue (is_in_policy_partition header (switch_table_part_of hosted))
+    → option_map policy_hit_of_rule (first_policy_rule hosted.0.rules header) ≡ Some (scan rows header)
 region_decides setting rows plan number hosted header is sound at =
-    let parts : List Partition = map part_of plan in
-    let there = slice_get-map part_of plan number ∙ ap (option_map part_of) at in
+    let parts : List Partition = map switch_table_part_of plan in
+    let there = slice_get-map switch_table_part_of plan number ∙ ap (option_map switch_table_part_of) at in
     subst (λ (p : Partition). IsTrue (is_in_policy_partition header p)
-    → option_map policy_hit_of_rule (first_rule p.rules header) ≡ Some (scan rows header))
-    (get_or_from_slice_get parts number (part_of hosted) (part_of hosted) there)
-    (is.parts.sound.decides header sound number (part_of hosted)
-    (slice_get_within parts number (part_of hosted) there))
+    → option_map policy_hit_of_rule (first_policy_rule p.rules header) ≡ Some (scan rows header))
+    (get_or_from_slice_get parts number (switch_table_part_of hosted) (switch_table_part_of hosted) there)
+    (is.parts.sound.decides header sound number (switch_table_part_of hosted)
+    (slice_get_within parts number (switch_table_part_of hosted) there))
 
 -- the policy decides each header of the word by this rule
 abbrev Settles : List Row → Rule → WordValue → Type 0
 Settles rows rule word = (header : Header) → IsHeader header
-    → IsTrue (holds word (number_of header)) → scan rows header ≡ policy_hit_of_rule rule
+    → IsTrue (holds word (header_number_of header)) → scan rows header ≡ policy_hit_of_rule rule
 
-exact_settles : (setting : Setting) (rows : List Row) (plan : List Hosted) (header : Header)
-    (hosted : Hosted) (finds : Finds rows plan header hosted) → IsPlanned setting rows plan → IsHeader header
-    → Settles rows finds.rule (exact_word (number_of header))
+exact_settles : (setting : Setting) (rows : List Row) (plan : List HostedPolicyPartition) (header : Header)
+    (hosted : HostedPolicyPartition) (finds : Finds rows plan header hosted) → IsPlanned setting rows plan → IsHeader header
+    → Settles rows finds.rule (exact_word (header_number_of header))
 exact_settles setting rows plan header hosted finds is sound other fits held =
     let same = exact_number _ _ (number_bound header sound) (number_bound other fits) held in
     same_Some _ _ (sym (region_decides setting rows plan hosted.0.number hosted other is fits finds.at
     (subst (λ n. IsTrue (holds hosted.0.region n)) (sym same) finds.holds))
-    ∙ ap (λ n. option_map policy_hit_of_rule (find (is_held n) hosted.0.rules)) same
+    ∙ ap (λ n. option_map policy_hit_of_rule (find (is_held_by_policy_rule n) hosted.0.rules)) same
     ∙ region_decides setting rows plan hosted.0.number hosted header is sound finds.at finds.holds)
     ∙ sym finds.decides
 
-independent_settles : (setting : Setting) (rows : List Row) (plan : List Hosted) (header : Header)
-    (hosted : Hosted) (finds : Finds rows plan header hosted) (word : WordValue) → IsPlanned setting rows plan
+independent_settles : (setting : Setting) (rows : List Row) (plan : List HostedPolicyPartition) (header : Header)
+    (hosted : HostedPolicyPartition) (finds : Finds rows plan header hosted) (word : WordValue) → IsPlanned setting rows plan
     → IsIndependentCacheWord hosted.0.region hosted.0.rules finds.place word →
     Settles rows finds.rule word
 independent_settles setting rows plan header hosted finds word is apart other fits held =
-    let first = first_found hosted.0.rules finds.place finds.rule word (number_of other) finds.ruled
+    let first = first_found hosted.0.rules finds.place finds.rule word (header_number_of other) finds.ruled
     (subst (λ o. IsSomeAnd o (λ (rule : Rule). IsTrue (word_covers_of rule.word word))) finds.ruled
     apart.in_rule) apart.earlier held in
     same_Some _ _ (sym (region_decides setting rows plan _ hosted other is fits finds.at
     (covers_held hosted.0.region word _ apart.in_region held)) ∙ ap (option_map policy_hit_of_rule) first)
 
 -- each bit is freed where that keeps the word independent
-widened_settles : (setting : Setting) (rows : List Row) (plan : List Hosted) (header : Header)
-    (hosted : Hosted) (finds : Finds rows plan header hosted) (n : ℕ) → IsPlanned setting rows plan → IsHeader header
+widened_settles : (setting : Setting) (rows : List Row) (plan : List HostedPolicyPartition) (header : Header)
+    (hosted : HostedPolicyPartition) (finds : Finds rows plan header hosted) (n : ℕ) → IsPlanned setting rows plan → IsHeader header
     → Settles rows finds.rule
-    (widening_of (number_of header) hosted.0.region hosted.0.rules finds.place n)
+    (widening_of (header_number_of header) hosted.0.region hosted.0.rules finds.place n)
 unfolding widening_of
 widened_settles setting rows plan header hosted finds zero is sound = search (rules, exact_settles)
 widened_settles setting rows plan header hosted finds (suc n) is sound =
@@ -117,7 +117,7 @@ widened_settles setting rows plan header hosted finds (suc n) is sound =
     (widened_settles setting rows plan header hosted finds n is sound)
   where
     before : WordValue
-    before = widening_of (number_of header) hosted.0.region hosted.0.rules finds.place n
+    before = widening_of (header_number_of header) hosted.0.region hosted.0.rules finds.place n
 
     by_test : (b : Bool) → is_cache_word_independent hosted.0.region hosted.0.rules finds.place
         (ternary_with_bit_freed before n) ≡ b → Settles rows finds.rule before
@@ -128,17 +128,17 @@ widened_settles setting rows plan header hosted finds (suc n) is sound =
 
 -- ---- the cache rule
 
-pub cache_rule_right : (setting : Setting) (rows : List Row) (plan : List Hosted)
-    (header : Header) (hosted : Hosted) (finds : Finds rows plan header hosted)
+pub cache_rule_right : (setting : Setting) (rows : List Row) (plan : List HostedPolicyPartition)
+    (header : Header) (hosted : HostedPolicyPartition) (finds : Finds rows plan header hosted)
     → IsPlanned setting rows plan → IsHeader header
-    → Settles rows finds.rule (widen (number_of header) hosted.0.region hosted.0.rules finds.place)
+    → Settles rows finds.rule (widen (header_number_of header) hosted.0.region hosted.0.rules finds.place)
 unfolding widen
 cache_rule_right setting rows plan header hosted finds is sound = search (rules, widened_settles)
 
 -- ---- cache rules that are carried to a version decide as its policy does
 
 module _ (setting : Setting) (before : List Item) (version : ℕ) (cache : CacheValue)
-    (is : IsSetting setting) (has : SettingHasPlan setting before version)
+    (is : IsMachineSetting setting) (has : MachineVersionHasPlan setting before version)
     (current : version ≤ journal_current_mark before)
     (all : All (IsRightPacketCacheEntry setting before) cache.entries) where
   abbrev touched : List WordValue
@@ -158,10 +158,10 @@ module _ (setting : Setting) (before : List Item) (version : ℕ) (cache : Cache
       subst (IsRightPacketCacheEntry setting before) (sym went.is) (record {
         known = omega (arith, went.before);
         current = current;
-        decides = λ header sound held. first_match_by_scan (policy_at setting before version) header
-            _ (subst (λ v. scan (policy_at setting before v) header ≡ scan (policy_at setting before
+        decides = λ header sound held. first_match_by_scan (machine_policy_at setting before version) header
+            _ (subst (λ v. scan (machine_policy_at setting before v) header ≡ scan (machine_policy_at setting before
             old.version) header) next (touched_apart setting before old.version old.word header is
-            (subst (λ v. policy_in setting before v ≡ Some (policy_at setting before v)) (sym next)
+            (subst (λ v. machine_policy_in setting before v ≡ Some (machine_policy_at setting before v)) (sym next)
             has.policy) apart sound held) ∙ scan_of_version setting before old.version header
             (record { rule = old.rule; action = old.action }) is
             ((there old went.there).decides header sound held));
@@ -184,7 +184,7 @@ pub record Grows (setting : Setting) (before after : List Item) : Type 0 where
   pub retired : journal_retired_mark before ≤ journal_retired_mark after
   pub current : journal_current_mark before ≤ journal_current_mark after
   pub policy : (v : ℕ) → 1 ≤ v → v ≤ journal_current_mark before
-      → policy_at setting after v ≡ policy_at setting before v
+      → machine_policy_at setting after v ≡ machine_policy_at setting before v
   pub plan : (v : ℕ) → 1 ≤ v → v ≤ journal_current_mark before
       → journal_plan_at setting after v ≡ journal_plan_at setting before v
 
@@ -210,7 +210,7 @@ pub right_on : (setting : Setting) (before after : List Item) (version : ℕ) (w
 right_on setting before after version word rule action grow right = search rules
 
 part_on : (setting : Setting) (before after : List Item) (header : Header)
-    (version partition : ℕ) (hosted : Hosted) → Grows setting before after → 1 ≤ version
+    (version partition : ℕ) (hosted : HostedPolicyPartition) → Grows setting before after → 1 ≤ version
     → version ≤ journal_current_mark before
     → IsPacketPartitionOf setting before header version partition hosted
     → IsPacketPartitionOf setting after header version partition hosted
@@ -308,7 +308,7 @@ newest_holds P capacity entries all = by_room (nat_lt capacity (length entries))
   by_room false = all
 
 raised_holds : (P : CacheEntry → Type 0) (earlier stamp : ℕ) (cache : CacheValue)
-    → Holds P cache → Holds P (raised_from earlier stamp cache)
+    → Holds P cache → Holds P (machine_cache_raised_from earlier stamp cache)
 raised_holds P earlier stamp cache all = by_test (nat_lt earlier stamp) where
   by_test : (b : Bool) → Holds P (if b then cache_after_raise stamp cache else cache)
   by_test true = All-filter (λ entry. nat_le stamp entry.version) P cache.entries all
@@ -342,7 +342,7 @@ told_holds : (P : CacheEntry → Type 0) (setting : Setting) (s : ℕ) (before :
     → Holds P (machine_cache_after (machine_touched_by setting before) (journal_stamp_of before s) stamp number cache body)
 told_holds P setting s before stamp number cache (CacheRule version word rule action) said carries
     brings all = by_test (nat_lt version stamp
-    || list_any (same_key (entry_of number version word rule action)) cache.entries)
+    || list_any (same_cache_key (entry_of number version word rule action)) cache.entries)
   where
     by_test : (b : Bool) → Holds P (if b then cache else record cache {
       entries = newest_cache_entries cache.capacity (cache.entries

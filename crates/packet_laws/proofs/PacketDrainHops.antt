@@ -1,7 +1,7 @@
 -- Each hop of a drain leaves fewer to be taken, and so a drain ends.
 use Rattle.std.proofs.Common.{[], ◌&&◌, ◌*◌, ◌++◌, ◌+◌, ◌-◌, ◌<◌, ◌==◌, ◌∙◌, ◌∷◌, ◌≡◌, ◌≢◌, ◌≤◌, Bool, List, None, Option, Some, ap, append_assoc, arith, eq-eqb, eqb-true, false, find, length, ne_eqb, option_map, refl, subst, sum_by, sym, true, ℕ, rules}
 use Rattle.base.proofs.Exports.{and_parts, cases_eq, length-range_with_len, range_with_len, sum_by-cons}
-use Rattle.update_machine.specs.Exports.{AreAllMachineEventSteps, AreFirstMachineEventSteps, JournalItemsHaveCauses, Hop, IsJournalReached, IsSetting, Item, Setting, Step, StepOfRow, journal_after_steps, item_concerns_steps, count_of, machine_item_gives_step, machine_hop_items, is_packet, journal_next_hop, journal_next_packet, next_travelling, journal_packets, piece, journal_present_step, machine_step_items, travels}
+use Rattle.update_machine.specs.Exports.{AreAllMachineEventSteps, AreFirstMachineEventSteps, JournalItemsHaveCauses, Hop, IsJournalReached, IsMachineSetting, Item, Setting, Step, MachineStepOfRow, journal_after_steps, machine_item_concerns_steps, machine_count_of, machine_item_gives_step, machine_hop_items, is_machine_packet_entry, journal_next_hop, journal_next_packet, next_travelling, journal_packets, piece, journal_present_step, machine_step_items, travels_in_journal}
 use Rattle.update_machine.proofs.Exports.{AreOf, Nears, have_append, last_given_append, loop_ends, packet_keeps, step_stays}
 use Rattle.control_laws.specs.Exports.{ControlLawHoldsReached}
 use Rattle.control_laws.proofs.Exports.{AreKept, Both, IsCarried, NamesOwn, OfSettings, behind_piece, carried_on, fact_on, have_both, have_weaker, reached_by, reached_carries, setting_carries}
@@ -51,20 +51,20 @@ row_off : (journal : List Item) (row : ℕ) (step : Step) (j : ℕ)
 row_off journal row step j stays off = search (rules, asked_more)
 
 step_off : (setting : Setting) (journal : List Item) (row : ℕ) (step : Step) (j : ℕ)
-    → IsSetting setting → NamesOwn setting step → IsReady setting journal
+    → IsMachineSetting setting → NamesOwn setting step → IsReady setting journal
     → let here = journal ++ Item.Row row step ∷ [] in
     is_asked (here ++ machine_step_items setting journal step here) j ≡ false
-step_off setting journal row (Hop i) j is own ready = by_test ((i == j) && travels journal j) refl
+step_off setting journal row (Hop i) j is own ready = by_test ((i == j) && travels_in_journal journal j) refl
   where
     here : List Item
     here = journal ++ Item.Row row (Hop i) ∷ []
 
-    by_test : (b : Bool) → ((i == j) && travels journal j) ≡ b
+    by_test : (b : Bool) → ((i == j) && travels_in_journal journal j) ≡ b
         → is_asked (here ++ machine_step_items setting journal (Hop i) here) j ≡ false
     by_test false e = stays_off j here _ (no_rows setting journal row (Hop i))
         (row_off journal row (Hop i) j (rw e refl) (ready.off j))
     by_test true e =
-        let parts = and_parts (i == j) (travels journal j) e in
+        let parts = and_parts (i == j) (travels_in_journal journal j) e in
         let keeps = packet_keeps j journal (Item.Row row (Hop i) ∷ []) (refl, tt) in
         turns_off j here (machine_step_items setting journal (Hop i) here)
         (no_rows setting journal row (Hop i))
@@ -75,7 +75,7 @@ step_off setting journal row step j is own ready = stays_off j (journal ++ Item.
     (no_rows setting journal row step) (row_off journal row step j refl (ready.off j))
 
 pub piece_ready : (setting : Setting) (journal : List Item) (row : ℕ) (step : Step)
-    → IsSetting setting → NamesOwn setting step → IsReady setting journal
+    → IsMachineSetting setting → NamesOwn setting step → IsReady setting journal
     → IsReady setting (journal ++ piece setting journal row step)
 piece_ready setting journal row step is own ready = record {
   settled = piece_settled setting journal row step is own ready.settled;
@@ -93,20 +93,20 @@ ready_at_first setting = record { settled = settled_at_first setting; begins = t
 ready_carried : (setting : Setting) → IsCarried setting (OfSettings IsReady setting)
 ready_carried = setting_carries IsReady ready_at_first piece_ready
 
-pub steps_ready : (setting : Setting) (before : List Item) (steps : List StepOfRow)
-    → IsSetting setting → AreOf (NamesOwn setting) steps → IsReady setting before
+pub steps_ready : (setting : Setting) (before : List Item) (steps : List MachineStepOfRow)
+    → IsMachineSetting setting → AreOf (NamesOwn setting) steps → IsReady setting before
     → IsReady setting (journal_after_steps setting before steps)
 steps_ready setting before steps is own ready = carried_on setting (OfSettings IsReady setting)
     (ready_carried setting) before steps own (λ is. ready) is
 
 pub reached_ready : (setting : Setting) (journal : List Item) → IsJournalReached setting journal
-    → IsSetting setting → IsReady setting journal
+    → IsMachineSetting setting → IsReady setting journal
 reached_ready setting = reached_carries setting (OfSettings IsReady setting) (ready_carried setting)
 
 -- what follows from the causes of all items is true of each reached journal, within a step too
 pub reached : (Holds : Setting → List Item → Type 0) → ((setting : Setting) (journal : List Item)
-    → IsSetting setting → JournalItemsHaveCauses (IsHopItem setting) [] journal → Holds setting journal)
-    → ControlLawHoldsReached (λ setting journal. IsSetting setting → Holds setting journal)
+    → IsMachineSetting setting → JournalItemsHaveCauses (IsHopItem setting) [] journal → Holds setting journal)
+    → ControlLawHoldsReached (λ setting journal. IsMachineSetting setting → Holds setting journal)
 reached Holds = reached_by IsReady Holds IsHopItem ready_carried hop_causes
 
 -- ---- drain hops
@@ -124,10 +124,10 @@ taken_stays j n before next none same = search (rules, hops_more, not_taken)
 -- a step that brings no packet in
 record IsHopping (i count : ℕ) (journal : List Item) : Type 0 where
   present : journal_present_step journal ≡ Some (Hop i)
-  packets : count_of is_packet journal ≡ count
+  packets : machine_count_of is_machine_packet_entry journal ≡ count
 
 no_row_concerns : (before : List Item) (next : Item) → IsNoRow next
-    → item_concerns_steps before next ≡ false
+    → machine_item_concerns_steps before next ≡ false
 no_row_concerns before next none = search rules
 
 still_present : (before : List Item) (next : Item) (i : ℕ) → IsNoRow next
@@ -150,7 +150,7 @@ unfolding journal_present_step
 row_present journal row i = last_given_append machine_item_gives_step journal (Item.Row row (Hop i) ∷ [])
 
 hop_is : (setting : Setting) (journal : List Item) (row i : ℕ) → IsReady setting journal
-    → travels journal i ≡ true → IsHopped i journal (journal ++ piece setting journal row (Hop i))
+    → travels_in_journal journal i ≡ true → IsHopped i journal (journal ++ piece setting journal row (Hop i))
 unfolding piece
 hop_is setting journal row i ready on =
     subst (IsHopped i journal) (append_assoc journal (Item.Row row (Hop i) ∷ []) items) (record {
@@ -169,13 +169,13 @@ hop_is setting journal row i ready on =
     behind : (j n : ℕ) → packet_hops_taken here j ≡ n → packet_hops_taken (here ++ items) j ≡ n
     behind j n is = fact_on _ _ (taken_stays j n) here items (no_rows _ journal row (Hop i)) is
 
-    hopping : IsHopping i (count_of is_packet journal) (here ++ items)
-    hopping = fact_on _ (IsHopping i (count_of is_packet journal))
-        (hopping_kept setting i (count_of is_packet journal)) here items
+    hopping : IsHopping i (machine_count_of is_machine_packet_entry journal) (here ++ items)
+    hopping = fact_on _ (IsHopping i (machine_count_of is_machine_packet_entry journal))
+        (hopping_kept setting i (machine_count_of is_machine_packet_entry journal)) here items
         (have_both _ _ here items (piece_ways setting journal row (Hop i) ready.settled.rests).1
         (no_rows setting journal row (Hop i))) (record {
           present = row_present journal row i;
-          packets = count_more is_packet journal (Item.Row row (Hop i));
+          packets = count_more is_machine_packet_entry journal (Item.Row row (Hop i));
         })
 
 -- ---- what is left
@@ -198,9 +198,9 @@ sum_falls f g test i less falls (x ∷ xs) is =
     search (rules, sum_by-cons, sum_stays, sum_falls f g test i less falls xs)
 
 next_travels : (journal : List Item) (i : ℕ) → next_travelling journal ≡ Some i
-    → travels journal i ≡ true
+    → travels_in_journal journal i ≡ true
 unfolding next_travelling
-next_travels journal i is = (least (travels journal) 1 (count_of is_packet journal) i is).holds
+next_travels journal i is = (least (travels_in_journal journal) 1 (machine_count_of is_machine_packet_entry journal) i is).holds
 
 fewer_left : (journal after : List Item) (i : ℕ) → IsHopped i journal after
     → packet_hops_taken after i ≤ most_packet_hops → next_travelling journal ≡ Some i
@@ -208,7 +208,7 @@ fewer_left : (journal after : List Item) (i : ℕ) → IsHopped i journal after
 unfolding packet_drain_left next_travelling
 fewer_left journal after i hopped few is = search (rules, sum_falls, cases_eq)
 
-pub drain_falls : (setting : Setting) (journal : List Item) (row i : ℕ) → IsSetting setting
+pub drain_falls : (setting : Setting) (journal : List Item) (row i : ℕ) → IsMachineSetting setting
     → IsReady setting journal → next_travelling journal ≡ Some i
     → packet_drain_left (journal ++ piece setting journal row (Hop i)) < packet_drain_left journal
 drain_falls setting journal row i is ready least =
@@ -224,7 +224,7 @@ by_next : (next : Option ℕ) (acts : ℕ → Step) (step : Step) (P : Step → 
 by_next None acts step P each is = absurd cc
 by_next (Some n) acts step P each is = let same : acts n ≡ step = cc in subst P same (each n refl)
 
-pub drain_nears : (setting : Setting) (row : ℕ) → IsSetting setting
+pub drain_nears : (setting : Setting) (row : ℕ) → IsMachineSetting setting
     → Nears setting journal_next_hop row (IsReady setting) packet_drain_left
 drain_nears setting row is = record {
   kept = λ journal step ready next. by_next (next_travelling journal) Hop step
@@ -235,8 +235,8 @@ drain_nears setting row is = record {
       (λ i least. drain_falls setting journal row i is ready least) next;
 }
 
-pub drain_ends : (setting : Setting) (journal : List Item) (row : ℕ) → IsSetting setting
-    → IsReady setting journal → (steps : List StepOfRow) × AreAllMachineEventSteps setting journal_next_hop row journal steps
+pub drain_ends : (setting : Setting) (journal : List Item) (row : ℕ) → IsMachineSetting setting
+    → IsReady setting journal → (steps : List MachineStepOfRow) × AreAllMachineEventSteps setting journal_next_hop row journal steps
 drain_ends setting journal row is ready = loop_ends _ _ row _ _ (drain_nears setting row is) _ ready
 
 -- ---- how many hops
@@ -244,7 +244,7 @@ drain_ends setting journal row is ready = loop_ends _ _ row _ _ (drain_nears set
 -- there are no more steps than is left
 few_steps : (setting : Setting) (next : List Item → Option Step) (row : ℕ)
     (holds : List Item → Type 0) (left : List Item → ℕ) → Nears setting next row holds left
-    → (journal : List Item) (steps : List StepOfRow) → holds journal
+    → (journal : List Item) (steps : List MachineStepOfRow) → holds journal
     → AreFirstMachineEventSteps setting next row journal steps → length steps ≤ left journal
 few_steps setting next row holds left nears journal [] here are = omega arith
 few_steps setting next row holds left nears journal (first ∷ steps) here are =
@@ -264,8 +264,8 @@ few_left : (journal : List Item) → packet_drain_left journal ≤ most_packet_h
 unfolding packet_drain_left journal_next_packet
 few_left journal = omega (arith, sum_few, length-range_with_len)
 
-pub drain_short : (setting : Setting) (journal : List Item) (row : ℕ) (steps : List StepOfRow)
-    → IsSetting setting → IsReady setting journal → AreFirstMachineEventSteps setting journal_next_hop row journal steps
+pub drain_short : (setting : Setting) (journal : List Item) (row : ℕ) (steps : List MachineStepOfRow)
+    → IsMachineSetting setting → IsReady setting journal → AreFirstMachineEventSteps setting journal_next_hop row journal steps
     → length steps ≤ most_packet_hops * (journal_next_packet journal - 1)
 drain_short setting journal row steps is ready are =
     let most = few_steps setting _ row _ _ (drain_nears setting row is) journal steps ready are in

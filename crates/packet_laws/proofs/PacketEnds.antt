@@ -1,16 +1,16 @@
 -- Items that end a packet, or say that it found a link down, have their causes.
 use Rattle.std.proofs.Common.{[], ◌+◌, ◌-◌, ◌<◌, ◌∙◌, ◌∷◌, ◌≡◌, ◌≤◌, ◌⊎◌, All, Bool, Contains, IsFalse, IsTrue, List, None, Option, Some, ap, arith, eq-eqb, eqb-true, false, get_or, inl, inr, length, nat_eq, option_map, option_to_list, refl, slice_get, subst, sym, true, unwrap_or, ℕ, rules}
 use Rattle.base.proofs.Exports.{All-from_recursion, All-weaker, cases_lt, get_or_from_slice_get, list_any, nat_tests, slice_get-get_or, slice_get_within, some_same}
-use Rattle.failover.specs.Exports.{IsReachable}
+use Rattle.failover.specs.Exports.{IsFailoverReachable}
 use Rattle.failover.proofs.RouteSearch.{length-known_links}
 use Rattle.base.specs.Exports.{has}
 use Rattle.net_file.specs.Exports.{are_linked_in_net, net_port_owner}
-use Rattle.update_machine.specs.Exports.{Action, AreMachineLegTargets, Cause, Decision, Exit, MachineFindsDown, MachineFindsNoPath, HasMachineCause, MachineLosesRightly, IsMachineStuckRightly, Item, Leads, MachineLeavesRightly, Leaving, Leg, Seek, MachineLegSeeksOwn, Setting, journal_can_use, journal_decision_of, journal_found_down, journal_packet_header_at, journal_packet_header, is_open, is_up, journal_links_known, near, no_switch, owner, journal_plan_at, serves, standing, journal_leg_targets}
-use Rattle.switch_table.specs.Exports.{Hosted}
+use Rattle.update_machine.specs.Exports.{Action, AreMachineLegTargets, Cause, Decision, Exit, MachineFindsDown, MachineFindsNoPath, HasMachineCause, MachineLosesRightly, IsMachinePacketStuckRightly, Item, MachineWalkLeads, MachineLeavesRightly, Leaving, Leg, Seek, MachineLegSeeksOwn, Setting, journal_can_use, journal_decision_of, journal_found_down, journal_packet_header_at, journal_packet_header, is_journal_link_open, is_up, journal_links_known, near, machine_no_switch, owner, journal_plan_at, serves, journal_standing_of, journal_leg_targets}
+use Rattle.switch_table.specs.Exports.{HostedPolicyPartition}
 use Rattle.update_machine.proofs.Exports.{plan_is, unreached}
 use Rattle.control_laws.specs.Exports.{HasControlItemCause}
 use Rattle.control_laws.proofs.Exports.{IsKnown, linked_by_mask, own_end}
-use Rattle.packet_laws.specs.Exports.{PacketFindsNoRoute, PacketRouteFollowsLinks, IsPacketAt, IsPacketAtPort, IsPacketBlockedOn, IsPacketLostHere, IsPacketOnWay, IsPacketPartitionOf, PacketLeavesHere, PacketMeetsDown, HasPacketItemCause, PacketFacts, PacketSeeksRightly, PacketTakesLeg, entry_mark, packet_stage_of, packet_facts_of}
+use Rattle.packet_laws.specs.Exports.{PacketFindsNoRoute, PacketRouteFollowsLinks, IsPacketAt, IsPacketAtPort, IsPacketBlockedOn, IsPacketLostHere, IsPacketOnWay, IsPacketPartitionOf, PacketLeavesHere, PacketMeetsDown, HasPacketItemCause, PacketFacts, PacketSeeksRightly, PacketTakesLeg, packet_entry_mark, packet_stage_of, packet_facts_of}
 use Rattle.packet_laws.proofs.PacketHeaderLookups.{IsHere, decision_in, exiting_of, header_in_facts, leg_in, next_in, stands_in, seeking_of}
 use Rattle.packet_laws.proofs.KeptPacketFacts.{Knows, here_known, port_named, redirected_to, stage_looked, undecided_of}
 use Rattle.packet_laws.proofs.PacketKnownRoutes.{Sees, none_leads, open_joined}
@@ -21,11 +21,11 @@ unfolding packet_facts_of
 decision_out journal i decision is = is
 
 stands_at : (setting : Setting) (before : List Item) (i s : ℕ) → IsHere setting before i s
-    → standing before i ≡ Some s
+    → journal_standing_of before i ≡ Some s
 stands_at setting before i s here = search (rules, stands_in)
 
 pub stands_known : (setting : Setting) (before : List Item) (i s : ℕ)
-    → Knows setting before i (packet_stage_of before i) → IsPacketAt before i s → standing before i ≡ Some s
+    → Knows setting before i (packet_stage_of before i) → IsPacketAt before i s → journal_standing_of before i ≡ Some s
 stands_known setting before i s knows at = stands_at _ before i s (here_known _ before i s knows at)
 
 entered_as : (setting : Setting) (before : List Item) (i s : ℕ)
@@ -63,7 +63,7 @@ seeks_part : (setting : Setting) (before : List Item) (i s version partition : �
     → Knows setting before i (packet_stage_of before i) → (here : IsHere setting before i s)
     → PacketTakesLeg setting before i s (Seek version partition)
     ⊎ IsPacketBlockedOn before i (Seek version partition)
-    → (hosted : Hosted) × IsPacketPartitionOf setting before here.under.header version partition hosted
+    → (hosted : HostedPolicyPartition) × IsPacketPartitionOf setting before here.under.header version partition hosted
 seeks_part setting before i s version partition knows here h8 =
     search (rules, redirected_to, seeking_of, leg_in)
 
@@ -82,11 +82,11 @@ own_leg setting before i s (Seek version partition) knows here on =
     let part = seeks_part setting before i s version partition knows here on in (
       here.under.header,
       entered_as setting before i s here,
-      ap (option_map (λ (p : Hosted). p.0.number)) part.1.first ∙ ap Some part.1.number,
+      ap (option_map (λ (p : HostedPolicyPartition). p.0.number)) part.1.first ∙ ap Some part.1.number,
     )
 own_leg setting before i s (Exit port) knows here on = exits_by _ before i s port knows here on
 
-pub mark_in : (journal : List Item) (i : ℕ) → (packet_facts_of journal i).mark ≡ entry_mark journal i
+pub mark_in : (journal : List Item) (i : ℕ) → (packet_facts_of journal i).mark ≡ packet_entry_mark journal i
 unfolding packet_facts_of
 mark_in journal i = refl
 
@@ -124,7 +124,7 @@ stuck_rightly setting before i s cause leg down knows finds =
       own_leg = own_leg setting before i s leg knows here finds.on;
       no_path = let down : List ℕ = journal_found_down before i in
           All-from_recursion
-          (λ target. ¬ IsReachable (journal_links_known setting before s down) s target)
+          (λ target. ¬ IsFailoverReachable (journal_links_known setting before s down) s target)
           (journal_leg_targets setting before leg)
           (unreached setting before s (journal_leg_targets setting before leg) down finds.none);
     }
@@ -146,17 +146,17 @@ finds_down setting before i one two knows meets = record {
       absurd (cc meets.unusable)
 
 -- a partition at a place of a plan is in it
-part_in : (plan : List Hosted) (k : ℕ) (hosted : Hosted) → slice_get plan k ≡ Some hosted
+part_in : (plan : List HostedPolicyPartition) (k : ℕ) (hosted : HostedPolicyPartition) → slice_get plan k ≡ Some hosted
     → Contains plan hosted
 part_in plan k hosted there = search (rules, slice_get_within, get_or_from_slice_get)
 
 -- no way leads to any of these targets
 abbrev AreCutOff : Setting → List Item → ℕ → ℕ → List ℕ → Type 0
 AreCutOff setting before i s targets =
-    All (λ target. (path : List ℕ) → ¬ Leads (is_open setting before i s) s path target) targets
+    All (λ target. (path : List ℕ) → ¬ MachineWalkLeads (is_journal_link_open setting before i s) s path target) targets
 
 home_cut_off : (setting : Setting) (before : List Item) (i s : ℕ) (home : Option ℕ)
-    → AreCutOff setting before i s (unwrap_or home no_switch ∷ [])
+    → AreCutOff setting before i s (unwrap_or home machine_no_switch ∷ [])
     → AreCutOff setting before i s (option_to_list home)
 home_cut_off setting before i s home cut = search rules
 
@@ -173,8 +173,8 @@ targets_cut_off : (setting : Setting) (before : List Item) (i s : ℕ) (leg : Le
     → HasTargets setting before i s leg
 targets_cut_off setting before i s (Seek version partition) knows here on cut =
     let part = seeks_part setting before i s version partition knows here on in
-    let hosted : Hosted = part.0 in
-    let plan : List Hosted = journal_plan_at setting before version in record {
+    let hosted : HostedPolicyPartition = part.0 in
+    let plan : List HostedPolicyPartition = journal_plan_at setting before version in record {
       targets = hosted.1;
       own_leg = (
         (seeks_rightly setting before i s version partition knows here on).undecided,
@@ -189,7 +189,7 @@ targets_cut_off setting before i s (Seek version partition) knows here on cut =
         refl,
       );
       cut_off = subst (AreCutOff setting before i s)
-          (ap (λ o. unwrap_or (option_map (λ (p : Hosted). p.1) o) []) part.1.found) cut;
+          (ap (λ o. unwrap_or (option_map (λ (p : HostedPolicyPartition). p.1) o) []) part.1.found) cut;
     }
 targets_cut_off setting before i s (Exit port) knows here on cut =
     let by = exits_by setting before i s port knows here on in record {
@@ -200,7 +200,7 @@ targets_cut_off setting before i s (Exit port) knows here on cut =
 
 pub stuck_by_claims : (setting : Setting) (before : List Item) (i s : ℕ) (cause : Cause)
     (leg : Leg) (down : List ℕ) → Knows setting before i (packet_stage_of before i)
-    → PacketFindsNoRoute setting before i s cause leg down → IsMachineStuckRightly setting before i s leg
+    → PacketFindsNoRoute setting before i s cause leg down → IsMachinePacketStuckRightly setting before i s leg
 stuck_by_claims setting before i s cause leg down knows finds =
     let here : IsHere setting before i s = here_known setting before i s knows finds.at in
     let exact = stuck_rightly setting before i s cause leg down knows finds in
@@ -208,9 +208,9 @@ stuck_by_claims setting before i s cause leg down knows finds =
     let sees : Sees setting before s =
     record { net = knows.is.net; have = knows.both; serving = finds.at.serving } in
     let cut : AreCutOff setting before i s (journal_leg_targets setting before leg) =
-    All-weaker (λ target. ¬ IsReachable links s target)
-    (λ target. (path : List ℕ) → ¬ Leads (is_open setting before i s) s path target)
-    (λ target unreached. none_leads (is_open setting before i s) links s target
+    All-weaker (λ target. ¬ IsFailoverReachable links s target)
+    (λ target. (path : List ℕ) → ¬ MachineWalkLeads (is_journal_link_open setting before i s) s path target)
+    (λ target unreached. none_leads (is_journal_link_open setting before i s) links s target
     (length-known_links _ s (near setting before s) (journal_found_down before i)) (open_joined setting
     before i s sees) (omega (arith, here.at, here.under.now, knows.is.net.few_switches)) unreached)
     (journal_leg_targets setting before leg) exact.no_path in

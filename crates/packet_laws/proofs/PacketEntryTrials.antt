@@ -1,19 +1,19 @@
 -- Journals that aren't those of a schedule's rows and packets.
 use Rattle.std.proofs.Common.{[], ◌∷◌, ◌≡◌, false, true, ℕ, rules}
 use Rattle.update_machine.specs.Exports.{Crash, Header, Item, Lose, One, Packet, serves}
-use Rattle.packet_laws.specs.Exports.{AreEntered, EachPacketRowEnters, packet_law_step_rows}
+use Rattle.packet_laws.specs.Exports.{ArePacketRowsEntered, EachPacketRowEnters, packet_law_step_rows}
 
 -- nothing, where a packet is asked for
 nothing_is_no_answer : (s : ℕ) (header : Header)
-    → AreEntered (packet_law_step_rows 1 (One (Packet s header) ∷ [])) [] → ⊥
+    → ArePacketRowsEntered (packet_law_step_rows 1 (One (Packet s header) ∷ [])) [] → ⊥
 nothing_is_no_answer s header entered = search rules
 
 -- a loss or a crash that no row asks for
-no_such_loss : (header : Header) → AreEntered (packet_law_step_rows 1 (One (Packet 0 header) ∷ [])) (Item.Row 1
+no_such_loss : (header : Header) → ArePacketRowsEntered (packet_law_step_rows 1 (One (Packet 0 header) ∷ [])) (Item.Row 1
     (Packet 0 header) ∷ Item.Entered 1 0 header ∷ Item.Row 1 (Lose 1) ∷ Item.Lost 1 ∷ []) → ⊥
 no_such_loss header entered = let rows = entered.in_order in absurd cc
 
-no_such_crash : AreEntered (packet_law_step_rows 1 []) (Item.Row 1 (Crash 0) ∷ Item.Down 0 ∷ []) → ⊥
+no_such_crash : ArePacketRowsEntered (packet_law_step_rows 1 []) (Item.Row 1 (Crash 0) ∷ Item.Down 0 ∷ []) → ⊥
 no_such_crash entered = let rows = entered.in_order in absurd cc
 
 -- a packet that is closed at a switch that serves

@@ -1,12 +1,12 @@
 -- Each item leaves the routes of each packet few: one induction by items.
 use Rattle.std.proofs.Common.{[], if◌then◌else◌, ◌++◌, ◌+◌, ◌<◌, ◌∙◌, ◌∷◌, ◌≡◌, ◌≤◌, Bool, List, None, Option, Some, ap, arith, eqb-true, false, inl, inr, length, refl, subst, sym, true, ℕ, rules}
 use Rattle.base.proofs.Exports.{option_or, some_same, ⊤}
-use Rattle.failover.specs.Exports.{IsDownLinkSet, no_links}
+use Rattle.failover.specs.Exports.{IsFailoverDownLinkSet, no_failover_links}
 use Rattle.failover.proofs.FailoverLinkSets.{none_is_link_set}
-use Rattle.update_machine.specs.Exports.{Decision, JournalItemsHaveCauses, IsSetting, Item, Leg, Seek, Setting, journal_current_mark, journal_decision_of, journal_found_down, journal_leg_of, most_journal_versions, journal_retired_mark}
+use Rattle.update_machine.specs.Exports.{Decision, JournalItemsHaveCauses, IsMachineSetting, Item, Leg, Seek, Setting, journal_current_mark, journal_decision_of, journal_found_down, journal_leg_of, most_journal_versions, journal_retired_mark}
 use Rattle.control_laws.specs.Exports.{HasControlItemCause}
 use Rattle.control_laws.proofs.Exports.{Behind, Both, bounded, current_rises, fact_on, have_both, versions_planned}
-use Rattle.packet_laws.specs.Exports.{AllPacketFactsKept, Blocked, PacketFindsLinkDown, FurtherCause, IsPacketLookedUp, IsPacketOnWay, Judged, PacketMeetsDown, HasPacketItemCause, PacketFacts, PacketStage, StrongCause, PacketTakesRoute, detour_count, exit_count, packet_facts_after, packet_finding_count, gives_packet_stage, is_packet_detour, is_packet_exit, is_packet_finding_down, is_item_of_packet_facts, is_packet_search, most_packet_routes, packet_routes_taken, search_count, packet_stage_of, packet_facts_of}
+use Rattle.packet_laws.specs.Exports.{AllPacketFactsKept, Blocked, PacketFindsLinkDown, PacketFurtherCause, IsPacketLookedUp, IsPacketOnWay, Judged, PacketMeetsDown, HasPacketItemCause, PacketFacts, PacketStage, PacketStrongCause, PacketTakesRoute, packet_detour_count, packet_exit_count, packet_facts_after, packet_finding_count, gives_packet_stage, is_packet_detour, is_packet_exit, is_packet_finding_down, is_item_of_entered_packet, is_packet_search, most_packet_routes, packet_routes_taken, packet_search_count, packet_stage_of, packet_facts_of}
 use Rattle.packet_laws.proofs.PacketsAllKept.{Before, facts_grow, kept_before, knows}
 use Rattle.packet_laws.proofs.PacketHeaderLookups.{IsHere, decision_in, here_of, leg_in, next_in, seeking_of}
 use Rattle.packet_laws.proofs.KeptPacketFacts.{Knows, seeking_after}
@@ -32,7 +32,7 @@ pub record ExitsAreFew (decision : Option Decision) (exit_count : ℕ) : Type 0 
 -- the links that it didn't find down leave room for its detours; each was found down once
 pub record DetoursAreFew (setting : Setting) (found : List ℕ) (detour_count finds : ℕ)
     : Type 0 where
-  pub set : IsDownLinkSet found
+  pub set : IsFailoverDownLinkSet found
   pub detoured : detour_count + unfound setting.net.links found ≤ length setting.net.links
   pub once : finds + unfound setting.net.links found ≤ length setting.net.links
 
@@ -54,14 +54,14 @@ IsFew setting current held stage search_count exit_count detour_count finds = re
 
 abbrev pub IsFewOf : Setting → List Item → ℕ → Type 0
 IsFewOf setting journal i = IsFew setting (journal_current_mark journal) (packet_facts_of journal i)
-    (packet_stage_of journal i) (search_count journal i) (exit_count journal i) (detour_count journal i)
+    (packet_stage_of journal i) (packet_search_count journal i) (packet_exit_count journal i) (packet_detour_count journal i)
     (packet_finding_count journal i)
 
 -- ---- lookups
 
 -- the version of a lookup is one that the packet didn't seek yet
 record IsRaised (setting : Setting) (before : List Item) (i version : ℕ) : Type 0 where
-  raised : search_count before i + 1 ≤ version
+  raised : packet_search_count before i + 1 ≤ version
   current : version ≤ journal_current_mark before
 
 is_raised : (setting : Setting) (before : List Item) (i version partition : ℕ) (route : List ℕ)
@@ -81,7 +81,7 @@ is_raised setting before i version partition route known few takes raises =
     }
   where
     by_lookup : IsHere setting before i takes.switch → 1 ≤ version
-        → IsPacketLookedUp before i takes.switch → search_count before i + 1 ≤ version
+        → IsPacketLookedUp before i takes.switch → packet_search_count before i + 1 ≤ version
     by_lookup here first (inl came) =
         let none : (packet_facts_of before i).leg ≡ None =
         ((known.kept.packets i).came_in here.travelling came).1 in
@@ -115,7 +115,7 @@ finds setting before i one two known few meets down =
 record Premises (setting : Setting) (before : List Item) (next : Item) : Type 0 where
   known : Before setting before
   way : HasPacketItemCause setting before next
-  further : FurtherCause setting before next
+  further : PacketFurtherCause setting before next
 
 risen : {leg : Option Leg} {search_count was current : ℕ} → was ≤ current
     → SearchesAreFew was leg search_count → SearchesAreFew current leg search_count
@@ -128,24 +128,24 @@ risen more few = record {
 -- an item that leaves the leg, the decision, the links found and the counts as they were
 kept_few : (setting : Setting) (before : List Item) (i current : ℕ) (stage : Option PacketStage)
     → journal_current_mark before ≤ current → IsFewOf setting before i → HasRoom setting
-    (packet_facts_of before i).found (exit_count before i) (detour_count before i) stage
-    → IsFew setting current (packet_facts_of before i) stage (search_count before i)
-    (exit_count before i) (detour_count before i) (packet_finding_count before i)
+    (packet_facts_of before i).found (packet_exit_count before i) (packet_detour_count before i) stage
+    → IsFew setting current (packet_facts_of before i) stage (packet_search_count before i)
+    (packet_exit_count before i) (packet_detour_count before i) (packet_finding_count before i)
 kept_few setting before i current stage more few room = search rules
 
 -- and the stage too
 still_few : (setting : Setting) (before : List Item) (i current : ℕ) → journal_current_mark before ≤ current
     → IsFewOf setting before i → IsFew setting current (packet_facts_of before i) (packet_stage_of before i)
-    (search_count before i) (exit_count before i) (detour_count before i) (packet_finding_count before i)
+    (packet_search_count before i) (packet_exit_count before i) (packet_detour_count before i) (packet_finding_count before i)
 still_few setting before i current more few = search (rules, kept_few)
 
 named_few : (setting : Setting) (before : List Item) (next : Item) (i current : ℕ)
     → Premises setting before next → journal_current_mark before ≤ current → (b : Bool)
-    → is_item_of_packet_facts i next ≡ b → IsFewOf setting before i → IsFew setting current
+    → is_item_of_entered_packet i next ≡ b → IsFewOf setting before i → IsFew setting current
     (if b then packet_facts_after (journal_retired_mark before) next (packet_facts_of before i)
     else packet_facts_of before i) (option_or (gives_packet_stage i next) (packet_stage_of before i))
-    (one_more (is_packet_search i next) (search_count before i)) (one_more (is_packet_exit i next)
-    (exit_count before i)) (one_more (is_packet_detour i next) (detour_count before i))
+    (one_more (is_packet_search i next) (packet_search_count before i)) (one_more (is_packet_exit i next)
+    (packet_exit_count before i)) (one_more (is_packet_detour i next) (packet_detour_count before i))
     (one_more (is_packet_finding_down i next) (packet_finding_count before i))
 named_few setting before (Item.Entered packet s header) i current facts more true e few =
     rw e (kept_few setting before i current None more few tt)
@@ -153,12 +153,12 @@ named_few setting before (Item.Seeking packet v p route) i current facts more tr
     let same : packet ≡ i = eqb-true packet i e in
     let raised : IsRaised setting before packet v = is_raised setting before packet v p route
     facts.known (subst (IsFewOf setting before) (sym same) few) facts.way facts.further.0 in
-    let above : search_count before i + 1 ≤ v =
-    subst (λ k. search_count before k + 1 ≤ v) same raised.raised in
+    let above : packet_search_count before i + 1 ≤ v =
+    subst (λ k. packet_search_count before k + 1 ≤ v) same raised.raised in
     rw e (record {
       seeking = record {
         none = λ is. absurd cc;
-        sought = λ w q is. subst (λ n. search_count before i + 1 ≤ n) (cc) above;
+        sought = λ w q is. subst (λ n. packet_search_count before i + 1 ≤ n) (cc) above;
         searched = omega (arith, above, raised.current, more);
       };
       leaving = few.leaving;
@@ -168,7 +168,7 @@ named_few setting before (Item.Seeking packet v p route) i current facts more tr
 named_few setting before (Item.Exiting packet route) i current facts more true e few =
     let same : packet ≡ i = eqb-true packet i e in
     let judged = subst (λ k. packet_stage_of before k ≡ Some Judged) same facts.way.by.takes.judged in
-    let first : exit_count before i ≡ 0 = rw judged at few.room in
+    let first : packet_exit_count before i ≡ 0 = rw judged at few.room in
     let decision : Decision = facts.way.by.takes.decision in
     let decided = decision_in before i (Some decision)
     (subst (λ k. journal_decision_of before k ≡ Some decision) same facts.way.by.takes.decided) in
@@ -250,7 +250,7 @@ named_few setting before next i current facts more false e few =
 few_more : (setting : Setting) (before : List Item) (next : Item) (i : ℕ)
     → Premises setting before next → HasControlItemCause setting before next
     → IsFewOf setting before i → IsFewOf setting (before ++ next ∷ []) i
-unfolding search_count exit_count detour_count packet_finding_count
+unfolding packet_search_count packet_exit_count packet_detour_count packet_finding_count
 few_more setting before next i facts cause few = rw (
   facts_grow i before next,
   stage_next before next i,
@@ -260,7 +260,7 @@ few_more setting before next i facts cause few = rw (
   count_more (is_packet_finding_down i) before next,
 )
     (named_few setting before next i (journal_current_mark (before ++ next ∷ [])) facts
-    (current_rises setting before next cause) (is_item_of_packet_facts i next) refl few)
+    (current_rises setting before next cause) (is_item_of_entered_packet i next) refl few)
 
 abbrev pub RoutesAreFew : Setting → List Item → Type 0
 RoutesAreFew setting journal = (i : ℕ) → IsFewOf setting journal i
@@ -268,14 +268,14 @@ RoutesAreFew setting journal = (i : ℕ) → IsFewOf setting journal i
 -- what is known before an item, and its causes
 abbrev IsKnown : Setting → List Item → Item → Type 0
 IsKnown setting before next =
-    Both (Behind (Past (IsWayItem setting)) (AllPacketFactsKept setting)) (StrongCause setting) before next
+    Both (Behind (Past (IsWayItem setting)) (AllPacketFactsKept setting)) (PacketStrongCause setting) before next
 
-premises_of : (setting : Setting) (before : List Item) (next : Item) → IsSetting setting
+premises_of : (setting : Setting) (before : List Item) (next : Item) → IsMachineSetting setting
     → IsKnown setting before next → Premises setting before next
 premises_of setting before next is both = search rules
 
 few_at_first : (setting : Setting) → RoutesAreFew setting []
-unfolding packet_facts_of packet_stage_of journal_leg_of journal_decision_of journal_found_down search_count exit_count detour_count
+unfolding packet_facts_of packet_stage_of journal_leg_of journal_decision_of journal_found_down packet_search_count packet_exit_count packet_detour_count
     packet_finding_count
 few_at_first setting i = record {
   seeking = record {
@@ -286,13 +286,13 @@ few_at_first setting i = record {
   leaving = record { undecided = λ is. refl; exited = omega arith };
   turning = record {
     set = none_is_link_set;
-    detoured = omega (arith, few_unfound setting.net no_links);
-    once = omega (arith, few_unfound setting.net no_links);
+    detoured = omega (arith, few_unfound setting.net no_failover_links);
+    once = omega (arith, few_unfound setting.net no_failover_links);
   };
   room = tt;
 }
 
-pub routes_few : (setting : Setting) (journal : List Item) → IsSetting setting
+pub routes_few : (setting : Setting) (journal : List Item) → IsMachineSetting setting
     → JournalItemsHaveCauses (IsWayItem setting) [] journal → RoutesAreFew setting journal
 routes_few setting journal is have = fact_on (IsKnown setting) (RoutesAreFew setting)
     (λ before next both few i. few_more setting before next i
@@ -302,8 +302,8 @@ routes_few setting journal is have = fact_on (IsKnown setting) (RoutesAreFew set
 
 -- ---- laws
 
-pub searched_few : (setting : Setting) (journal : List Item) → IsSetting setting
-    → JournalItemsHaveCauses (IsWayItem setting) [] journal → (i : ℕ) → search_count journal i ≤ most_journal_versions
+pub searched_few : (setting : Setting) (journal : List Item) → IsMachineSetting setting
+    → JournalItemsHaveCauses (IsWayItem setting) [] journal → (i : ℕ) → packet_search_count journal i ≤ most_journal_versions
 searched_few setting journal is have i = let switches = switches_of_all setting [] journal have in
     omega (
       arith,
@@ -312,17 +312,17 @@ searched_few setting journal is have i = let switches = switches_of_all setting 
       (versions_planned setting journal switches).few,
     )
 
-pub detoured_few : (setting : Setting) (journal : List Item) → IsSetting setting
+pub detoured_few : (setting : Setting) (journal : List Item) → IsMachineSetting setting
     → JournalItemsHaveCauses (IsWayItem setting) [] journal → (i : ℕ)
-    → detour_count journal i ≤ length setting.net.links
+    → packet_detour_count journal i ≤ length setting.net.links
 detoured_few setting journal is have i = omega (arith, (routes_few _ _ is have i).turning.detoured)
 
-pub finds_few : (setting : Setting) (journal : List Item) → IsSetting setting
+pub finds_few : (setting : Setting) (journal : List Item) → IsMachineSetting setting
     → JournalItemsHaveCauses (IsWayItem setting) [] journal → (i : ℕ)
     → packet_finding_count journal i ≤ length setting.net.links
 finds_few setting journal is have i = omega (arith, (routes_few _ journal is have i).turning.once)
 
-pub taken_few : (setting : Setting) (journal : List Item) → IsSetting setting
+pub taken_few : (setting : Setting) (journal : List Item) → IsMachineSetting setting
     → JournalItemsHaveCauses (IsWayItem setting) [] journal → (i : ℕ) → packet_routes_taken journal i ≤ most_packet_routes
 taken_few setting journal is have i = omega (
   arith,

@@ -1,10 +1,10 @@
 -- A flush delivers messages of rising numbers.
 use Rattle.std.proofs.Common.{[], ◌&&◌, ◌++◌, ◌+◌, ◌<◌, ◌==◌, ◌||◌, ◌∙◌, ◌∷◌, ◌≡◌, ◌≢◌, ◌≤◌, Bool, IsFalse, IsTrue, List, Some, add-zero, ap, append_assoc, arith, cond, count_by, eq-eqb, eqb-true, false, find, if◌then◌else◌, inl, inr, length, lt-ltb, nat_lt, not, refl, subst, suc, sym, true, zero, ℕ, rules}
 use Rattle.base.proofs.Exports.{Any-from_list_any, and_parts, and_right, cases_eq, cases_lt, count_by-le-length, list_any, nat_tests, range_with_len, sum_by-cons}
-use Rattle.failover.specs.Exports.{IsDownLinkSet, has_route_link, is_failover_link_of, with_link}
-use Rattle.failover.proofs.FailoverLinkSets.{has_route_link-turned, has_route_link-with_link, with_link_is_link_set}
-use Rattle.net_file.specs.Exports.{IsNetLink, IsNet, are_linked_in_net, joins}
-use Rattle.update_machine.specs.Exports.{Deliver, JournalItemsHaveCauses, Item, LinkRow, Net, Setting, MachineTakesNextNumber, item_concerns_message, count_of, deliver_items, machine_delivery_items, is_deliverable, is_delivery_item, is_journal_forgetting, is_forgotten_in_journal, is_sending, is_waiting, journal_next_message, next_waiting, piece, was_delivered}
+use Rattle.failover.specs.Exports.{IsFailoverDownLinkSet, link_set_has, is_failover_link_of, with_failover_link}
+use Rattle.failover.proofs.FailoverLinkSets.{link_set_has-turned, link_set_has-with_link, with_link_is_link_set}
+use Rattle.net_file.specs.Exports.{IsNetLink, IsNet, are_linked_in_net, net_link_joins}
+use Rattle.update_machine.specs.Exports.{Deliver, JournalItemsHaveCauses, Item, LinkRow, Net, Setting, MachineTakesNextNumber, machine_item_concerns_message, machine_count_of, machine_deliver_items, machine_delivery_items, is_deliverable, is_machine_delivery_item, is_journal_forgetting, is_forgotten_in_journal, is_machine_sending_item, is_waiting, journal_next_message, next_waiting, piece, was_delivered_in_journal}
 use Rattle.update_machine.proofs.Exports.{count_of_append, message_keeps, next_rises, piece_next}
 use Rattle.control_laws.proofs.Exports.{AreKept, fact_on}
 
@@ -13,7 +13,7 @@ use Rattle.control_laws.proofs.Exports.{AreKept, fact_on}
 
 -- the link isn't in the set
 abbrev pub is_unfound : List ℕ → LinkRow → Bool
-is_unfound found link = not (has_route_link found link.one link.two)
+is_unfound found link = not (link_set_has found link.one link.two)
 
 -- how many of the links aren't
 abbrev pub unfound : List LinkRow → List ℕ → ℕ
@@ -23,8 +23,8 @@ unfound links found = count_by (is_unfound found) links
 
 -- the set holds one more link, which it didn't hold
 record IsOneMore (before after : List ℕ) (one two : ℕ) : Type 0 where
-  added : (x y : ℕ) → has_route_link after x y ≡ (has_route_link before x y || is_failover_link_of one two x y)
-  new : (x y : ℕ) → is_failover_link_of one two x y ≡ true → has_route_link before x y ≡ false
+  added : (x y : ℕ) → link_set_has after x y ≡ (link_set_has before x y || is_failover_link_of one two x y)
+  new : (x y : ℕ) → is_failover_link_of one two x y ≡ true → link_set_has before x y ≡ false
 
 part : (b c : Bool) → cond (not (b || c)) 1 0 ≤ cond (not b) 1 0
 part b c = search rules
@@ -54,11 +54,11 @@ falls : (before after : List ℕ) (one two : ℕ) → IsOneMore before after one
     → unfound links after + 1 ≤ unfound links before
 falls before after one two more [] linked = absurd cc
 falls before after one two more (link ∷ links) linked =
-    by_test (joins one two link) refl (falls before after one two more links) linked
+    by_test (net_link_joins one two link) refl (falls before after one two more links) linked
   where
-    by_test : (b : Bool) → joins one two link ≡ b
+    by_test : (b : Bool) → net_link_joins one two link ≡ b
         → (IsTrue (are_linked_in_net links one two) → unfound links after + 1 ≤ unfound links before)
-        → IsTrue (b || list_any (joins one two) links)
+        → IsTrue (b || list_any (net_link_joins one two) links)
         → unfound (link ∷ links) after + 1 ≤ unfound (link ∷ links) before
     by_test true e rest any = omega (
       arith,
@@ -83,30 +83,30 @@ record AreEnds (one two : ℕ) : Type 0 where
   apart : one ≢ two
 
 joined_ends : (count one two : ℕ) (link : LinkRow) → count ≤ 64 → IsNetLink count link
-    → joins one two link ≡ true → AreEnds one two
+    → net_link_joins one two link ≡ true → AreEnds one two
 joined_ends count one two link few is joined = search (rules, nat_tests)
 
 ends : (net : Net) (one two : ℕ) → IsNet net → IsTrue (are_linked_in_net net.links one two)
     → AreEnds one two
 ends net one two is linked = search (rules, Any-from_list_any, joined_ends)
 
-same_ends : (found : List ℕ) (one two x y : ℕ) → has_route_link found one two ≡ false
-    → is_failover_link_of one two x y ≡ true → has_route_link found x y ≡ false
-same_ends found one two x y none is = search (rules, eqb-true, has_route_link-turned)
+same_ends : (found : List ℕ) (one two x y : ℕ) → link_set_has found one two ≡ false
+    → is_failover_link_of one two x y ≡ true → link_set_has found x y ≡ false
+same_ends found one two x y none is = search (rules, eqb-true, link_set_has-turned)
 
 -- what one more link of the network leaves of a set
 pub record FindsOne (net : Net) (found : List ℕ) (one two : ℕ) : Type 0 where
-  pub set : IsDownLinkSet (with_link found one two)
-  pub fewer : unfound net.links (with_link found one two) + 1 ≤ unfound net.links found
+  pub set : IsFailoverDownLinkSet (with_failover_link found one two)
+  pub fewer : unfound net.links (with_failover_link found one two) + 1 ≤ unfound net.links found
 
-pub finds_one : (net : Net) (found : List ℕ) (one two : ℕ) → IsNet net → IsDownLinkSet found
-    → IsTrue (are_linked_in_net net.links one two) → IsFalse (has_route_link found one two)
+pub finds_one : (net : Net) (found : List ℕ) (one two : ℕ) → IsNet net → IsFailoverDownLinkSet found
+    → IsTrue (are_linked_in_net net.links one two) → IsFalse (link_set_has found one two)
     → FindsOne net found one two
 finds_one net found one two is set linked none =
     let at : AreEnds one two = ends net one two is linked in record {
       set = with_link_is_link_set found one two set at.apart at.one_fits at.two_fits;
-      fewer = falls found (with_link found one two) one two (record {
-        added = λ x y. has_route_link-with_link found one two x y set at.one_fits at.two_fits;
+      fewer = falls found (with_failover_link found one two) one two (record {
+        added = λ x y. link_set_has-with_link found one two x y set at.one_fits at.two_fits;
         new = λ x y same. same_ends found one two x y none same;
       }) net.links linked;
     }
@@ -124,7 +124,7 @@ counted : (b : Bool) (n : ℕ) → n + (0 + (if b then 1 else 0)) ≡ one_more b
 counted b n = search (rules, add-zero)
 
 pub count_more : (test : Item → Bool) (before : List Item) (item : Item)
-    → count_of test (before ++ item ∷ []) ≡ one_more (test item) (count_of test before)
+    → machine_count_of test (before ++ item ∷ []) ≡ one_more (test item) (machine_count_of test before)
 count_more test before item = search (rules, count_of_append)
 
 -- ---- waiting messages
@@ -151,7 +151,7 @@ pub record IsNext (journal : List Item) (n : ℕ) : Type 0 where
 
 pub next_is : (journal : List Item) (n : ℕ) → next_waiting journal ≡ Some n → IsNext journal n
 unfolding next_waiting journal_next_message
-next_is journal n is = let at = least (is_waiting journal) 1 (count_of is_sending journal) n is in
+next_is journal n is = let at = least (is_waiting journal) 1 (machine_count_of is_machine_sending_item journal) n is in
     record { first = at.above; sent = omega (arith, at.below); waits = at.holds; least = at.before }
 
 -- ---- messages that wait no longer
@@ -162,7 +162,7 @@ record AreOver (bound : ℕ) (journal : List Item) : Type 0 where
   over : (k : ℕ) → 1 ≤ k → k < bound → is_waiting journal k ≡ false
 
 counted_now : (test : Item → Bool) (before : List Item) (next : Item) → test next ≡ true
-    → nat_lt 0 (count_of test (before ++ next ∷ [])) ≡ true
+    → nat_lt 0 (machine_count_of test (before ++ next ∷ [])) ≡ true
 counted_now test before next is = search (rules, count_more, lt-ltb)
 
 forgotten_now : (before : List Item) (number k : ℕ) → (number == k) ≡ true
@@ -171,16 +171,16 @@ unfolding is_forgotten_in_journal
 forgotten_now before number k e = counted_now (is_journal_forgetting k) before (Item.Forgotten number) e
 
 delivered_now : (before : List Item) (number k : ℕ) → (number == k) ≡ true
-    → was_delivered (before ++ Item.Delivered number ∷ []) k ≡ true
-unfolding was_delivered
-delivered_now before number k e = counted_now (is_delivery_item k) before (Item.Delivered number) e
+    → was_delivered_in_journal (before ++ Item.Delivered number ∷ []) k ≡ true
+unfolding was_delivered_in_journal
+delivered_now before number k e = counted_now (is_machine_delivery_item k) before (Item.Delivered number) e
 
 inner_not : (b c : Bool) → ((b && not true) && c) ≡ false
 inner_not b c = search rules
 
 -- what an item leaves of a message that it concerns
 over_by : (bound k : ℕ) (before : List Item) (next : Item) → MachineTakesNextNumber before next
-    → AreOver bound before → k < bound → item_concerns_message k before next ≡ true
+    → AreOver bound before → k < bound → machine_item_concerns_message k before next ≡ true
     → is_waiting (before ++ next ∷ []) k ≡ false
 unfolding is_deliverable
 over_by bound k before next takes are below e =
@@ -189,9 +189,9 @@ over_by bound k before next takes are below e =
 over_kept : (bound : ℕ) → AreKept MachineTakesNextNumber (AreOver bound)
 over_kept bound before next takes are = record {
   sent = omega (arith, are.sent, next_rises before next);
-  over = λ k first below. by_concern k first below (item_concerns_message k before next) refl;
+  over = λ k first below. by_concern k first below (machine_item_concerns_message k before next) refl;
 } where
-  by_concern : (k : ℕ) → 1 ≤ k → k < bound → (b : Bool) → item_concerns_message k before next ≡ b
+  by_concern : (k : ℕ) → 1 ≤ k → k < bound → (b : Bool) → machine_item_concerns_message k before next ≡ b
       → is_waiting (before ++ next ∷ []) k ≡ false
   by_concern k first below true e = over_by bound k before next takes are below e
   by_concern k first below false e = let keeps = message_keeps k before (next ∷ []) (e, tt) in
@@ -205,10 +205,10 @@ rest_of setting journal row n = machine_delivery_items setting journal n
     ((journal ++ Item.Row row (Deliver n) ∷ []) ++ Item.Delivered n ∷ [])
 
 deliver_is : (setting : Setting) (before journal : List Item) (n : ℕ) → is_deliverable before n
-    ≡ true → deliver_items setting before n journal
+    ≡ true → machine_deliver_items setting before n journal
     ≡ Item.Delivered n ∷ machine_delivery_items setting before n (journal ++ Item.Delivered n ∷ [])
-unfolding deliver_items
-deliver_is setting before journal n may = rw (may, deliver_items) refl
+unfolding machine_deliver_items
+deliver_is setting before journal n may = rw (may, machine_deliver_items) refl
 
 delivery_is : (setting : Setting) (journal : List Item) (row n : ℕ) → is_deliverable journal n
     ≡ true → piece setting journal row (Deliver n)

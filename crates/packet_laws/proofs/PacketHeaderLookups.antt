@@ -1,16 +1,16 @@
 -- What a serving switch says of a header, by the plan of the version of its stamp.
 use Rattle.std.proofs.Common.{[], ◌+◌, ◌<◌, ◌∙◌, ◌≡◌, ◌≤◌, All, Bool, Contains, IsTrue, List, None, Option, Some, ap, arith, false, filter, find, if◌then◌else◌, inl, inr, length, map, option_and_then, option_map, position, refl, slice_get, subst, sym, true, unwrap_or, ℕ, rules}
 use Rattle.base.proofs.Exports.{All-filter, find-position, find-there, get_or-map, length-map, option_map_or, slice_get-get_or, some_of_map, some_of_then, some_same}
-use Rattle.five_tuple.specs.Exports.{IsHeader, fields_of, number_of}
-use Rattle.update_machine.specs.Exports.{AuthorityRule, CacheEntry, Decision, Exit, Found, SettingHasPlan, JournalItemsHaveCauses, Header, IsSetting, Item, Leg, NamesSettingPort, Partition, Row, Rule, Seek, Setting, journal_authority_rule, journal_current_mark, journal_decision_of, first_place, journal_found_down, journal_packet_header_at, journal_packet_header, journal_leg_of, lookup_at, journal_next_switch, journal_plan_at, policy_at, journal_retired_mark, serves, journal_stamp_of, standing, journal_tables_at, travels}
+use Rattle.five_tuple.specs.Exports.{IsHeader, header_fields_of, header_number_of}
+use Rattle.update_machine.specs.Exports.{MachineAuthorityRule, CacheEntry, Decision, Exit, Found, MachineVersionHasPlan, JournalItemsHaveCauses, Header, IsMachineSetting, Item, Leg, NamesMachineSettingPort, Partition, Row, Rule, Seek, Setting, journal_authority_rule, journal_current_mark, journal_decision_of, machine_first_rule_place, journal_found_down, journal_packet_header_at, journal_packet_header, journal_leg_of, machine_lookup_at, journal_next_switch, journal_plan_at, machine_policy_at, journal_retired_mark, serves, journal_stamp_of, journal_standing_of, journal_tables_at, travels_in_journal}
 use Rattle.partition.specs.Plan.{IsPartitionPlan}
-use Rattle.policy_rules.specs.Exports.{first_rule, hit_of, policy_hit_of_rule, is_held, is_highest_row, is_in_policy_partition, policy_row_matches, scan}
-use Rattle.switch_table.specs.Exports.{Hosted, table_authority_of, has_target, lookup_in, part_of, table_lookup, tables_of}
+use Rattle.policy_rules.specs.Exports.{first_policy_rule, policy_hit_of, policy_hit_of_rule, is_held_by_policy_rule, is_highest_policy_row, is_in_policy_partition, policy_row_matches, scan}
+use Rattle.switch_table.specs.Exports.{HostedPolicyPartition, switch_table_authority_of, switch_table_part_has_target, switch_table_lookup_in, switch_table_part_of, switch_table_lookup, tables_of}
 use Rattle.switch_table.proofs.SwitchTableLemmas.{tables_planned}
 use Rattle.update_machine.proofs.Exports.{begins_planned, version_is_planned, versions_own}
-use Rattle.control_laws.specs.Exports.{HasControlItemCause, HoldsStampedVersions}
+use Rattle.control_laws.specs.Exports.{HasControlItemCause, ControlHoldsStampedVersions}
 use Rattle.control_laws.proofs.Exports.{bounded, serving_hold, versions_planned}
-use Rattle.packet_laws.specs.Exports.{AuthorityFinds, HasKeptPacketFacts, IsPacketAt, IsPacketOnLeg, IsPacketOnWay, IsSoughtByPacket, IsPacketUnderWay, PacketFacts, PacketStage, packet_facts_of}
+use Rattle.packet_laws.specs.Exports.{PacketAuthorityFinds, HasKeptPacketFacts, IsPacketAt, IsPacketOnLeg, IsPacketOnWay, IsSoughtByPacket, IsPacketUnderWay, PacketFacts, PacketStage, packet_facts_of}
 
 -- ---- what the plan of a version says of a header: the partition whose region holds it, and the
 -- rule there that decides it as the version's policy does.
@@ -18,14 +18,14 @@ use Rattle.packet_laws.specs.Exports.{AuthorityFinds, HasKeptPacketFacts, IsPack
 -- ---- policies and their plans
 
 -- rows that name ports of the network alone, and their plan on it
-pub record IsPlanned (setting : Setting) (rows : List Row) (plan : List Hosted) : Type 0 where
+pub record IsPlanned (setting : Setting) (rows : List Row) (plan : List HostedPolicyPartition) : Type 0 where
   pub parts : IsPartitionPlan rows setting.net plan
-  pub ports : All (λ row. NamesSettingPort setting row.action) rows
+  pub ports : All (λ row. NamesMachineSettingPort setting row.action) rows
 
 -- a version with a plan is planned
-pub version_planned : (setting : Setting) (journal : List Item) (version : ℕ) → IsSetting setting
-    → SettingHasPlan setting journal version
-    → IsPlanned setting (policy_at setting journal version) (journal_plan_at setting journal version)
+pub version_planned : (setting : Setting) (journal : List Item) (version : ℕ) → IsMachineSetting setting
+    → MachineVersionHasPlan setting journal version
+    → IsPlanned setting (machine_policy_at setting journal version) (journal_plan_at setting journal version)
 version_planned setting journal version is has = record {
   parts = version_is_planned setting journal version is has;
   ports = (versions_own setting journal version is).1;
@@ -34,82 +34,82 @@ version_planned setting journal version is has = record {
 -- ---- ports of actions
 
 abbrev rows_that_match : List Row → Header → List Row
-rows_that_match rows header = filter (λ row. policy_row_matches row (fields_of header)) rows
+rows_that_match rows header = filter (λ row. policy_row_matches row (header_fields_of header)) rows
 
 hit_named : (setting : Setting) (rows : List Row) (best : Option Row)
-    → All (λ row. NamesSettingPort setting row.action) rows → find (is_highest_row rows) rows ≡ best →
-    NamesSettingPort setting (hit_of best).action
+    → All (λ row. NamesMachineSettingPort setting row.action) rows → find (is_highest_policy_row rows) rows ≡ best →
+    NamesMachineSettingPort setting (policy_hit_of best).action
 hit_named setting rows None all e = tt
 hit_named setting rows (Some row) all e =
-    let there : Contains rows row = (find-there (is_highest_row rows) rows row e).0 in
-    subst (λ (r : Row). NamesSettingPort setting r.action) there.2 (all there.0 row there.1)
+    let there : Contains rows row = (find-there (is_highest_policy_row rows) rows row e).0 in
+    subst (λ (r : Row). NamesMachineSettingPort setting r.action) there.2 (all there.0 row there.1)
 
 -- the action of a first match names a port of the network, if it names one
-pub scan_named : (setting : Setting) (rows : List Row) (plan : List Hosted) (header : Header)
-    → IsPlanned setting rows plan → NamesSettingPort setting (scan rows header).action
+pub scan_named : (setting : Setting) (rows : List Row) (plan : List HostedPolicyPartition) (header : Header)
+    → IsPlanned setting rows plan → NamesMachineSettingPort setting (scan rows header).action
 scan_named setting rows plan header is = hit_named setting (rows_that_match rows header) _
-    (All-filter (λ row. policy_row_matches row (fields_of header)) (λ row. NamesSettingPort setting row.action)
+    (All-filter (λ row. policy_row_matches row (header_fields_of header)) (λ row. NamesMachineSettingPort setting row.action)
     rows is.ports) refl
 
 -- ---- the partition of a header
 
 -- the partition of a plan that holds the header, and its rule that decides it
-pub record Finds (rows : List Row) (plan : List Hosted) (header : Header) (hosted : Hosted) : Type 0 where
+pub record Finds (rows : List Row) (plan : List HostedPolicyPartition) (header : Header) (hosted : HostedPolicyPartition) : Type 0 where
   pub place : ℕ
   pub rule : Rule
-  pub first : find (λ other. is_in_policy_partition header (part_of other)) plan ≡ Some hosted
-  pub holds : IsTrue (is_in_policy_partition header (part_of hosted))
+  pub first : find (λ other. is_in_policy_partition header (switch_table_part_of other)) plan ≡ Some hosted
+  pub holds : IsTrue (is_in_policy_partition header (switch_table_part_of hosted))
   pub at : slice_get plan hosted.0.number ≡ Some hosted
-  pub position : unwrap_or (position (is_held (number_of header)) hosted.0.rules) 0 ≡ place
+  pub position : unwrap_or (position (is_held_by_policy_rule (header_number_of header)) hosted.0.rules) 0 ≡ place
   pub ruled : slice_get hosted.0.rules place ≡ Some rule
   pub decides : policy_hit_of_rule rule ≡ scan rows header
 
-pub in_plan : (setting : Setting) (rows : List Row) (plan : List Hosted)
-    (header : Header) (hosted : Hosted) → IsPlanned setting rows plan → IsHeader header
-    → find (λ other. is_in_policy_partition header (part_of other)) plan ≡ Some hosted
+pub in_plan : (setting : Setting) (rows : List Row) (plan : List HostedPolicyPartition)
+    (header : Header) (hosted : HostedPolicyPartition) → IsPlanned setting rows plan → IsHeader header
+    → find (λ other. is_in_policy_partition header (switch_table_part_of other)) plan ≡ Some hosted
     → Finds rows plan header hosted
 in_plan setting rows plan header hosted is sound found =
-    let there = find-there (λ other. is_in_policy_partition header (part_of other)) plan hosted found in
+    let there = find-there (λ other. is_in_policy_partition header (switch_table_part_of other)) plan hosted found in
     let k : ℕ = there.0.0 in
-    let within : k < length (map part_of plan) =
-    omega (arith, length-map plan part_of, there.0.1) in
-    let mapped = get_or-map part_of plan k hosted (part_of hosted) there.0.1
-    ∙ ap part_of there.0.2 in
+    let within : k < length (map switch_table_part_of plan) =
+    omega (arith, length-map plan switch_table_part_of, there.0.1) in
+    let mapped = get_or-map switch_table_part_of plan k hosted (switch_table_part_of hosted) there.0.1
+    ∙ ap switch_table_part_of there.0.2 in
     let got : slice_get plan k ≡ Some hosted = slice_get-get_or plan
     k hosted there.0.1 ∙ ap Some there.0.2 in
-    let decided : option_map policy_hit_of_rule (first_rule hosted.0.rules header)
+    let decided : option_map policy_hit_of_rule (first_policy_rule hosted.0.rules header)
     ≡ Some (scan rows header) = subst (λ (p : Partition). IsTrue (is_in_policy_partition header p)
-    → option_map policy_hit_of_rule (first_rule p.rules header) ≡ Some (scan rows header)) mapped
-    (is.parts.sound.decides header sound k (part_of hosted) within) there.1 in
-    let rule : (rule : Rule) × (first_rule hosted.0.rules header ≡ Some rule)
+    → option_map policy_hit_of_rule (first_policy_rule p.rules header) ≡ Some (scan rows header)) mapped
+    (is.parts.sound.decides header sound k (switch_table_part_of hosted) within) there.1 in
+    let rule : (rule : Rule) × (first_policy_rule hosted.0.rules header ≡ Some rule)
     × (policy_hit_of_rule rule ≡ scan rows header) = some_of_map policy_hit_of_rule _ _ decided in
     let position_of : (place : ℕ)
-    × (position (is_held (number_of header)) hosted.0.rules ≡ Some place)
+    × (position (is_held_by_policy_rule (header_number_of header)) hosted.0.rules ≡ Some place)
     × (slice_get hosted.0.rules place ≡ Some rule.0) = some_of_then (slice_get hosted.0.rules) _
-    rule.0 (find-position (is_held (number_of header)) hosted.0.rules ∙ rule.1) in record {
+    rule.0 (find-position (is_held_by_policy_rule (header_number_of header)) hosted.0.rules ∙ rule.1) in record {
       place = position_of.0;
       rule = rule.0;
       first = found;
       holds = there.1;
       at = ap (slice_get plan) (sym (ap (λ (p : Partition). p.number) mapped)
-          ∙ is.parts.sound.numbers k (part_of hosted) within) ∙ got;
+          ∙ is.parts.sound.numbers k (switch_table_part_of hosted) within) ∙ got;
       position = ap (λ o. unwrap_or o 0) position_of.1;
       ruled = position_of.2;
       decides = rule.2;
     }
 
 -- what the tables of a switch say of a header, by the partition that holds it
-pub record LooksUp (rows : List Row) (plan : List Hosted) (version switch : ℕ) (header : Header) : Type 0 where
-  pub hosted : Hosted
+pub record LooksUp (rows : List Row) (plan : List HostedPolicyPartition) (version switch : ℕ) (header : Header) : Type 0 where
+  pub hosted : HostedPolicyPartition
   pub finds : Finds rows plan header hosted
-  pub says : table_lookup (tables_of plan version switch) header ≡ lookup_in switch header hosted
+  pub says : switch_table_lookup (tables_of plan version switch) header ≡ switch_table_lookup_in switch header hosted
 
-pub looks_up : (setting : Setting) (rows : List Row) (plan : List Hosted) (version switch : ℕ)
+pub looks_up : (setting : Setting) (rows : List Row) (plan : List HostedPolicyPartition) (version switch : ℕ)
     (header : Header) → IsPlanned setting rows plan → IsHeader header
     → LooksUp rows plan version switch header
 looks_up setting rows plan version switch header is sound =
-    let own = some_of_map (lookup_in switch header)
-    (find (λ other. is_in_policy_partition header (part_of other)) plan) _
+    let own = some_of_map (switch_table_lookup_in switch header)
+    (find (λ other. is_in_policy_partition header (switch_table_part_of other)) plan) _
     (tables_planned rows plan version switch header is.parts.sound sound) in
     record { hosted = own.0; finds = in_plan setting rows plan header own.0 is sound own.1; says = sym own.2 }
 
@@ -118,9 +118,9 @@ looks_up setting rows plan version switch header is sound =
 -- ---- versions
 
 -- each version up to the current one has a policy and its plan
-pub current_planned : (setting : Setting) (journal : List Item) (version : ℕ) → IsSetting setting
+pub current_planned : (setting : Setting) (journal : List Item) (version : ℕ) → IsMachineSetting setting
     → JournalItemsHaveCauses (HasControlItemCause setting) [] journal → 1 ≤ version → version ≤ journal_current_mark journal
-    → IsPlanned setting (policy_at setting journal version) (journal_plan_at setting journal version)
+    → IsPlanned setting (machine_policy_at setting journal version) (journal_plan_at setting journal version)
 current_planned setting journal version is have above below = version_planned setting journal
     version is ((versions_planned setting journal have).planned (begins_planned setting is) version
     above (omega (arith, below, (bounded setting journal have).there)))
@@ -129,14 +129,14 @@ current_planned setting journal version is have above below = version_planned se
 pub record IsStamped (setting : Setting) (journal : List Item) (s : ℕ) : Type 0 where
   pub retired : journal_retired_mark journal < journal_stamp_of journal s
   pub current : journal_stamp_of journal s ≤ journal_current_mark journal
-  pub planned : IsPlanned setting (policy_at setting journal (journal_stamp_of journal s))
+  pub planned : IsPlanned setting (machine_policy_at setting journal (journal_stamp_of journal s))
       (journal_plan_at setting journal (journal_stamp_of journal s))
 
-pub stamped : (setting : Setting) (journal : List Item) (s : ℕ) → IsSetting setting
+pub stamped : (setting : Setting) (journal : List Item) (s : ℕ) → IsMachineSetting setting
     → JournalItemsHaveCauses (HasControlItemCause setting) [] journal → s < length setting.net.switches
     → IsTrue (serves journal s) → IsStamped setting journal s
 stamped setting journal s is have there serving =
-    let holds : HoldsStampedVersions journal s = serving_hold setting journal have s there serving in record {
+    let holds : ControlHoldsStampedVersions journal s = serving_hold setting journal have s there serving in record {
       retired = holds.retired;
       current = holds.current;
       planned = current_planned _ journal _ is have (omega (arith, holds.retired)) holds.current;
@@ -147,8 +147,8 @@ stamped setting journal s is have there serving =
 -- a partition of the plan of the stamp holds the header
 pub record FindsPart (setting : Setting) (journal : List Item) (s : ℕ) (header : Header)
     (partition : ℕ) : Type 0 where
-  pub hosted : Hosted
-  pub finds : Finds (policy_at setting journal (journal_stamp_of journal s))
+  pub hosted : HostedPolicyPartition
+  pub finds : Finds (machine_policy_at setting journal (journal_stamp_of journal s))
       (journal_plan_at setting journal (journal_stamp_of journal s)) header hosted
   pub number : hosted.0.number ≡ partition
 
@@ -157,24 +157,24 @@ by_tables : (entries : Option CacheEntry) (said other : Found) → option_map_or
 by_tables entries said other e none = search rules
 
 table_says : (setting : Setting) (journal : List Item) (s : ℕ) (header : Header) (other : Found)
-    → lookup_at setting journal s header ≡ other
+    → machine_lookup_at setting journal s header ≡ other
     → ((entry : CacheEntry) → Found.Cached entry ≡ other → ⊥)
-    → table_lookup (journal_tables_at setting journal (journal_stamp_of journal s) s) header ≡ other
-unfolding lookup_at
+    → switch_table_lookup (journal_tables_at setting journal (journal_stamp_of journal s) s) header ≡ other
+unfolding machine_lookup_at
 table_says setting journal s header other answer none = search (rules, by_tables)
 
 -- what a lookup says that no cached rule answers, by a partition of the plan of the stamp
 abbrev LooksUpAt : Setting → List Item → ℕ → Header → Type 0
-LooksUpAt setting journal s header = LooksUp (policy_at setting journal (journal_stamp_of journal s))
+LooksUpAt setting journal s header = LooksUp (machine_policy_at setting journal (journal_stamp_of journal s))
     (journal_plan_at setting journal (journal_stamp_of journal s)) (journal_stamp_of journal s) s header
 
 record SaysOf (setting : Setting) (journal : List Item) (s : ℕ) (header : Header) (what : Found)
     : Type 0 where
   looks : LooksUpAt setting journal s header
-  is : lookup_in s header looks.hosted ≡ what
+  is : switch_table_lookup_in s header looks.hosted ≡ what
 
 says_of : (setting : Setting) (journal : List Item) (s : ℕ) (header : Header) (what : Found)
-    → IsStamped setting journal s → IsHeader header → lookup_at setting journal s header ≡ what
+    → IsStamped setting journal s → IsHeader header → machine_lookup_at setting journal s header ≡ what
     → ((entry : CacheEntry) → Found.Cached entry ≡ what → ⊥) → SaysOf setting journal s header what
 says_of setting journal s header what stamped sound answer none =
     let looks = looks_up setting _ (journal_plan_at setting journal (journal_stamp_of journal s))
@@ -187,18 +187,18 @@ pub record FindsRule (setting : Setting) (journal : List Item) (s : ℕ) (header
     (partition place : ℕ) : Type 0 where
   pub part : FindsPart setting journal s header partition
   pub found_at : part.finds.place ≡ place
-  pub target : IsTrue (has_target s part.hosted)
+  pub target : IsTrue (switch_table_part_has_target s part.hosted)
 
 pub authority_found : (setting : Setting) (journal : List Item) (s : ℕ) (header : Header)
     (partition place : ℕ) → IsStamped setting journal s → IsHeader header
-    → lookup_at setting journal s header ≡ Found.Authority partition place
+    → machine_lookup_at setting journal s header ≡ Found.Authority partition place
     → FindsRule setting journal s header partition place
 authority_found setting journal s header partition at stamped sound answer =
     let says = says_of setting journal s header _ stamped sound answer (λ entry e. absurd cc) in
-    by_target says.looks (has_target s says.looks.hosted) refl says.is
+    by_target says.looks (switch_table_part_has_target s says.looks.hosted) refl says.is
   where
     by_target : (looks : LooksUpAt setting journal s header) (b : Bool)
-        → has_target s looks.hosted ≡ b → (if b then table_authority_of header (part_of looks.hosted)
+        → switch_table_part_has_target s looks.hosted ≡ b → (if b then switch_table_authority_of header (switch_table_part_of looks.hosted)
         else Found.Redirect looks.hosted.0.number looks.hosted.1) ≡ Found.Authority partition at
         → FindsRule setting journal s header partition at
     by_target looks true is e = record {
@@ -215,14 +215,14 @@ pub record FindsTargets (setting : Setting) (journal : List Item) (s : ℕ) (hea
 
 pub redirect_found : (setting : Setting) (journal : List Item) (s : ℕ) (header : Header)
     (partition : ℕ) (targets : List ℕ) → IsStamped setting journal s → IsHeader header
-    → lookup_at setting journal s header ≡ Found.Redirect partition targets
+    → machine_lookup_at setting journal s header ≡ Found.Redirect partition targets
     → FindsTargets setting journal s header partition targets
 redirect_found setting journal s header partition targets stamped sound answer =
     let says = says_of setting journal s header _ stamped sound answer (λ entry e. absurd cc) in
-    by_target says.looks (has_target s says.looks.hosted) says.is
+    by_target says.looks (switch_table_part_has_target s says.looks.hosted) says.is
   where
     by_target : (looks : LooksUpAt setting journal s header) (b : Bool)
-        → (if b then table_authority_of header (part_of looks.hosted)
+        → (if b then switch_table_authority_of header (switch_table_part_of looks.hosted)
         else Found.Redirect looks.hosted.0.number looks.hosted.1) ≡ Found.Redirect partition targets
         → FindsTargets setting journal s header partition targets
     by_target looks true e = absurd cc
@@ -233,17 +233,17 @@ redirect_found setting journal s header partition targets stamped sound answer =
 
 -- ---- the rule of a partition
 
-abbrev pub deciding : {rows : List Row} {plan : List Hosted} {header : Header} {hosted : Hosted} → ℕ
-    → Finds rows plan header hosted → AuthorityRule
+abbrev pub deciding : {rows : List Row} {plan : List HostedPolicyPartition} {header : Header} {hosted : HostedPolicyPartition} → ℕ
+    → Finds rows plan header hosted → MachineAuthorityRule
 deciding {hosted = hosted} version finds = record {
   version = version;
-  part = part_of hosted;
+  part = switch_table_part_of hosted;
   place = finds.place;
   rule = finds.rule;
 }
 
-pub rule_there : (setting : Setting) (journal : List Item) (header : Header) (hosted : Hosted)
-    (version partition : ℕ) (finds : Finds (policy_at setting journal version)
+pub rule_there : (setting : Setting) (journal : List Item) (header : Header) (hosted : HostedPolicyPartition)
+    (version partition : ℕ) (finds : Finds (machine_policy_at setting journal version)
     (journal_plan_at setting journal version) header hosted) → hosted.0.number ≡ partition
     → journal_authority_rule setting journal version partition finds.place ≡ Some (deciding version finds)
 rule_there setting journal header hosted version partition finds number = search rules
@@ -252,7 +252,7 @@ rule_there setting journal header hosted version partition finds number = search
 
 -- ---- facts
 
-pub travels_in : (journal : List Item) (i : ℕ) → IsTrue (travels journal i)
+pub travels_in : (journal : List Item) (i : ℕ) → IsTrue (travels_in_journal journal i)
     → IsTrue (packet_facts_of journal i).travels
 unfolding packet_facts_of
 travels_in journal i is = is
@@ -277,7 +277,7 @@ unfolding packet_facts_of journal_next_switch
 next_in journal i = refl
 
 pub stands_in : (journal : List Item) (i : ℕ) (s : ℕ) → (packet_facts_of journal i).stands ≡ Some s
-    → standing journal i ≡ Some s
+    → journal_standing_of journal i ≡ Some s
 unfolding packet_facts_of
 stands_in journal i s is = is
 
@@ -297,7 +297,7 @@ pub record IsHere (setting : Setting) (before : List Item) (i s : ℕ) : Type 0 
   pub stamped : IsStamped setting before s
 
 pub here_of : (setting : Setting) (before : List Item) (i s : ℕ) (stage : Option PacketStage)
-    → IsSetting setting → JournalItemsHaveCauses (HasControlItemCause setting) [] before
+    → IsMachineSetting setting → JournalItemsHaveCauses (HasControlItemCause setting) [] before
     → HasKeptPacketFacts setting before (packet_facts_of before i) stage → IsPacketAt before i s
     → IsHere setting before i s
 here_of setting before i s stage is have kept at =
@@ -335,32 +335,32 @@ exiting_of setting journal facts port way exits = search (rules, leg_is)
 
 -- the rule is the one by which the plan of the version decides the header
 pub record Rules (setting : Setting) (before : List Item) (facts : PacketFacts) (header : Header)
-    (version : ℕ) (found : AuthorityRule) : Type 0 where
+    (version : ℕ) (found : MachineAuthorityRule) : Type 0 where
   pub not_retired : facts.mark < version
   pub current : version ≤ journal_current_mark before
-  pub planned : IsPlanned setting (policy_at setting before version)
+  pub planned : IsPlanned setting (machine_policy_at setting before version)
       (journal_plan_at setting before version)
-  pub hosted : Hosted
-  pub finds : Finds (policy_at setting before version) (journal_plan_at setting before version) header
+  pub hosted : HostedPolicyPartition
+  pub finds : Finds (machine_policy_at setting before version) (journal_plan_at setting before version) header
       hosted
   pub same : found ≡ deciding version finds
 
-rule_is : (o : Option AuthorityRule) (one other : AuthorityRule) → o ≡ Some one → o ≡ Some other
+rule_is : (o : Option MachineAuthorityRule) (one other : MachineAuthorityRule) → o ≡ Some one → o ≡ Some other
     → one ≡ other
 rule_is o one other p q = cc
 
-pub rules_of : (setting : Setting) (before : List Item) (i s version : ℕ) (found : AuthorityRule)
-    → IsSetting setting → JournalItemsHaveCauses (HasControlItemCause setting) [] before
+pub rules_of : (setting : Setting) (before : List Item) (i s version : ℕ) (found : MachineAuthorityRule)
+    → IsMachineSetting setting → JournalItemsHaveCauses (HasControlItemCause setting) [] before
     → (here : IsHere setting before i s)
     → ((v p : ℕ) → (packet_facts_of before i).leg ≡ Some (Seek v p)
     → IsSoughtByPacket setting before (packet_facts_of before i).mark here.under.header v p)
-    → AuthorityFinds setting before i s version found
+    → PacketAuthorityFinds setting before i s version found
     → Rules setting before (packet_facts_of before i) here.under.header version found
 rules_of setting before i s version found is have here sought finds = elim finds.says [
   | inl says ↦ let stamp : ℕ = journal_stamp_of before s in
       let own : FindsRule setting before s here.under.header finds.partition finds.place =
       authority_found setting before s here.under.header finds.partition finds.place here.stamped
-      here.under.sound (ap (lookup_at setting before s) (sym here.header) ∙ says.answer) in
+      here.under.sound (ap (machine_lookup_at setting before s) (sym here.header) ∙ says.answer) in
       let rule = ap (journal_authority_rule setting before stamp finds.partition) own.found_at
       ∙ subst (λ v. journal_authority_rule setting before v finds.partition finds.place ≡ Some found)
       says.stamp finds.rule in
@@ -377,9 +377,9 @@ rules_of setting before i s version found is have here sought finds = elim finds
   | inr by ↦ let leg = sought version finds.partition (leg_in before i _ by.seeks) in
       let planned = current_planned _ _ _ is have (omega (arith, leg.not_retired)) leg.current in
       let own = in_plan setting _ _ _ leg.hosted planned here.under.sound leg.own.first in
-      let place = by.first ∙ ap (first_place setting before version finds.partition) here.header
-      ∙ ap (λ (o : Option Hosted). unwrap_or (option_and_then (λ (p : Hosted). position
-      (is_held (number_of here.under.header)) p.0.rules) o) 0) leg.own.found ∙ own.position in
+      let place = by.first ∙ ap (machine_first_rule_place setting before version finds.partition) here.header
+      ∙ ap (λ (o : Option HostedPolicyPartition). unwrap_or (option_and_then (λ (p : HostedPolicyPartition). position
+      (is_held_by_policy_rule (header_number_of here.under.header)) p.0.rules) o) 0) leg.own.found ∙ own.position in
       record {
         not_retired = leg.not_retired;
         current = leg.current;

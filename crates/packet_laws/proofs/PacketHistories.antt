@@ -1,22 +1,22 @@
 -- What held on the way, by the laws that say it one by one.
 use Rattle.std.proofs.Common.{[], ◌++◌, ◌∙◌, ◌∷◌, ◌≡◌, ◌≤◌, List, Option, ap, append-nil, append_assoc, drop, length, refl, subst, suc, sym, take, zero, ℕ, rules}
-use Rattle.update_machine.specs.Exports.{AreMachineMarksSettled, JournalBeginsAnswer, Event, HasMachineCause, JournalItemsHaveCauses, IsMachinePlay, IsMachineRun, IsSetting, Item, Setting, StepOfRow, journal_after_steps, most_journal_versions, piece, machine_step_items}
-use Rattle.packet_laws.specs.Exports.{BeginPacketLawStep, EndsPacketLawStep, PacketLawsHeldThroughout, PacketLawHoldsBetween, PacketLawsHoldSoFar, ArePacketsKeptBehind, PacketLawsKeepVersionsWhole, PacketsTravel, StrongCause, detour_count, exit_count, packet_route_hops, packet_hops_taken, most_packet_hops, most_packet_routes, most_packet_route_switches, packet_routes_taken, search_count, packet_steps_played}
+use Rattle.update_machine.specs.Exports.{AreMachineMarksSettled, JournalBeginsAnswer, Event, HasMachineCause, JournalItemsHaveCauses, IsMachinePlay, IsMachineRun, IsMachineSetting, Item, Setting, MachineStepOfRow, journal_after_steps, most_journal_versions, piece, machine_step_items}
+use Rattle.packet_laws.specs.Exports.{BeginPacketLawStep, EndsPacketLawStep, PacketLawsHeldThroughout, PacketLawHoldsBetween, PacketLawsHoldSoFar, ArePacketsKeptBehind, PacketLawsKeepVersionsWhole, PacketsTravel, PacketStrongCause, packet_detour_count, packet_exit_count, packet_route_hops, packet_hops_taken, most_packet_hops, most_packet_routes, most_packet_route_switches, packet_routes_taken, packet_search_count, packet_steps_played}
 use Rattle.packet_laws.proofs.PacketsSpared.{IsNoRow}
 use Rattle.packet_laws.proofs.PacketsAtRest.{no_rows, play_begins}
-use Rattle.control_laws.specs.Exports.{AreNetworkEvents, ControlLawHoldsAtEnds, ControlLawHoldsReached}
+use Rattle.control_laws.specs.Exports.{AreControlNetworkEvents, ControlLawHoldsAtEnds, ControlLawHoldsReached}
 use Rattle.packet_laws.proofs.PacketPlayExistence.{OfReached}
 
 -- ---- where a step begins behind some items of what steps wrote, or nothing is left, these items
 -- are what the first of the steps wrote.
 
 -- what the steps write after the journal
-abbrev written : Setting → List Item → List StepOfRow → List Item
+abbrev written : Setting → List Item → List MachineStepOfRow → List Item
 written setting before [] = []
 written setting before (next ∷ steps) = piece setting before next.row next.step
     ++ written setting (before ++ piece setting before next.row next.step) steps
 
-after_is : (setting : Setting) (before : List Item) (steps : List StepOfRow)
+after_is : (setting : Setting) (before : List Item) (steps : List MachineStepOfRow)
     → journal_after_steps setting before steps ≡ before ++ written setting before steps
 after_is setting before [] = sym (append-nil before)
 after_is setting before (next ∷ steps) =
@@ -49,13 +49,13 @@ past before (first ∷ own) rest (suc n) none begins =
 -- ---- all steps
 
 -- the first n items are what so many steps wrote
-record Firsts (setting : Setting) (before : List Item) (steps : List StepOfRow) (n : ℕ)
+record Firsts (setting : Setting) (before : List Item) (steps : List MachineStepOfRow) (n : ℕ)
     : Type 0 where
   count : ℕ
   are : before ++ take n (written setting before steps)
       ≡ journal_after_steps setting before (take count steps)
 
-firsts : (setting : Setting) (before : List Item) (steps : List StepOfRow) (n : ℕ)
+firsts : (setting : Setting) (before : List Item) (steps : List MachineStepOfRow) (n : ℕ)
     → BeginPacketLawStep (drop n (written setting before steps)) → Firsts setting before steps n
 unfolding piece
 firsts setting before [] zero begins = record { count = 0; are = append-nil before }
@@ -72,7 +72,7 @@ firsts setting before (next ∷ steps) (suc n) begins =
       are = cc (behind.taken, append_assoc before whole (take behind.count rest), more.are);
     }
 
-pub ends_at : (setting : Setting) (steps : List StepOfRow) (n : ℕ)
+pub ends_at : (setting : Setting) (steps : List MachineStepOfRow) (n : ℕ)
     → EndsPacketLawStep (journal_after_steps setting [] steps) n → (count : ℕ)
     × (take n (journal_after_steps setting [] steps) ≡ journal_after_steps setting [] (take count steps))
 ends_at setting steps n ends =
@@ -87,18 +87,18 @@ ends_at setting steps n ends =
 pub record Laws : Type 0 where
   pub run : OfReached (λ setting journal. IsMachineRun setting journal)
   pub causes : OfReached (λ setting journal. JournalItemsHaveCauses (HasMachineCause setting) [] journal)
-  pub strong : OfReached (λ setting journal. JournalItemsHaveCauses (StrongCause setting) [] journal)
+  pub strong : OfReached (λ setting journal. JournalItemsHaveCauses (PacketStrongCause setting) [] journal)
   pub versions : OfReached PacketLawsKeepVersionsWhole
-  pub searches : OfReached (λ setting journal. (i : ℕ) → search_count journal i ≤ most_journal_versions)
-  pub exits : OfReached (λ setting journal. (i : ℕ) → exit_count journal i ≤ 1)
+  pub searches : OfReached (λ setting journal. (i : ℕ) → packet_search_count journal i ≤ most_journal_versions)
+  pub exits : OfReached (λ setting journal. (i : ℕ) → packet_exit_count journal i ≤ 1)
   pub detours : OfReached (λ setting journal.
-      (i : ℕ) → detour_count journal i ≤ length setting.net.links)
+      (i : ℕ) → packet_detour_count journal i ≤ length setting.net.links)
   pub routes : OfReached (λ setting journal. (i : ℕ) → packet_routes_taken journal i ≤ most_packet_routes)
   pub on_route : OfReached (λ setting journal. (i : ℕ) → packet_route_hops journal i ≤ most_packet_route_switches)
   pub hops : OfReached (λ setting journal. (i : ℕ) → packet_hops_taken journal i ≤ most_packet_hops)
 
 -- whatever gives each of the laws gives all
-all_so_far : Laws → (setting : Setting) (journal : List Item) → IsSetting setting
+all_so_far : Laws → (setting : Setting) (journal : List Item) → IsMachineSetting setting
     → ((Holds : Setting → List Item → Type 0) → ControlLawHoldsReached Holds → Holds setting journal)
     → PacketLawsHoldSoFar setting journal
 all_so_far laws setting journal is give = search rules
@@ -118,7 +118,7 @@ holds_so_far laws = record {
 -- ---- after steps
 
 abbrev pub OfSteps : (Setting → List Item → Type 0) → Type 0
-OfSteps Holds = PacketLawHoldsBetween (λ setting journal. IsSetting setting → Holds setting journal)
+OfSteps Holds = PacketLawHoldsBetween (λ setting journal. IsMachineSetting setting → Holds setting journal)
 
 pub kept_behind : OfSteps PacketsTravel → ControlLawHoldsAtEnds AreMachineMarksSettled → OfSteps ArePacketsKeptBehind
 kept_behind travel settle = record {
@@ -167,10 +167,10 @@ written_of setting events journal full play = search rules
 
 pub held_on_the_way : OfReached PacketLawsHoldSoFar → OfSteps ArePacketsKeptBehind
     → (setting : Setting) (events : List Event) (journal : List Item) (full : Option ℕ)
-    → IsSetting setting → AreNetworkEvents setting events → IsMachinePlay setting events journal full
+    → IsMachineSetting setting → AreControlNetworkEvents setting events → IsMachinePlay setting events journal full
     → PacketLawsHeldThroughout setting journal
 held_on_the_way so_far behind setting events journal full is own play =
-    let steps : List StepOfRow = packet_steps_played setting events journal full play in
+    let steps : List MachineStepOfRow = packet_steps_played setting events journal full play in
     let written = written_of setting events journal full play in record {
       so_far = λ n. so_far.begun setting events (take n journal) own
           (fewer_begin setting events journal n (play_begins setting events journal full play)) is;

@@ -1,9 +1,9 @@
 -- A switch that is asked to move a travelling packet on writes an item of it.
 use Rattle.std.proofs.Common.{[], ◌∙◌, ◌≡◌, Bool, IsTrue, List, None, Option, Some, ap, arith, false, inl, is_some, option_and_then, position, refl, subst, sym, true, unwrap_or, ℕ}
-use Rattle.five_tuple.specs.Exports.{number_of}
-use Rattle.policy_rules.specs.Exports.{is_held}
-use Rattle.update_machine.specs.Exports.{AuthorityRule, Exit, Found, JournalItemsHaveCauses, IsSetting, Item, Leg, Seek, Setting, journal_leg_arrival_items, machine_arrive_items, machine_authority_items, journal_authority_rule, first_place, journal_found_down, journal_packet_header_at, machine_hop_items, machine_leg_items, journal_leg_of, lookup_at, machine_lookup_items, machine_move_items, journal_plan_at, journal_route_in, serves, journal_stamp_of, standing, travels}
-use Rattle.switch_table.specs.Exports.{Hosted}
+use Rattle.five_tuple.specs.Exports.{header_number_of}
+use Rattle.policy_rules.specs.Exports.{is_held_by_policy_rule}
+use Rattle.update_machine.specs.Exports.{MachineAuthorityRule, Exit, Found, JournalItemsHaveCauses, IsMachineSetting, Item, Leg, Seek, Setting, journal_leg_arrival_items, machine_arrive_items, machine_authority_items, journal_authority_rule, machine_first_rule_place, journal_found_down, journal_packet_header_at, machine_hop_items, machine_leg_items, journal_leg_of, machine_lookup_at, machine_lookup_items, machine_move_items, journal_plan_at, journal_route_in, serves, journal_stamp_of, journal_standing_of, travels_in_journal}
+use Rattle.switch_table.specs.Exports.{HostedPolicyPartition}
 use Rattle.control_laws.specs.Exports.{HasControlItemCause}
 use Rattle.control_laws.proofs.Exports.{own, serving_hold}
 use Rattle.packet_laws.specs.Exports.{AllPacketFactsKept, ArePacketsResting, PacketRouteAvoidsFound, IsPacketAt, IsPacketOnWay, PacketFacts, PacketsTravel, PacketRulesAreRight, packet_stage_of, packet_facts_of}
@@ -17,7 +17,7 @@ leg_names : (setting : Setting) (journal : List Item) (i s : ℕ) (leg : Leg)
 unfolding machine_leg_items
 leg_names setting journal i s leg = grind (arith, own)
 
-authority_names : (setting : Setting) (i s : ℕ) (o : Option AuthorityRule) (journal : List Item)
+authority_names : (setting : Setting) (i s : ℕ) (o : Option MachineAuthorityRule) (journal : List Item)
     → IsTrue (is_some o) → NamesFirst i (machine_authority_items setting i s o journal)
 unfolding machine_authority_items
 authority_names setting i s None journal some = absurd cc
@@ -26,7 +26,7 @@ authority_names setting i s (Some rule) journal some = own i
 -- each rule that the lookup gives is there
 abbrev RulesAreThere : Setting → List Item → ℕ → ℕ → Type 0
 RulesAreThere setting journal i s = (partition place : ℕ)
-    → lookup_at setting journal s (journal_packet_header_at journal i) ≡ Found.Authority partition place
+    → machine_lookup_at setting journal s (journal_packet_header_at journal i) ≡ Found.Authority partition place
     → IsTrue (is_some (journal_authority_rule setting journal (journal_stamp_of journal s) partition place))
 
 lookup_names : (setting : Setting) (i s : ℕ) (journal : List Item)
@@ -38,7 +38,7 @@ lookup_names setting i s journal there = grind (arith, own, authority_names, leg
 
 -- what is known of the packet and its switch
 record IsMoved (setting : Setting) (journal : List Item) (i s : ℕ) : Type 0 where
-  is : IsSetting setting
+  is : IsMachineSetting setting
   have : JournalItemsHaveCauses (HasControlItemCause setting) [] journal
   here : IsHere setting journal i s
   way : IsPacketOnWay setting journal (packet_facts_of journal i)
@@ -48,7 +48,7 @@ rules_there : (setting : Setting) (journal : List Item) (i s : ℕ)
 rules_there setting journal i s moved partition place answer =
     let finds : FindsRule setting journal s moved.here.under.header partition place =
     authority_found setting journal s moved.here.under.header partition place moved.here.stamped
-    moved.here.under.sound (ap (lookup_at setting journal s) (sym moved.here.header) ∙ answer) in
+    moved.here.under.sound (ap (machine_lookup_at setting journal s) (sym moved.here.header) ∙ answer) in
     subst
     (λ p. IsTrue (is_some (journal_authority_rule setting journal (journal_stamp_of journal s) partition p)))
     finds.found_at (rw (rule_there setting journal _ _ _ partition _ finds.part.number) refl)
@@ -56,16 +56,16 @@ rules_there setting journal i s moved partition place answer =
 sought_there : (setting : Setting) (journal : List Item) (i s version partition : ℕ)
     → IsMoved setting journal i s → journal_leg_of journal i ≡ Some (Seek version partition)
     → IsTrue (is_some (journal_authority_rule setting journal version partition
-    (first_place setting journal version partition (journal_packet_header_at journal i))))
+    (machine_first_rule_place setting journal version partition (journal_packet_header_at journal i))))
 sought_there setting journal i s version partition moved seeks =
     let facts : PacketFacts = packet_facts_of journal i in
     let on = seeking_of _ _ facts _ _ _ moved.way moved.here.under.entered (leg_in _ i _ seeks) in
     let finds = in_plan setting _ (journal_plan_at setting journal version) moved.here.under.header
     on.hosted (current_planned setting journal version moved.is moved.have
     (omega (arith, on.not_retired)) on.current) moved.here.under.sound on.own.first in
-    let place = ap (first_place setting journal version partition) moved.here.header
-    ∙ ap (λ (o : Option Hosted). unwrap_or (option_and_then (λ (p : Hosted). position
-    (is_held (number_of moved.here.under.header)) p.0.rules) o) 0) on.own.found ∙ finds.position in
+    let place = ap (machine_first_rule_place setting journal version partition) moved.here.header
+    ∙ ap (λ (o : Option HostedPolicyPartition). unwrap_or (option_and_then (λ (p : HostedPolicyPartition). position
+    (is_held_by_policy_rule (header_number_of moved.here.under.header)) p.0.rules) o) 0) on.own.found ∙ finds.position in
     subst
     (λ p. IsTrue (is_some (journal_authority_rule setting journal version partition p)))
     (sym place) (rw (rule_there setting journal _ _ version partition finds on.own.number) refl)
@@ -87,7 +87,7 @@ arrive_names setting i s journal moved =
         → journal_leg_of journal i ≡ Some (Seek version partition) → NamesFirst i (elim b [
           | false ↦ machine_lookup_items setting i s journal
           | true ↦ machine_authority_items setting i s (journal_authority_rule setting journal version partition
-              (first_place setting journal version partition (journal_packet_header_at journal i))) journal
+              (machine_first_rule_place setting journal version partition (journal_packet_header_at journal i))) journal
         ])
     by_held version partition false e = lookup_names _ i s _ (rules_there setting journal i s moved)
     by_held version partition true e = authority_names setting i s _ journal
@@ -105,15 +105,15 @@ move_names setting i s journal moved = grind (arith, own, arrive_names, moved)
 
 -- ---- a hop
 
-pub hop_names : (setting : Setting) (i : ℕ) (journal : List Item) → IsSetting setting
+pub hop_names : (setting : Setting) (i : ℕ) (journal : List Item) → IsMachineSetting setting
     → JournalItemsHaveCauses (IsWayItem setting) [] journal → ArePacketsResting journal
-    → IsTrue (travels journal i) → NamesFirst i (machine_hop_items setting i journal)
+    → IsTrue (travels_in_journal journal i) → NamesFirst i (machine_hop_items setting i journal)
 unfolding machine_hop_items
 hop_names setting i journal is have rests travelling =
     let served = rests.served i travelling in
     let kept : AllPacketFactsKept setting journal = all_kept setting journal is have in
     let switches = switches_of_all setting [] journal have in
-    let s : ℕ = unwrap_or (standing journal i) 0 in
+    let s : ℕ = unwrap_or (journal_standing_of journal i) 0 in
     let there : served.switch ≡ s = sym (ap (λ o. unwrap_or o 0) served.stands) in
     let at : IsPacketAt journal i s = record {
       travelling = travelling;
@@ -135,7 +135,7 @@ avoids_in : (journal : List Item) (i : ℕ) → PacketRouteAvoidsFound (packet_f
 unfolding packet_facts_of
 avoids_in journal i avoids = avoids
 
-pub packets_travel : (setting : Setting) (journal : List Item) → IsSetting setting
+pub packets_travel : (setting : Setting) (journal : List Item) → IsMachineSetting setting
     → IsSettled setting journal → PacketsTravel setting journal
 packets_travel setting journal is settled i travelling =
     let kept : AllPacketFactsKept setting journal = all_kept setting journal is settled.causes in

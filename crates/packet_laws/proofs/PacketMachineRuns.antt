@@ -1,14 +1,14 @@
 -- A journal whose items have their causes is a run of the machine.
 use Rattle.std.proofs.Common.{[], if◌then◌else◌, ◌++◌, ◌<◌, ◌∙◌, ◌∷◌, ◌≡◌, ◌≢◌, ◌≤◌, Bool, IsTrue, List, None, Option, Some, ap, arith, eq-eqb, false, ne_eqb, option_map, refl, subst, sym, true, ℕ, rules}
 use Rattle.base.proofs.Exports.{cases_eq, some_same, ⊤}
-use Rattle.update_machine.specs.Exports.{Action, Decision, Dropped, End, Ends, JournalItemsHaveCauses, Header, Hit, How, IsMachineRun, IsSetting, Item, Leaving, LeftBy, Lost, Machine, MachinePacketMayEnd, JournalPoliciesKeep, Row, Runs, Setting, Stuck, Takes, first_machine, machine_item_gives_retired, journal_packet_header, is_journal_submission, journal_next_packet, policy_at, journal_retired_mark, travels, journal_version_count, machine_with_packet}
+use Rattle.update_machine.specs.Exports.{Action, Decision, Dropped, MachinePacketEnd, MachineEndsPacket, JournalItemsHaveCauses, Header, Hit, How, IsMachineRun, IsMachineSetting, Item, Leaving, LeftBy, Lost, Machine, MachinePacketMayEnd, JournalPoliciesKeep, Row, MachineRuns, Setting, Stuck, MachineTakes, first_machine, machine_item_gives_retired, journal_packet_header, is_journal_submission, journal_next_packet, machine_policy_at, journal_retired_mark, travels_in_journal, journal_version_count, machine_with_packet}
 use Rattle.policy_rules.specs.Exports.{scan}
 use Rattle.policy_rules.proofs.PolicyRulesCallerLemmas.{first_match-scan}
 use Rattle.update_machine.specs.Machine.{Packet}
 use Rattle.update_machine.proofs.Exports.{ArePolicies, have_append, policies_begin, policies_keep, policies_stay, policy_there, start_laws, takes_version}
 use Rattle.control_laws.specs.Exports.{HasControlItemCause, ControlRetirementHasCause, ControlSubmissionHasCause}
 use Rattle.control_laws.proofs.Exports.{Behind, bounded, caused_numbered, retired_more}
-use Rattle.packet_laws.specs.Exports.{AllPacketFactsKept, IsPacketDecided, IsUnknownPacket, HasPacketItemCause, PacketFacts, packet_facts_after, is_item_of_packet_facts, packet_stage_of, packet_facts_of}
+use Rattle.packet_laws.specs.Exports.{AllPacketFactsKept, IsPacketDecided, IsUnknownPacket, HasPacketItemCause, PacketFacts, packet_facts_after, is_item_of_entered_packet, packet_stage_of, packet_facts_of}
 use Rattle.packet_laws.proofs.PacketsAllKept.{Before, facts_grow, facts_named, facts_other, kept_before, known_before, knows, other_number}
 use Rattle.packet_laws.proofs.PacketHeaderLookups.{IsHere, decision_in, here_of, travels_in}
 use Rattle.packet_laws.proofs.PacketEnds.{leaves_rightly}
@@ -80,7 +80,7 @@ unseen_matches : (setting : Setting) (machine : Machine) (journal : List Item) (
 unseen_matches setting machine journal next is matches = record {
   policies = policies_stay setting machine.policies journal _ keep matches.policies;
   mark = matches.mark ∙ sym (rw (retired_more journal next, no_retirement next is) refl);
-  packets = λ i. rw (facts_grow i journal next) (by_name i (is_item_of_packet_facts i next));
+  packets = λ i. rw (facts_grow i journal next) (by_name i (is_item_of_entered_packet i next));
 } where
   keep : JournalPoliciesKeep journal (journal ++ next ∷ [])
   keep = policies_keep journal (next ∷ []) (no_submission next is, tt)
@@ -107,7 +107,7 @@ keeps_marks setting journal next submits retires = record {
 
 changed_matches : (setting : Setting) (machine : Machine) (journal : List Item)
     (next : Item) (i : ℕ) (packet : Packet) → Matches setting machine journal → KeepsMarks setting
-    journal (journal ++ next ∷ []) → ((j : ℕ) → j ≢ i → is_item_of_packet_facts j next ≡ false) → IsSeen packet
+    journal (journal ++ next ∷ []) → ((j : ℕ) → j ≢ i → is_item_of_entered_packet j next ≡ false) → IsSeen packet
     (packet_facts_of (journal ++ next ∷ []) i)
     → Matches setting (machine_with_packet machine i packet) (journal ++ next ∷ [])
 changed_matches setting machine journal next i packet matches keeps others seen =
@@ -117,10 +117,10 @@ changed_matches setting machine journal next i packet matches keeps others seen 
 record Goes (setting : Setting) (machine : Machine) (journal : List Item) (next : Item) : Type 0
   where
     new : Machine
-    takes : Takes setting machine next new
+    takes : MachineTakes setting machine next new
     matches : Matches setting new (journal ++ next ∷ [])
 
-ended_seen : (packet : Packet) (facts after : PacketFacts) (end : End)
+ended_seen : (packet : Packet) (facts after : PacketFacts) (end : MachinePacketEnd)
     → after ≡ record facts { travels = false } → IsSeen packet facts
     → IsSeen (record packet { end = Some end }) after
 ended_seen packet facts after end e seen = search rules
@@ -133,13 +133,13 @@ action_of packet facts decision seen decided = search rules
 -- ---- ends
 
 goes_end : (setting : Setting) (machine : Machine) (journal : List Item) (next : Item) (i : ℕ)
-    (end : End) → Before setting journal → Matches setting machine journal
-    → IsTrue (travels journal i)
+    (end : MachinePacketEnd) → Before setting journal → Matches setting machine journal
+    → IsTrue (travels_in_journal journal i)
     → ((packet : Packet) → IsSeen packet (packet_facts_of journal i) → MachinePacketMayEnd packet end)
     → packet_facts_of (journal ++ next ∷ []) i ≡ record (packet_facts_of journal i) { travels = false }
-    → ((j : ℕ) → j ≢ i → is_item_of_packet_facts j next ≡ false)
+    → ((j : ℕ) → j ≢ i → is_item_of_entered_packet j next ≡ false)
     → KeepsMarks setting journal (journal ++ next ∷ [])
-    → ((new : Machine) → Ends machine i end new → Takes setting machine next new)
+    → ((new : Machine) → MachineEndsPacket machine i end new → MachineTakes setting machine next new)
     → Goes setting machine journal next
 goes_end setting machine journal next i end before matches travelling may after others keeps takes =
     let on : IsTrue (packet_facts_of journal i).travels = travels_in journal i travelling in
@@ -201,7 +201,7 @@ goes_decided setting machine journal i version rule act by before matches way =
     let at = known (machine.packets i) facts header (matches.packets i) here.under.entered in
     let there : version ≤ journal_version_count journal =
     omega (arith, now.rightly.current, (bounded setting journal knows_it.have).there) in
-    let policy : List Row = policy_at setting journal version in
+    let policy : List Row = machine_policy_at setting journal version in
     let hit : scan policy at.0.header ≡ record { rule = rule; action = act } = ap (scan policy)
     (sym (some_same facts.header header at.0.header here.under.entered at.2.header))
     ∙ now.rightly.first_match in
@@ -231,7 +231,7 @@ goes_decided setting machine journal i version rule act by before matches way =
 
 -- facts of packets don't change with what names none
 packets_same : (machine : Machine) (journal : List Item) (next : Item)
-    → ((i : ℕ) → is_item_of_packet_facts i next ≡ false)
+    → ((i : ℕ) → is_item_of_entered_packet i next ≡ false)
     → ((i : ℕ) → SeenAs (machine.packets i) (packet_facts_of journal i))
     → (i : ℕ) → SeenAs (machine.packets i) (packet_facts_of (journal ++ next ∷ []) i)
 packets_same machine journal next none seen i = rw (facts_other i journal next (none i)) (seen i)
@@ -334,21 +334,21 @@ goes setting machine journal (Item.Stuck i switch why leg down) before cause mat
 goes setting machine journal next before cause matches =
     record { new = machine; takes = refl; matches = unseen_matches setting machine journal next tt matches }
 
-runs_from : (setting : Setting) (machine : Machine) (before items : List Item) → IsSetting setting
+runs_from : (setting : Setting) (machine : Machine) (before items : List Item) → IsMachineSetting setting
     → JournalItemsHaveCauses (KeptItem setting) before items → Matches setting machine before
-    → (new : Machine) × Runs setting machine items new
+    → (new : Machine) × MachineRuns setting machine items new
 runs_from setting machine before [] is have matches = (machine, refl)
 runs_from setting machine before (next ∷ items) is have matches =
     let step = goes _ _ _ next (known_before _ is _ next have.0) have.0.caused.caused matches in
     let rest = runs_from setting step.new (before ++ next ∷ []) items is have.1 step.matches in
     (rest.0, (step.new, step.takes, rest.1))
 
-matches_at_first : (setting : Setting) → IsSetting setting
+matches_at_first : (setting : Setting) → IsMachineSetting setting
     → Matches setting (first_machine setting) []
 unfolding packet_facts_of journal_packet_header
 matches_at_first setting is = search (rules, policies_begin, start_laws)
 
-pub caused_is_run : (setting : Setting) (journal : List Item) → IsSetting setting
+pub caused_is_run : (setting : Setting) (journal : List Item) → IsMachineSetting setting
     → JournalItemsHaveCauses (IsWayItem setting) [] journal → IsMachineRun setting journal
 caused_is_run setting journal is have = runs_from setting (first_machine setting) [] journal is
     (kept_before setting journal is have) (matches_at_first setting is)

@@ -2,7 +2,7 @@
 use Rattle.std.proofs.Common.{[], ◌++◌, ◌∙◌, ◌∷◌, ◌≡◌, Bool, IsTrue, List, None, Option, Some, append-nil, append_assoc, arith, false, map, max, min, refl, subst, sym, true, ℕ, rules}
 use Rattle.control_laws.proofs.Exports.{Control, IsCommand, IsControl, controller_control, deliver_has, each_by_controller, each_by_switch, each_to_member, have_weaker, later_versions, own, resent_has, sends_each, switch_cases, update_has}
 use Rattle.base.specs.Exports.{has}
-use Rattle.update_machine.specs.Exports.{Action, AuthorityRule, Body, CacheRule, Found, JournalItemsHaveCauses, Header, How, IsMachineLinkStep, Item, Leg, LinkDown, LinkUp, Message, Restart, Setting, Step, Update, machine_advert_to, machine_arrive_items, machine_authority_items, journal_authority_rule, deliver_items, machine_end_items, machine_expire_items, machine_forget_items, found_items, machine_item_gives_travelling, go_on, journal_packet_header_at, machine_hop_items, journal_items_then, machine_leg_items, journal_leg_of, journal_link_changes, machine_link_items, lookup_at, machine_lookup_items, machine_messages_of, machine_messages_over_link, machine_move_items, near, journal_next_switch, nothing, machine_packet_items, journal_present_step, machine_reroute_items, machine_resend_items, restart_items, journal_packet_route, send_items, serves, journal_stamp_of, machine_stuck_on_leg_item, journal_switch_items, setting_switches_in, travels, journal_unacked_installs, machine_update_items, journal_versions_from_current}
+use Rattle.update_machine.specs.Exports.{Action, MachineAuthorityRule, Body, CacheRule, Found, JournalItemsHaveCauses, Header, How, IsMachineLinkStep, Item, Leg, LinkDown, LinkUp, Message, Restart, Setting, Step, Update, machine_advert_to, machine_arrive_items, machine_authority_items, journal_authority_rule, machine_deliver_items, machine_end_items, machine_expire_items, machine_forget_items, machine_found_items, machine_item_gives_travelling, machine_onward_items, journal_packet_header_at, machine_hop_items, journal_items_then, machine_leg_items, journal_leg_of, journal_link_changes, machine_link_items, machine_lookup_at, machine_lookup_items, machine_messages_of, machine_messages_over_link, machine_move_items, near, journal_next_switch, nothing, machine_packet_items, journal_present_step, machine_reroute_items, machine_resend_items, machine_restart_items, journal_packet_route, machine_send_items, serves, journal_stamp_of, machine_stuck_on_leg_item, journal_switch_items, machine_switches_in, travels_in_journal, journal_unacked_installs, machine_update_items, journal_versions_from_current}
 use Rattle.update_machine.proofs.Exports.{folded_append, have_first}
 use Rattle.packet_laws.specs.Exports.{IsPacketMoving, OnWay, HasPacketItemCause, gives_packet_stage}
 use Rattle.packet_laws.proofs.PacketBlocks.{ended, stage_more, stage_stays, travels_more}
@@ -48,7 +48,7 @@ end_done : (setting : Setting) (i s : ℕ) (act : Action) (journal : List Item)
 unfolding machine_end_items
 end_done setting i s act journal = search (rules, ends_done, leg_done)
 
-authority_done : (setting : Setting) (i s : ℕ) (o : Option AuthorityRule) (journal : List Item)
+authority_done : (setting : Setting) (i s : ℕ) (o : Option MachineAuthorityRule) (journal : List Item)
     → (o ≡ None → IsPacketMoving journal i)
     → IsPacketMoving (journal ++ machine_authority_items setting i s o journal) i
 unfolding machine_authority_items
@@ -58,7 +58,7 @@ authority_done setting i s (Some rule) journal none = search (rules, put_done, n
 -- where the lookup gives a rule that isn't there, nothing is written
 abbrev NoRule : Setting → List Item → ℕ → ℕ → Type 0
 NoRule setting journal i s = (partition place : ℕ)
-    → lookup_at setting journal s (journal_packet_header_at journal i) ≡ Found.Authority partition place
+    → machine_lookup_at setting journal s (journal_packet_header_at journal i) ≡ Found.Authority partition place
     → journal_authority_rule setting journal (journal_stamp_of journal s) partition place ≡ None
     → IsPacketMoving journal i
 
@@ -66,8 +66,8 @@ lookup_done : (setting : Setting) (i s : ℕ) (journal : List Item) → NoRule s
     → IsPacketMoving (journal ++ machine_lookup_items setting i s journal) i
 unfolding machine_lookup_items
 lookup_done setting i s journal none = by_found _ refl where
-  by_found : (what : Found) → lookup_at setting journal s (journal_packet_header_at journal i) ≡ what
-      → IsPacketMoving (journal ++ found_items setting i s what journal) i
+  by_found : (what : Found) → machine_lookup_at setting journal s (journal_packet_header_at journal i) ≡ what
+      → IsPacketMoving (journal ++ machine_found_items setting i s what journal) i
   by_found (Found.Cached entry) e =
       let decided : Item =
       Item.Decided i entry.version entry.rule entry.action (How.Cached entry.message) in
@@ -84,7 +84,7 @@ arrive_done setting i s journal done =
     grind (arith, none_done, ends_done, own, lookup_done, authority_done, done)
 
 go_on_done : (setting : Setting) (i s : ℕ) (journal : List Item) → IsPacketMoving journal i
-    → IsPacketMoving (journal ++ go_on setting i s journal) i
+    → IsPacketMoving (journal ++ machine_onward_items setting i s journal) i
 go_on_done setting i s journal done = grind (arith, arrive_done, moves_done, own, done)
 
 reroute_done : (setting : Setting) (i s : ℕ) (leg : Leg) (journal : List Item)
@@ -94,10 +94,10 @@ reroute_done setting i s leg journal takes = rw takes (by_route (journal_packet_
   where
     by_route : (o : Option (List ℕ)) → IsPacketMoving (journal ++ elim o [
       | None ↦ machine_stuck_on_leg_item setting journal i s leg ∷ []
-      | Some route ↦ journal_items_then (Item.Rerouted i route ∷ []) (go_on setting i s) journal
+      | Some route ↦ journal_items_then (Item.Rerouted i route ∷ []) (machine_onward_items setting i s) journal
     ]) i
     by_route None = ends_done journal (machine_stuck_on_leg_item setting journal i s leg) i (rw (own i) refl)
-    by_route (Some route) = put_done (Item.Rerouted i route ∷ []) (go_on setting i s) journal i
+    by_route (Some route) = put_done (Item.Rerouted i route ∷ []) (machine_onward_items setting i s) journal i
         (go_on_done setting i s _ (moves_done journal (Item.Rerouted i route) i (rw (own i) refl)))
 
 leg_stays : (journal : List Item) (i s next : ℕ)
@@ -131,7 +131,7 @@ move_done setting i s leg journal takes done = by_next (journal_next_switch jour
 -- ---- steps
 
 pub hop_done : (setting : Setting) (i : ℕ) (journal : List Item)
-    → (IsTrue (travels journal i) → (leg : Leg) × (journal_leg_of journal i ≡ Some leg))
+    → (IsTrue (travels_in_journal journal i) → (leg : Leg) × (journal_leg_of journal i ≡ Some leg))
     → IsPacketMoving journal i → IsPacketMoving (journal ++ machine_hop_items setting i journal) i
 unfolding machine_hop_items
 hop_done setting i journal takes done = search (rules, silent_done, move_done)
@@ -140,7 +140,7 @@ hop_done setting i journal takes done = search (rules, silent_done, move_done)
 pub packet_done : (setting : Setting) (i s : ℕ) (header : Header) (journal : List Item)
     → (IsTrue (serves journal s) → (partition place : ℕ)
     → let entered = journal ++ Item.Entered i s header ∷ [] in
-    lookup_at setting entered s (journal_packet_header_at entered i) ≡ Found.Authority partition place
+    machine_lookup_at setting entered s (journal_packet_header_at entered i) ≡ Found.Authority partition place
     → journal_authority_rule setting entered (journal_stamp_of entered s) partition place ≡ None → ⊥)
     → IsPacketMoving journal i → IsPacketMoving (journal ++ machine_packet_items setting i s header journal) i
 unfolding machine_packet_items
@@ -216,7 +216,7 @@ abbrev AreOther : List Message → Type 0
 AreOther messages = AllByRecursion TellsOther messages
 
 sends_aside : (journal : List Item) (messages : List Message) → AreOther messages
-    → AreAside journal (send_items journal messages)
+    → AreAside journal (machine_send_items journal messages)
 sends_aside = sends_each IsAside TellsOther (λ before n message is. is)
 
 each_other : {X : Type 0} (to : X → Message) → ((x : X) → IsOther (to x).body) → (xs : List X)
@@ -224,7 +224,7 @@ each_other : {X : Type 0} (to : X → Message) → ((x : X) → IsOther (to x).b
 each_other to other xs = each_map TellsOther to xs (each_always (λ x. IsOther (to x).body) other xs)
 
 to_each : {X : Type 0} (journal : List Item) (to : X → Message) → ((x : X) → IsOther (to x).body)
-    → (xs : List X) → AreAside journal (send_items journal (map to xs))
+    → (xs : List X) → AreAside journal (machine_send_items journal (map to xs))
 to_each journal to other xs = sends_aside journal (map to xs) (each_other to other xs)
 
 -- ---- the controller
@@ -255,7 +255,7 @@ unfolding journal_link_changes
 changes_aside setting before journal = sends_aside journal _
     (each_flat_map TellsOther (machine_messages_of setting before journal)
     (λ s. each_flat_map TellsOther (machine_messages_over_link setting before journal s) (λ neighbour. over_other
-    setting before journal s neighbour) (setting_switches_in setting (near setting journal s))) _)
+    setting before journal s neighbour) (machine_switches_in setting (near setting journal s))) _)
 
 -- the row that brings a link back, or fails it
 abbrev pub link_step : ℕ → ℕ → Bool → Step
@@ -274,8 +274,8 @@ link_aside setting before one two up journal is =
     grind (arith, have_first, changes_aside, link_named (journal_present_step journal) one two up is)
 
 pub restart_aside : (s : ℕ) (journal : List Item) → journal_present_step journal ≡ Some (Restart s)
-    → AreAside journal (restart_items s journal)
-unfolding restart_items
+    → AreAside journal (machine_restart_items s journal)
+unfolding machine_restart_items
 restart_aside s journal is = grind (arith, have_first, sends_aside)
 
 pub forget_aside : (number : ℕ) (journal : List Item)
@@ -299,7 +299,7 @@ switch_aside setting before s body journal = switch_cases (AreAside journal) set
     (λ neighbour. machine_advert_to neighbour advert) (λ neighbour. tt) _) tt
 
 pub deliver_aside : (setting : Setting) (before : List Item) (number : ℕ) (journal : List Item)
-    → AreAside journal (deliver_items setting before number journal)
+    → AreAside journal (machine_deliver_items setting before number journal)
 deliver_aside setting before number journal = deliver_has IsAside setting before number journal tt
     tt (λ body sent. control_aside _ _ (controller_control setting before body _))
     (λ s body said. switch_aside setting before s body _)
@@ -315,7 +315,7 @@ pub resend_aside : (setting : Setting) (s : ℕ) (journal : List Item)
 resend_aside setting s journal = resent_has IsAside TellsOther setting s journal tt
     (sends_aside journal) (each_by_switch TellsOther setting journal s (λ up. tt)
     (each_flat_map TellsOther _ (λ neighbour. each_other (machine_advert_to neighbour) (λ advert. tt) _)
-    (setting_switches_in setting (near setting journal s))))
+    (machine_switches_in setting (near setting journal s))))
     (each_by_controller TellsOther setting journal s (λ none member. each_to_member TellsOther
     setting journal s tt (unacked_other setting journal s (later_versions journal)) tt (λ some. tt))
     (λ none. unacked_other setting journal s (journal_versions_from_current journal)))

@@ -1,9 +1,9 @@
 -- Each list of events has a play: all their steps, or those before the first that would begin full.
 use Rattle.std.proofs.Common.{[], ◌++◌, ◌+◌, ◌<◌, ◌∙◌, ◌∷◌, ◌≡◌, ◌≤◌, ◌⊎◌, All, List, None, Option, Some, ap, append_assoc, arith, get_or, inl, inr, length, option_map, refl, subst, suc, sym, take, zero, ℕ, rules}
 use Rattle.base.proofs.Exports.{cases_lt, take-append_seam}
-use Rattle.update_machine.specs.Exports.{AreAllMachineEventSteps, AreJournalFirstSteps, AreFirstMachineStepsOf, AreFirstMachineEventSteps, AreMachineSteps, AreMachineStepsOf, Deliver, Drain, Event, Flush, HasMachinePlay, JournalItemsHaveCauses, MachineJournalsHaveRoom, IsMachineJournalFull, IsSetting, Item, One, Setting, Step, StepOfRow, journal_after_steps, machine_journal_full_at, journal_next_delivery, journal_next_hop, journal_next_message, next_waiting, piece}
-use Rattle.control_laws.specs.Exports.{AcksHold, AreNetworkEvents, BootsAreKnown, HasControlItemCause, ControlLawHoldsAlways, ControlLawHoldsReached, IsAckedFirst, ControlMarksAreBounded, ControlMembersAcknowledged, OpeningMessagesNameOneVersion, ServingHoldVersions, ServingIsKnown, StampsSayTouched, ControlTablesArePlanned}
-use Rattle.packet_laws.specs.Exports.{ChangesLeaveOtherPackets, GoesOrStops, PacketLawsKeepVersionsWhole, PacketRulesAreRight, UntouchedCacheRulesStay}
+use Rattle.update_machine.specs.Exports.{AreAllMachineEventSteps, AreJournalFirstSteps, AreFirstMachineStepsOf, AreFirstMachineEventSteps, AreMachineSteps, AreMachineStepsOf, Deliver, Drain, Event, Flush, HasMachinePlay, JournalItemsHaveCauses, MachineJournalsHaveRoom, IsMachineJournalFull, IsMachineSetting, Item, One, Setting, Step, MachineStepOfRow, journal_after_steps, machine_journal_full_at, journal_next_delivery, journal_next_hop, journal_next_message, next_waiting, piece}
+use Rattle.control_laws.specs.Exports.{ControlAcksHold, AreControlNetworkEvents, ControlBootsArePast, HasControlItemCause, ControlLawHoldsAlways, ControlLawHoldsReached, IsControlAckedFirst, ControlMarksAreBounded, ControlMembersAcknowledged, ControlOpeningMessagesNameOneVersion, ControlServingHoldVersions, ControlServingIsKnown, ControlStampsSayTouched, ControlTablesArePlanned}
+use Rattle.packet_laws.specs.Exports.{ChangesLeaveOtherPackets, PacketLawGoesOrStops, PacketLawsKeepVersionsWhole, PacketRulesAreRight, UntouchedPacketCacheRulesStay}
 use Rattle.packet_laws.proofs.PacketFlushMessages.{next_is, numbers_rise}
 use Rattle.update_machine.proofs.Exports.{IsEventOf, after_append, event_steps_are, rooms_append}
 use Rattle.control_laws.proofs.Exports.{NamesOwn, has_nexts, own_event}
@@ -26,29 +26,29 @@ always_reached Holds law = record {
 
 -- a fact of the journals of settings, within a step too
 abbrev pub OfReached : (Setting → List Item → Type 0) → Type 0
-OfReached Holds = ControlLawHoldsReached (λ setting journal. IsSetting setting → Holds setting journal)
+OfReached Holds = ControlLawHoldsReached (λ setting journal. IsMachineSetting setting → Holds setting journal)
 
 -- the laws of boots, versions and marks, and of cache rules
 pub record Laws : Type 0 where
   pub causes : ControlLawHoldsAlways (λ setting journal. JournalItemsHaveCauses (HasControlItemCause setting) [] journal)
-  pub boots : ControlLawHoldsAlways (λ setting journal. BootsAreKnown journal)
-  pub serving : ControlLawHoldsAlways (λ setting journal. ServingIsKnown journal)
-  pub heard : ControlLawHoldsAlways (λ setting journal. (s : ℕ) → AcksHold journal s)
-  pub acknowledged : ControlLawHoldsAlways (λ setting journal. JournalItemsHaveCauses (IsAckedFirst setting) [] journal)
-  pub opened : ControlLawHoldsAlways (λ setting journal. OpeningMessagesNameOneVersion journal)
+  pub boots : ControlLawHoldsAlways (λ setting journal. ControlBootsArePast journal)
+  pub serving : ControlLawHoldsAlways (λ setting journal. ControlServingIsKnown journal)
+  pub heard : ControlLawHoldsAlways (λ setting journal. (s : ℕ) → ControlAcksHold journal s)
+  pub acknowledged : ControlLawHoldsAlways (λ setting journal. JournalItemsHaveCauses (IsControlAckedFirst setting) [] journal)
+  pub opened : ControlLawHoldsAlways (λ setting journal. ControlOpeningMessagesNameOneVersion journal)
   pub tables : ControlLawHoldsAlways (λ setting journal. ControlTablesArePlanned setting journal)
   pub members : ControlLawHoldsAlways (λ setting journal. ControlMembersAcknowledged setting journal)
   pub marks : ControlLawHoldsAlways (λ setting journal. ControlMarksAreBounded setting journal)
-  pub holding : ControlLawHoldsAlways (λ setting journal. ServingHoldVersions setting journal)
-  pub touched : ControlLawHoldsAlways (λ setting journal. StampsSayTouched setting journal)
+  pub holding : ControlLawHoldsAlways (λ setting journal. ControlServingHoldVersions setting journal)
+  pub touched : ControlLawHoldsAlways (λ setting journal. ControlStampsSayTouched setting journal)
   pub rules : OfReached PacketRulesAreRight
-  pub untouched : OfReached UntouchedCacheRulesStay
+  pub untouched : OfReached UntouchedPacketCacheRulesStay
   pub alike : OfReached ChangesLeaveOtherPackets
 
 module _ (laws : Laws) (setting : Setting) (journal : List Item) where
   -- each item has its cause, and most of it follows
   whole : JournalItemsHaveCauses (HasControlItemCause setting) [] journal → PacketRulesAreRight setting journal
-      → UntouchedCacheRulesStay setting journal → ChangesLeaveOtherPackets setting journal
+      → UntouchedPacketCacheRulesStay setting journal → ChangesLeaveOtherPackets setting journal
       → PacketLawsKeepVersionsWhole setting journal
   whole causes rules untouched alike = record {
     causes = causes;
@@ -95,11 +95,11 @@ abbrev IsAmong : ℕ → List Item → Type 0
 IsAmong most journal = (n : ℕ) → next_waiting journal ≡ Some n → machine_journal_full_at < n + most
 
 none_left : (setting : Setting) (row : ℕ) (before : List Item) → next_waiting before ≡ None
-    → GoesOrStops setting journal_next_delivery row before
+    → PacketLawGoesOrStops setting journal_next_delivery row before
 none_left setting row before none = search rules
 
 stops_here : (setting : Setting) (row : ℕ) (before : List Item) (n : ℕ) → next_waiting before
-    ≡ Some n → IsMachineJournalFull before → GoesOrStops setting journal_next_delivery row before
+    ≡ Some n → IsMachineJournalFull before → PacketLawGoesOrStops setting journal_next_delivery row before
 stops_here setting row before n is full = record {
   steps = [];
   room = tt;
@@ -112,10 +112,10 @@ stops_here setting row before n is full = record {
 
 one_more : (setting : Setting) (row : ℕ) (before : List Item) (n : ℕ)
     → next_waiting before ≡ Some n → journal_next_message before ≤ machine_journal_full_at
-    → GoesOrStops setting journal_next_delivery row (before ++ piece setting before row (Deliver n))
-    → GoesOrStops setting journal_next_delivery row before
+    → PacketLawGoesOrStops setting journal_next_delivery row (before ++ piece setting before row (Deliver n))
+    → PacketLawGoesOrStops setting journal_next_delivery row before
 one_more setting row before n is room rest =
-    let first : StepOfRow = record { row = row; step = Deliver n } in
+    let first : MachineStepOfRow = record { row = row; step = Deliver n } in
     let goes = ap (option_map Deliver) is in record {
       steps = first ∷ rest.steps;
       room = (room, rest.room);
@@ -130,17 +130,17 @@ one_more setting row before n is room rest =
     }
 
 flush_within : (setting : Setting) (row most : ℕ) (before : List Item) → IsAmong most before
-    → GoesOrStops setting journal_next_delivery row before
+    → PacketLawGoesOrStops setting journal_next_delivery row before
 flush_within setting row zero before among = by_next (next_waiting before) refl where
-  by_next : (o : Option ℕ) → next_waiting before ≡ o → GoesOrStops setting journal_next_delivery row before
+  by_next : (o : Option ℕ) → next_waiting before ≡ o → PacketLawGoesOrStops setting journal_next_delivery row before
   by_next None e = none_left setting row before e
   by_next (Some n) e = stops_here _ row _ n e (omega (arith, among n e, (next_is before n e).sent))
 flush_within setting row (suc most) before among =
     by_next (next_waiting before) refl (flush_within setting row most)
   where
     by_next : (o : Option ℕ) → next_waiting before ≡ o → ((journal : List Item)
-        → IsAmong most journal → GoesOrStops setting journal_next_delivery row journal)
-        → GoesOrStops setting journal_next_delivery row before
+        → IsAmong most journal → PacketLawGoesOrStops setting journal_next_delivery row journal)
+        → PacketLawGoesOrStops setting journal_next_delivery row before
     by_next None e rest = none_left setting row before e
     by_next (Some n) e rest = elim (cases_lt machine_journal_full_at (journal_next_message before)) [
       | inl full ↦ stops_here setting row before n e full
@@ -149,7 +149,7 @@ flush_within setting row (suc most) before among =
     ]
 
 pub flush_goes : (setting : Setting) (journal : List Item) (row : ℕ)
-    → GoesOrStops setting journal_next_delivery row journal
+    → PacketLawGoesOrStops setting journal_next_delivery row journal
 flush_goes setting journal row =
     flush_within setting row (machine_journal_full_at + 1) journal (λ n is. omega arith)
 
@@ -159,15 +159,15 @@ flush_goes setting journal row =
 
 -- all steps of a loop, as far as there is room
 goes : (setting : Setting) (next : List Item → Option Step) (row : ℕ) (before : List Item)
-    (steps : List StepOfRow) → AreAllMachineEventSteps setting next row before steps
-    → GoesOrStops setting next row before
+    (steps : List MachineStepOfRow) → AreAllMachineEventSteps setting next row before steps
+    → PacketLawGoesOrStops setting next row before
 goes setting next row before [] all = record { steps = []; room = tt; how = inl all }
 goes setting next row before (first ∷ steps) all = by_room (cases_lt machine_journal_full_at (journal_next_message before))
     (goes setting next row (before ++ piece setting before first.row first.step) steps all.2)
   where
     by_room : (machine_journal_full_at < journal_next_message before) ⊎ (journal_next_message before ≤ machine_journal_full_at)
-        → GoesOrStops setting next row (before ++ piece setting before first.row first.step)
-        → GoesOrStops setting next row before
+        → PacketLawGoesOrStops setting next row (before ++ piece setting before first.row first.step)
+        → PacketLawGoesOrStops setting next row before
     by_room (inl full) rest = record {
       steps = [];
       room = tt;
@@ -188,27 +188,27 @@ goes setting next row before (first ∷ steps) all = by_room (cases_lt machine_j
 
 -- the event stops in front of a step that would begin full
 record EventStops (setting : Setting) (row : ℕ) (event : Event) (before : List Item)
-    (steps : List StepOfRow) : Type 0 where
-  more : StepOfRow
+    (steps : List MachineStepOfRow) : Type 0 where
+  more : MachineStepOfRow
   allowed : AreFirstMachineStepsOf setting row event before (steps ++ more ∷ [])
   full : IsMachineJournalFull (journal_after_steps setting before steps)
 
 record EventGoes (setting : Setting) (row : ℕ) (event : Event) (before : List Item) : Type 0 where
-  steps : List StepOfRow
+  steps : List MachineStepOfRow
   room : MachineJournalsHaveRoom setting before steps
   how : AreMachineStepsOf setting row event before steps ⊎ EventStops setting row event before steps
 
 -- as a flush or a drain goes whose steps such a loop's are
 goes_as : (setting : Setting) (next : List Item → Option Step) (row : ℕ) (event : Event)
-    (before : List Item) → ((steps : List StepOfRow) → AreAllMachineEventSteps setting next row before steps
+    (before : List Item) → ((steps : List MachineStepOfRow) → AreAllMachineEventSteps setting next row before steps
     → AreMachineStepsOf setting row event before steps)
-    → ((steps : List StepOfRow) → AreFirstMachineEventSteps setting next row before steps
+    → ((steps : List MachineStepOfRow) → AreFirstMachineEventSteps setting next row before steps
     → AreFirstMachineStepsOf setting row event before steps)
-    → GoesOrStops setting next row before → EventGoes setting row event before
+    → PacketLawGoesOrStops setting next row before → EventGoes setting row event before
 goes_as setting next row event before all_of some_of goes = search rules
 
 event_goes : (setting : Setting) (row : ℕ) (event : Event) (before : List Item)
-    → IsSetting setting → IsReady setting before → EventGoes setting row event before
+    → IsMachineSetting setting → IsReady setting before → EventGoes setting row event before
 event_goes setting row (One step) before is ready = elim (cases_lt machine_journal_full_at (journal_next_message before)) [
   | inl full ↦ record {
     steps = [];
@@ -234,19 +234,19 @@ event_goes setting row Drain before is ready = let hops = drain_ends setting bef
 -- ---- events
 
 record EventsStop (setting : Setting) (row : ℕ) (events : List Event) (before : List Item)
-    (steps : List StepOfRow) : Type 0 where
-  more : StepOfRow
+    (steps : List MachineStepOfRow) : Type 0 where
+  more : MachineStepOfRow
   allowed : AreJournalFirstSteps setting row events before (steps ++ more ∷ [])
   full : IsMachineJournalFull (journal_after_steps setting before steps)
 
 record EventsGo (setting : Setting) (row : ℕ) (events : List Event) (before : List Item)
     : Type 0 where
-  steps : List StepOfRow
+  steps : List MachineStepOfRow
   room : MachineJournalsHaveRoom setting before steps
   how : AreMachineSteps setting row events before steps ⊎ EventsStop setting row events before steps
 
 stop_first : (setting : Setting) (row : ℕ) (event : Event) (events : List Event)
-    (before : List Item) (mine : List StepOfRow) → MachineJournalsHaveRoom setting before mine
+    (before : List Item) (mine : List MachineStepOfRow) → MachineJournalsHaveRoom setting before mine
     → EventStops setting row event before mine → EventsGo setting row (event ∷ events) before
 stop_first setting row event events before mine room stop = record {
   steps = mine;
@@ -255,7 +255,7 @@ stop_first setting row event events before mine room stop = record {
 }
 
 go_on : (setting : Setting) (row : ℕ) (event : Event) (events : List Event) (before : List Item)
-    (mine : List StepOfRow) → MachineJournalsHaveRoom setting before mine
+    (mine : List MachineStepOfRow) → MachineJournalsHaveRoom setting before mine
     → AreMachineStepsOf setting row event before mine
     → EventsGo setting (row + 1) events (journal_after_steps setting before mine)
     → EventsGo setting row (event ∷ events) before
@@ -279,7 +279,7 @@ go_on setting row event events before mine room all rest = record {
 }
 
 events_go : (setting : Setting) (row : ℕ) (events : List Event) (before : List Item)
-    → IsSetting setting → All (IsEventOf (NamesOwn setting)) events → IsReady setting before
+    → IsMachineSetting setting → All (IsEventOf (NamesOwn setting)) events → IsReady setting before
     → EventsGo setting row events before
 events_go setting row [] before is own ready = record { steps = []; room = tt; how = inl refl }
 events_go setting row (event ∷ events) before is own ready =
@@ -297,8 +297,8 @@ events_go setting row (event ∷ events) before is own ready =
 
 -- ---- plays
 
-pub has_play : (setting : Setting) (events : List Event) → IsSetting setting
-    → AreNetworkEvents setting events → HasMachinePlay setting events
+pub has_play : (setting : Setting) (events : List Event) → IsMachineSetting setting
+    → AreControlNetworkEvents setting events → HasMachinePlay setting events
 has_play setting events is own =
     let by : EventsGo setting 1 events [] → HasMachinePlay setting events = λ all. elim all.how [
       | inl answers ↦ (

@@ -1,9 +1,9 @@
 -- Each item leaves the hops of each packet within its routes: one induction by items.
 use Rattle.std.proofs.Common.{[], ◌&&◌, ◌*◌, ◌++◌, ◌+◌, ◌-◌, ◌<◌, ◌==◌, ◌∙◌, ◌∷◌, ◌≡◌, ◌≤◌, Any, Bool, Contains, IsFalse, IsTrue, List, Option, Some, ap, append_assoc, arith, eqb-true, false, filter, filter_map, if◌then◌else◌, inl, length, map, refl, subst, sym, true, ℕ, rules}
-use Rattle.update_machine.specs.Exports.{CacheEntry, JournalItemsHaveCauses, Hop, IsSetting, Item, Setting, journal_cache_of, journal_folded_value, journal_retired_mark, journal_stamp_of, machine_touched_by, travels}
+use Rattle.update_machine.specs.Exports.{CacheEntry, JournalItemsHaveCauses, Hop, IsMachineSetting, Item, Setting, journal_cache_of, journal_folded_value, journal_retired_mark, journal_stamp_of, machine_touched_by, travels_in_journal}
 use Rattle.update_machine.proofs.Exports.{folded_append}
 use Rattle.control_laws.proofs.Exports.{AreKept, Behind, Both, fact_on, have_both, have_weaker, one_if}
-use Rattle.packet_laws.specs.Exports.{AllPacketFactsKept, ArePacketsResting, HasKeptPacketFacts, CacheHasPacketEntryUnder, IsPacketOnWay, IsRightPacketCacheEntry, IsToldToStampPackets, OnWay, HasPacketItemCause, PacketFacts, PacketStage, UntouchedCacheRulesStay, at_least, changes_packet_route_hops, changes_packet_hops_taken, detour_count, exit_count, packet_facts_after, gives_packet_stage, packet_route_hops, packet_hops_taken, is_packet_detour, is_packet_exit, is_item_of_packet_facts, is_packet_search, most_packet_hops, most_packet_route_switches, brought_entry_outlives, packet_routes_taken, search_count, packet_stage_of, packet_facts_of}
+use Rattle.packet_laws.specs.Exports.{AllPacketFactsKept, ArePacketsResting, HasKeptPacketFacts, CacheHasPacketEntryUnder, IsPacketOnWay, IsRightPacketCacheEntry, IsToldToStampPackets, OnWay, HasPacketItemCause, PacketFacts, PacketStage, UntouchedPacketCacheRulesStay, packet_cache_rule_at_least, changes_packet_route_hops, changes_packet_hops_taken, packet_detour_count, packet_exit_count, packet_facts_after, gives_packet_stage, packet_route_hops, packet_hops_taken, is_packet_detour, is_packet_exit, is_item_of_entered_packet, is_packet_search, most_packet_hops, most_packet_route_switches, packet_cache_rule_outlives, packet_routes_taken, packet_search_count, packet_stage_of, packet_facts_of}
 use Rattle.packet_laws.proofs.PacketsSpared.{IsNoRow}
 use Rattle.base.proofs.Exports.{⊤, All-contains, nat_tests, option_or, slice_get_within}
 use Rattle.packet_laws.proofs.PacketsAllKept.{Before, all_kept, cached_on, facts_grow, kept_before, known_before, knows}
@@ -13,7 +13,7 @@ use Rattle.packet_laws.proofs.PacketsAtRest.{IsWayItem, Past, switches_of_all}
 use Rattle.packet_laws.proofs.PacketFewRoutes.{taken_few}
 use Rattle.packet_laws.proofs.PacketBlocks.{stage_next}
 use Rattle.packet_laws.proofs.PacketFlushMessages.{count_more, one_more}
-use Rattle.switch_table.specs.Exports.{CacheValue, cache_after_carry, carried_entry, cache_word_meets_touched}
+use Rattle.switch_table.specs.Exports.{CacheValue, cache_after_carry, carried_cache_entry, cache_word_meets_touched}
 use Rattle.switch_table.proofs.CacheCarryLemmas.{untouched_stays}
 use Rattle.ternary.specs.Exports.{WordValue}
 use Rattle.packet_laws.proofs.PacketCacheRules.{grows}
@@ -23,8 +23,8 @@ use Rattle.packet_laws.proofs.PacketCacheRules.{grows}
 
 abbrev pub changes_asked : ℕ → List Item → Bool → Item → Bool
 changes_asked i before asked (Item.Row row (Hop packet)) =
-    if packet == i && travels before i then true else asked
-changes_asked i before asked item = if is_item_of_packet_facts i item then false else asked
+    if packet == i && travels_in_journal before i then true else asked
+changes_asked i before asked item = if is_item_of_entered_packet i item then false else asked
 
 unfoldable pub is_asked : List Item → ℕ → Bool
 is_asked journal i = journal_folded_value (changes_asked i) false journal
@@ -53,13 +53,13 @@ stays_off i before items none off = fact_on _ _ (off_kept i) before items none o
 -- the first of the items names the packet
 abbrev pub NamesFirst : ℕ → List Item → Type 0
 NamesFirst i [] = ⊥
-NamesFirst i (next ∷ items) = IsTrue (is_item_of_packet_facts i next)
+NamesFirst i (next ∷ items) = IsTrue (is_item_of_entered_packet i next)
 
 turned : (b asked : Bool) → IsTrue b → (if b then false else asked) ≡ false
 turned b asked e = search rules
 
 named_off : (i : ℕ) (before : List Item) (asked : Bool) (next : Item) → IsNoRow next
-    → IsTrue (is_item_of_packet_facts i next) → changes_asked i before asked next ≡ false
+    → IsTrue (is_item_of_entered_packet i next) → changes_asked i before asked next ≡ false
 named_off i before asked next none named = search rules
 
 -- so it hops with the first item that names it
@@ -132,7 +132,7 @@ begins_route : {held : PacketFacts} {stage : Option PacketStage} {asked : Bool} 
 begins_route room few = search rules
 
 row_within : (setting : Setting) (before : List Item) (packet i : ℕ) → Before setting before
-    → IsRested before → IsWithinOf before i → (b : Bool) → ((packet == i) && travels before i) ≡ b
+    → IsRested before → IsWithinOf before i → (b : Bool) → ((packet == i) && travels_in_journal before i) ≡ b
     → IsWithin (packet_facts_of before i) (packet_stage_of before i) (if b then true else is_asked before i)
     (packet_routes_taken before i) (if b then packet_hops_taken before i + 1 else packet_hops_taken before i)
     (if b then packet_route_hops before i + 1 else packet_route_hops before i)
@@ -140,16 +140,16 @@ row_within setting before packet i known rested within b e =
     search (rules, travels_in, slice_get_within, none_asked, route_few)
 
 within_by : (setting : Setting) (before : List Item) (next : Item) (i : ℕ)
-    → Premises setting before next → (b : Bool) → is_item_of_packet_facts i next ≡ b → IsWithinOf before i
+    → Premises setting before next → (b : Bool) → is_item_of_entered_packet i next ≡ b → IsWithinOf before i
     → IsWithin (if b then packet_facts_after (journal_retired_mark before) next (packet_facts_of before i)
     else packet_facts_of before i) (option_or (gives_packet_stage i next) (packet_stage_of before i))
     (changes_asked i before (is_asked before i) next)
-    (one_more (is_packet_search i next) (search_count before i) + one_more (is_packet_exit i next)
-    (exit_count before i) + one_more (is_packet_detour i next) (detour_count before i)) (changes_packet_hops_taken i
+    (one_more (is_packet_search i next) (packet_search_count before i) + one_more (is_packet_exit i next)
+    (packet_exit_count before i) + one_more (is_packet_detour i next) (packet_detour_count before i)) (changes_packet_hops_taken i
     before (packet_hops_taken before i) next) (changes_packet_route_hops i before (packet_route_hops before i) next)
 within_by setting before (Item.Row row (Hop packet)) i facts true e within = absurd cc
 within_by setting before (Item.Row row (Hop packet)) i facts false e within = row_within setting
-    before packet i facts.known facts.begins within ((packet == i) && travels before i) refl
+    before packet i facts.known facts.begins within ((packet == i) && travels_in_journal before i) refl
 within_by setting before (Item.Entered packet s header) i facts true e within =
     rw e (rests within.all within.each (λ tr is. cc))
 within_by setting before (Item.Seeking packet version partition route) i facts true e within =
@@ -218,13 +218,13 @@ on_route_more before next i = folded_append (changes_packet_route_hops i) 0 befo
 
 within_more : (setting : Setting) (before : List Item) (next : Item) (i : ℕ)
     → Premises setting before next → IsWithinOf before i → IsWithinOf (before ++ next ∷ []) i
-unfolding search_count exit_count detour_count
+unfolding packet_search_count packet_exit_count packet_detour_count
 within_more setting before next i facts within = search
     (rules, facts_grow, stage_next, asked_more, count_more, hops_more, on_route_more, within_by)
 
 within_at_first : (i : ℕ) → IsWithinOf [] i
-unfolding packet_facts_of packet_stage_of is_asked packet_hops_taken packet_route_hops travels search_count exit_count
-    detour_count
+unfolding packet_facts_of packet_stage_of is_asked packet_hops_taken packet_route_hops travels_in_journal packet_search_count packet_exit_count
+    packet_detour_count
 within_at_first i = record {
   all = omega arith;
   each = omega arith;
@@ -245,7 +245,7 @@ ways_of : (setting : Setting) (before items : List Item)
     → JournalItemsHaveCauses (IsHopItem setting) before items → JournalItemsHaveCauses (IsWayItem setting) before items
 ways_of setting before items have = search (rules, have_weaker)
 
-all_within : (setting : Setting) (journal : List Item) → IsSetting setting
+all_within : (setting : Setting) (journal : List Item) → IsMachineSetting setting
     → JournalItemsHaveCauses (IsHopItem setting) [] journal → (i : ℕ) → IsWithinOf journal i
 all_within setting journal is have i = fact_on (IsKnown setting) (λ js. IsWithinOf js i)
     (λ before next both within. within_more setting before next i (record {
@@ -259,16 +259,16 @@ all_within setting journal is have i = fact_on (IsKnown setting) (λ js. IsWithi
 
 -- ---- laws
 
-pub within_routes : (setting : Setting) (journal : List Item) → IsSetting setting
+pub within_routes : (setting : Setting) (journal : List Item) → IsMachineSetting setting
     → JournalItemsHaveCauses (IsHopItem setting) [] journal → (i : ℕ)
     → packet_hops_taken journal i ≤ most_packet_route_switches * packet_routes_taken journal i
 within_routes setting journal is have i = (all_within setting journal is have i).all
 
-pub within_each : (setting : Setting) (journal : List Item) → IsSetting setting
+pub within_each : (setting : Setting) (journal : List Item) → IsMachineSetting setting
     → JournalItemsHaveCauses (IsHopItem setting) [] journal → (i : ℕ) → packet_route_hops journal i ≤ most_packet_route_switches
 within_each setting journal is have i = (all_within setting journal is have i).each
 
-pub hops_few : (setting : Setting) (journal : List Item) → IsSetting setting
+pub hops_few : (setting : Setting) (journal : List Item) → IsMachineSetting setting
     → JournalItemsHaveCauses (IsHopItem setting) [] journal → (i : ℕ) → packet_hops_taken journal i ≤ most_packet_hops
 hops_few setting journal is have i = omega (
   arith,
@@ -282,8 +282,8 @@ hops_few setting journal is have i = omega (
 
 -- entries that go over are those that outlive it
 left_in_order : (version : ℕ) (touched : List WordValue) (entries rest : List CacheEntry)
-    → filter_map (carried_entry version touched entries) rest
-    ≡ map (at_least version) (filter (brought_entry_outlives version touched entries) rest)
+    → filter_map (carried_cache_entry version touched entries) rest
+    ≡ map (packet_cache_rule_at_least version) (filter (packet_cache_rule_outlives version touched entries) rest)
 left_in_order version touched entries [] = refl
 left_in_order version touched entries (entry ∷ rest) =
     search (rules, left_in_order version touched entries rest)
@@ -302,7 +302,7 @@ stamped_cache setting before s number boot version touched said rises =
 
 -- each that isn't touched has its word there, by a rule that is right
 under_it : (setting : Setting) (before : List Item)
-    (s number boot version : ℕ) (touched : List WordValue) (entry : CacheEntry) → IsSetting setting
+    (s number boot version : ℕ) (touched : List WordValue) (entry : CacheEntry) → IsMachineSetting setting
     → JournalItemsHaveCauses (IsWayItem setting) [] before → IsToldToStampPackets before s number boot version touched
     → journal_stamp_of before s < version → Contains (journal_cache_of setting before s).entries entry
     → entry.version + 1 ≡ version
@@ -337,8 +337,8 @@ under_it setting before s number boot version touched entry is have said rises t
       ),
     )
 
-pub untouched_stay : (setting : Setting) (before : List Item) → IsSetting setting
-    → JournalItemsHaveCauses (IsWayItem setting) [] before → UntouchedCacheRulesStay setting before
+pub untouched_stay : (setting : Setting) (before : List Item) → IsMachineSetting setting
+    → JournalItemsHaveCauses (IsWayItem setting) [] before → UntouchedPacketCacheRulesStay setting before
 untouched_stay setting before is have s number boot version touched said rises =
     let cache : CacheValue = journal_cache_of setting before s in record {
       in_order = ap (λ (c : CacheValue). c.entries)

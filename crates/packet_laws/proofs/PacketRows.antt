@@ -1,10 +1,10 @@
 -- The packet rows of the steps of events are those of the events.
 use Rattle.std.proofs.Common.{[], ◌++◌, ◌+◌, ◌-◌, ◌∙◌, ◌∷◌, ◌≡◌, ◌≤◌, ◌⊎◌, Bool, List, None, Option, Some, ap, append-nil, append_assoc, arith, false, inl, inr, refl, subst, suc, sym, take, true, ℕ, rules}
-use Rattle.update_machine.specs.Exports.{Answers, AreJournalFirstSteps, AreFirstMachineStepsOf, AreFirstMachineEventSteps, AreMachineSteps, AreMachineStepsOf, Drain, Event, Flush, JournalItemsHaveCauses, Header, IsMachinePlay, Item, One, Packet, Setting, Step, StepOfRow, journal_after_steps, journal_items_then, machine_lookup_items, journal_next_delivery, journal_next_hop, journal_next_packet, machine_packet_items, piece, serves}
+use Rattle.update_machine.specs.Exports.{Answers, AreJournalFirstSteps, AreFirstMachineStepsOf, AreFirstMachineEventSteps, AreMachineSteps, AreMachineStepsOf, Drain, Event, Flush, JournalItemsHaveCauses, Header, IsMachinePlay, Item, One, Packet, Setting, Step, MachineStepOfRow, journal_after_steps, journal_items_then, machine_lookup_items, journal_next_delivery, journal_next_hop, journal_next_packet, machine_packet_items, piece, serves}
 use Rattle.update_machine.proofs.Exports.{AreOf, HasNexts, all_first, all_given_append, event_steps_are, firsts_are}
 use Rattle.packet_laws.proofs.PacketsSpared.{IsInStep, IsNoRow, lookup_in_step}
 use Rattle.packet_laws.proofs.PacketsAtRest.{no_entries, no_rows}
-use Rattle.packet_laws.specs.Exports.{AreEntered, EachPacketRowEnters, StepRow, packet_law_event_row, gives_packet_law_step_row, packet_law_rows_played, packet_law_step_row, packet_law_step_rows, packet_law_step_rows_in}
+use Rattle.packet_laws.specs.Exports.{ArePacketRowsEntered, EachPacketRowEnters, PacketLawStepRow, packet_law_event_row, gives_packet_law_step_row, packet_law_rows_played, packet_law_step_row, packet_law_step_rows, packet_law_step_rows_in}
 use Rattle.policy_rules.proofs.PolicyRulesCallerLemmas.{append_not_nil}
 
 -- ---- what the pieces of steps have of packet rows and their entries
@@ -27,11 +27,11 @@ piece_rows setting before row step =
     cc (none_given _ _ (no_rows setting before row step), append-nil (packet_law_step_row row step))
 
 -- the packet rows of steps
-abbrev pub rows_of : List StepOfRow → List StepRow
+abbrev pub rows_of : List MachineStepOfRow → List PacketLawStepRow
 rows_of [] = []
 rows_of (next ∷ steps) = packet_law_step_row next.row next.step ++ rows_of steps
 
-pub steps_rows : (setting : Setting) (before : List Item) (steps : List StepOfRow)
+pub steps_rows : (setting : Setting) (before : List Item) (steps : List MachineStepOfRow)
     → packet_law_step_rows_in (journal_after_steps setting before steps) ≡ packet_law_step_rows_in before ++ rows_of steps
 steps_rows setting before [] = sym (append-nil (packet_law_step_rows_in before))
 steps_rows setting before (next ∷ steps) =
@@ -88,7 +88,7 @@ enter_on before (Item.Closed packet switch ∷ items) more first then = absurd f
 enter_on before (next ∷ items) more first then = enter_on (before ++ next ∷ []) items more first
     (rw (append_assoc before (next ∷ []) items) then)
 
-pub steps_enter : (setting : Setting) (before : List Item) (steps : List StepOfRow)
+pub steps_enter : (setting : Setting) (before : List Item) (steps : List MachineStepOfRow)
     → EachPacketRowEnters [] before → EachPacketRowEnters [] (journal_after_steps setting before steps)
 steps_enter setting before [] known = known
 steps_enter setting before (next ∷ steps) known =
@@ -98,7 +98,7 @@ steps_enter setting before (next ∷ steps) known =
 
 -- ---- packet rows
 
-pub rows_append : (one two : List StepOfRow) → rows_of (one ++ two) ≡ rows_of one ++ rows_of two
+pub rows_append : (one two : List MachineStepOfRow) → rows_of (one ++ two) ≡ rows_of one ++ rows_of two
 rows_append [] two = refl
 rows_append (next ∷ one) two =
     cc (rows_append one two, append_assoc (packet_law_step_row next.row next.step) (rows_of one) (rows_of two))
@@ -111,14 +111,14 @@ BringsNone step = (row : ℕ) → packet_law_step_row row step ≡ []
 nexts_bring_none : HasNexts BringsNone
 nexts_bring_none = record { delivery = λ number row. refl; hop = λ packet row. refl }
 
-none_rows : (steps : List StepOfRow) → AreOf BringsNone steps → rows_of steps ≡ []
+none_rows : (steps : List MachineStepOfRow) → AreOf BringsNone steps → rows_of steps ≡ []
 none_rows [] none = refl
 none_rows (next ∷ steps) none = cc (none.0 next.row, none_rows steps none.1)
 
 -- ---- one event
 
 event_rows : (setting : Setting) (row : ℕ) (event : Event) (before : List Item)
-    (steps : List StepOfRow) → AreMachineStepsOf setting row event before steps
+    (steps : List MachineStepOfRow) → AreMachineStepsOf setting row event before steps
     → rows_of steps ≡ packet_law_event_row row event
 event_rows setting row (One step) before steps all = cc (all, append-nil (packet_law_step_row row step))
 event_rows setting row Flush before steps all = none_rows steps
@@ -127,41 +127,41 @@ event_rows setting row Drain before steps all = none_rows steps
     (event_steps_are BringsNone nexts_bring_none setting row Drain before steps tt all)
 
 -- what is before a step of the event
-record Front (row : ℕ) (steps : List StepOfRow) (last : StepOfRow) : Type 0 where
+record Front (row : ℕ) (steps : List MachineStepOfRow) (last : MachineStepOfRow) : Type 0 where
   none : rows_of steps ≡ []
   of_row : last.row ≡ row
 
-one_front : (row : ℕ) (one : StepOfRow) (steps : List StepOfRow) (last : StepOfRow)
+one_front : (row : ℕ) (one : MachineStepOfRow) (steps : List MachineStepOfRow) (last : MachineStepOfRow)
     → one.row ≡ row → steps ++ last ∷ [] ≡ one ∷ [] → Front row steps last
 one_front row one [] last is e = record { none = refl; of_row = ap (λ xs. row_in xs) e ∙ is } where
-  row_in : List StepOfRow → ℕ
+  row_in : List MachineStepOfRow → ℕ
   row_in [] = 0
   row_in (first ∷ others) = first.row
 one_front row one (first ∷ steps) last is e = absurd (append_not_nil steps last (ap tail_of e))
   where
-    tail_of : List StepOfRow → List StepOfRow
+    tail_of : List MachineStepOfRow → List MachineStepOfRow
     tail_of [] = []
     tail_of (x ∷ xs) = xs
 
 some_last : (setting : Setting) (next : List Item → Option Step) (row : ℕ) (before : List Item)
-    (steps : List StepOfRow) (last : StepOfRow)
+    (steps : List MachineStepOfRow) (last : MachineStepOfRow)
     → AreFirstMachineEventSteps setting next row before (steps ++ last ∷ []) → last.row ≡ row
 some_last setting next row before [] last some = some.0
 some_last setting next row before (first ∷ steps) last some = some_last setting next row
     (before ++ piece setting before first.row first.step) steps last some.2
 
-none_front : (row : ℕ) (steps : List StepOfRow) (last : StepOfRow)
+none_front : (row : ℕ) (steps : List MachineStepOfRow) (last : MachineStepOfRow)
     → AreOf BringsNone (steps ++ last ∷ []) → last.row ≡ row → Front row steps last
 none_front row steps last none is = record {
   none = first_empty (rows_of steps) _ (sym (rows_append steps (last ∷ [])) ∙ none_rows _ none);
   of_row = is;
 } where
-  first_empty : (xs ys : List StepRow) → xs ++ ys ≡ [] → xs ≡ []
+  first_empty : (xs ys : List PacketLawStepRow) → xs ++ ys ≡ [] → xs ≡ []
   first_empty [] ys e = refl
   first_empty (x ∷ xs) ys e = absurd cc
 
 event_front : (setting : Setting) (row : ℕ) (event : Event) (before : List Item)
-    (steps : List StepOfRow) (last : StepOfRow)
+    (steps : List MachineStepOfRow) (last : MachineStepOfRow)
     → AreFirstMachineStepsOf setting row event before (steps ++ last ∷ []) → Front row steps last
 event_front setting row (One step) before steps last (inl e) = absurd (append_not_nil steps last e)
 event_front setting row (One step) before steps last (inr e) =
@@ -176,7 +176,7 @@ event_front setting row Drain before steps last some = none_front row steps last
 -- ---- all events
 
 pub all_steps_rows : (setting : Setting) (row : ℕ) (events : List Event) (before : List Item)
-    (steps : List StepOfRow) → AreMachineSteps setting row events before steps
+    (steps : List MachineStepOfRow) → AreMachineSteps setting row events before steps
     → rows_of steps ≡ packet_law_step_rows row events
 all_steps_rows setting row [] before steps all = ap rows_of all
 all_steps_rows setting row (event ∷ events) before steps (mine, rest, split, all, others) =
@@ -187,19 +187,19 @@ all_steps_rows setting row (event ∷ events) before steps (mine, rest, split, a
 -- ---- in front of a step
 
 -- the last of the steps is the last of the others, where there are others
-abbrev EndsOthers : List StepOfRow → StepOfRow → List StepOfRow → List StepOfRow → Type 0
+abbrev EndsOthers : List MachineStepOfRow → MachineStepOfRow → List MachineStepOfRow → List MachineStepOfRow → Type 0
 EndsOthers steps last mine rest = (mine ≡ steps ++ last ∷ [])
-    ⊎ ((others : List StepOfRow) × (rest ≡ others ++ last ∷ []) × (steps ≡ mine ++ others))
+    ⊎ ((others : List MachineStepOfRow) × (rest ≡ others ++ last ∷ []) × (steps ≡ mine ++ others))
 
-where_ends : (steps : List StepOfRow) (last : StepOfRow) (mine rest : List StepOfRow)
+where_ends : (steps : List MachineStepOfRow) (last : MachineStepOfRow) (mine rest : List MachineStepOfRow)
     → steps ++ last ∷ [] ≡ mine ++ rest → EndsOthers steps last mine rest
 where_ends steps last [] rest e = inr (steps, sym e, refl)
 where_ends [] last (one ∷ mine) rest e = inl (only mine (ap tail_of e)) where
-  tail_of : List StepOfRow → List StepOfRow
+  tail_of : List MachineStepOfRow → List MachineStepOfRow
   tail_of [] = []
   tail_of (x ∷ xs) = xs
 
-  only : (more : List StepOfRow) → [] ≡ more ++ rest → one ∷ more ≡ last ∷ []
+  only : (more : List MachineStepOfRow) → [] ≡ more ++ rest → one ∷ more ≡ last ∷ []
   only [] none = let same : one ≡ last = cc in ap (λ x. x ∷ []) same
   only (x ∷ more) none = absurd cc
 where_ends (first ∷ steps) last (one ∷ mine) rest e =
@@ -212,12 +212,12 @@ where_ends (first ∷ steps) last (one ∷ mine) rest e =
         inr (others, is, ap (λ x. x ∷ steps) same ∙ ap (λ xs. one ∷ xs) before)
 
 -- the events in front of the row of the last step were played
-pub record PlayedTo (row : ℕ) (events : List Event) (steps : List StepOfRow) (last : StepOfRow)
+pub record PlayedTo (row : ℕ) (events : List Event) (steps : List MachineStepOfRow) (last : MachineStepOfRow)
     : Type 0 where
   pub from : row ≤ last.row
   pub rows : rows_of steps ≡ packet_law_step_rows row (take (last.row - row) events)
 
-of_front : (row : ℕ) (events : List Event) (steps : List StepOfRow) (last : StepOfRow)
+of_front : (row : ℕ) (events : List Event) (steps : List MachineStepOfRow) (last : MachineStepOfRow)
     → Front row steps last → PlayedTo row events steps last
 of_front row events steps last front =
     let none : last.row - row ≡ 0 = omega (arith, front.of_row) in record {
@@ -227,9 +227,9 @@ of_front row events steps last front =
 
 -- the last step is of this event, or of one behind it
 front_played : (setting : Setting) (row : ℕ) (event : Event) (events : List Event)
-    (before : List Item) (steps : List StepOfRow) (last : StepOfRow) (mine rest : List StepOfRow)
+    (before : List Item) (steps : List MachineStepOfRow) (last : MachineStepOfRow) (mine rest : List MachineStepOfRow)
     → AreMachineStepsOf setting row event before mine
-    → ((front : List StepOfRow) → rest ≡ front ++ last ∷ [] → PlayedTo (row + 1) events front last)
+    → ((front : List MachineStepOfRow) → rest ≡ front ++ last ∷ [] → PlayedTo (row + 1) events front last)
     → EndsOthers steps last mine rest → PlayedTo row (event ∷ events) steps last
 front_played setting row event events before steps last mine rest all others (inl is) = of_front row
     (event ∷ events) steps last (event_front setting row event before steps last (subst
@@ -247,7 +247,7 @@ front_played setting row event events before steps last mine rest all others
     }
 
 pub steps_in_front : (setting : Setting) (row : ℕ) (events : List Event) (before : List Item)
-    (steps : List StepOfRow) (last : StepOfRow) → AreJournalFirstSteps setting row events before
+    (steps : List MachineStepOfRow) (last : MachineStepOfRow) → AreJournalFirstSteps setting row events before
     (steps ++ last ∷ []) → PlayedTo row events steps last
 steps_in_front setting row [] before steps last first = absurd (append_not_nil steps last first)
 steps_in_front setting row (event ∷ events) before steps last (inl first) = of_front row
@@ -261,21 +261,21 @@ steps_in_front setting row (event ∷ events) before steps last
 
 -- ---- the packets of plays
 
-steps_entered : (setting : Setting) (steps : List StepOfRow) (journal : List Item)
-    (rows : List StepRow) → journal ≡ journal_after_steps setting [] steps → rows_of steps ≡ rows
-    → AreEntered rows journal
+steps_entered : (setting : Setting) (steps : List MachineStepOfRow) (journal : List Item)
+    (rows : List PacketLawStepRow) → journal ≡ journal_after_steps setting [] steps → rows_of steps ≡ rows
+    → ArePacketRowsEntered rows journal
 steps_entered setting steps journal rows written are =
-    subst (AreEntered rows) (sym written) (record {
+    subst (ArePacketRowsEntered rows) (sym written) (record {
       in_order = steps_rows setting [] steps ∙ are;
       each = steps_enter setting [] steps tt;
     })
 
 pub answer_entered : (setting : Setting) (events : List Event) (journal : List Item)
-    → Answers setting events journal → AreEntered (packet_law_step_rows 1 events) journal
+    → Answers setting events journal → ArePacketRowsEntered (packet_law_step_rows 1 events) journal
 answer_entered setting events journal answers = search (rules, steps_entered, all_steps_rows)
 
 pub play_entered : (setting : Setting) (events : List Event) (journal : List Item) (full : Option ℕ)
-    → IsMachinePlay setting events journal full → AreEntered (packet_law_rows_played full events) journal
+    → IsMachinePlay setting events journal full → ArePacketRowsEntered (packet_law_rows_played full events) journal
 play_entered setting events journal None play = answer_entered setting events journal play.answers
 play_entered setting events journal (Some row) play = steps_entered setting play.steps journal _
     play.written ((steps_in_front setting 1 events [] play.steps play.next play.allowed).rows

@@ -1,15 +1,15 @@
 -- The strong causes follow from those that are read off the items, and from what is kept.
 use Rattle.std.proofs.Common.{[], ◌++◌, ◌+◌, ◌<◌, ◌==◌, ◌∙◌, ◌∷◌, ◌≡◌, ◌≤◌, ◌⊎◌, Bool, IsFalse, IsTrue, List, None, Option, Some, ap, arith, eqb-true, false, if◌then◌else◌, inl, inr, length, nat_eq, refl, subst, sym, true, unwrap_or, ℕ, rules}
 use Rattle.base.proofs.Exports.{list_any, option_or, some_same}
-use Rattle.update_machine.specs.Exports.{Action, Cause, Decision, Exit, HasMachineCause, JournalItemsHaveCauses, Header, How, IsSetting, Item, Leg, Row, Seek, Setting, journal_current_mark, journal_decision_of, journal_found_down, machine_item_gives_decision, machine_item_gives_header, journal_packet_header, holds_version, journal_leg_of, journal_next_packet, policy_at, policy_in, journal_packet_route, journal_stamp_of, journal_leg_targets}
-use Rattle.control_laws.specs.Exports.{LegEndsAt, HasControlItemCause}
-use Rattle.packet_laws.specs.Exports.{AllPacketFactsKept, ChangesLeaveOtherPackets, PacketRouteEndsAtTarget, PacketFindsLinkDown, PacketFindsNoRoute, FurtherCause, IsPacketAt, IsAtEnd, IsPacketBlockedOn, IsPacketDecided, IsLeastPacketRoute, IsPacketLookedUp, IsPacketOnLeg, IsPacketOnRightLeg, IsPacketOnWay, IsPacketRedirectedHere, IsPacketStuckOnLeg, PacketMeetsDown, HasPacketItemCause, PacketFacts, PacketsArrive, PacketRaisesOnLeg, PacketRaisesUnheld, PacketRaisesVersion, PacketSeeksRightly, StrongCause, PacketTakesLeg, hit_in, packet_stage_of, packet_facts_of}
+use Rattle.update_machine.specs.Exports.{Action, Cause, Decision, Exit, HasMachineCause, JournalItemsHaveCauses, Header, How, IsMachineSetting, Item, Leg, Row, Seek, Setting, journal_current_mark, journal_decision_of, journal_found_down, machine_item_gives_decision, machine_item_gives_header, journal_packet_header, holds_version, journal_leg_of, journal_next_packet, machine_policy_at, machine_policy_in, journal_packet_route, journal_stamp_of, journal_leg_targets}
+use Rattle.control_laws.specs.Exports.{ControlLegEndsAt, HasControlItemCause}
+use Rattle.packet_laws.specs.Exports.{AllPacketFactsKept, ChangesLeaveOtherPackets, PacketRouteEndsAtTarget, PacketFindsLinkDown, PacketFindsNoRoute, PacketFurtherCause, IsPacketAt, IsPacketAtRouteEnd, IsPacketBlockedOn, IsPacketDecided, IsLeastPacketRoute, IsPacketLookedUp, IsPacketOnLeg, IsPacketOnRightLeg, IsPacketOnWay, IsPacketRedirectedHere, IsPacketStuckOnLeg, PacketMeetsDown, HasPacketItemCause, PacketFacts, PacketsArrive, PacketRaisesOnLeg, PacketRaisesUnheld, PacketRaisesVersion, PacketSeeksRightly, PacketStrongCause, PacketTakesLeg, packet_decision_hit, packet_stage_of, packet_facts_of}
 use Rattle.packet_laws.proofs.PacketEnds.{decision_out, end_caused, last_here, leaves_rightly, mark_in, meets_link, one_target, seeks_rightly, stands_known, stuck_rightly}
 use Rattle.packet_laws.proofs.PacketHeaderLookups.{IsHere, header_in_facts, here_of, leg_in, next_in, seeking_of, stands_in, travels_in}
 use Rattle.control_laws.proofs.Exports.{AreKept, Behind, caused_known, fact_on, have_weaker, serving_hold}
 use Rattle.packet_laws.proofs.PacketsAllKept.{Before, kept_before, known_before, knows}
 use Rattle.packet_laws.proofs.PacketsAtRest.{IsWayItem, Past, switches_of_all}
-use Rattle.policy_rules.specs.Exports.{AmendmentLaws, IsPolicy, scan}
+use Rattle.policy_rules.specs.Exports.{PolicyAmendmentLaws, IsPolicy, scan}
 use Rattle.policy_rules.proofs.PolicyRulesCallerLemmas.{first_match-scan}
 use Rattle.update_machine.proofs.Exports.{known_link_laws, last_given_append, versions_own}
 use Rattle.packet_laws.proofs.PacketCacheRules.{Grows, first_match_by_scan, grows}
@@ -22,15 +22,15 @@ use Rattle.packet_laws.proofs.PacketKnownRoutes.{route_way}
 -- it is at a target of its leg
 at_target : (setting : Setting) (journal : List Item) (i s : ℕ) (header : Header) (leg : Leg)
     (targets : List ℕ) (way : IsPacketOnWay setting journal (packet_facts_of journal i))
-    → IsAtEnd journal i s header leg → PacketRouteEndsAtTarget (packet_facts_of journal i).route targets
+    → IsPacketAtRouteEnd journal i s header leg → PacketRouteEndsAtTarget (packet_facts_of journal i).route targets
     → IsTrue (list_any (nat_eq s) targets)
 at_target setting journal i s header leg targets way at ends =
     search (rules, last_here, next_in, some_same, stands_in)
 
 by_leg : (setting : Setting) (journal : List Item) (i s : ℕ) (header : Header) (leg : Leg)
-    (way : IsPacketOnWay setting journal (packet_facts_of journal i)) → IsAtEnd journal i s header leg
+    (way : IsPacketOnWay setting journal (packet_facts_of journal i)) → IsPacketAtRouteEnd journal i s header leg
     → IsPacketOnLeg setting journal (packet_facts_of journal i) header leg
-    → LegEndsAt setting journal s header leg
+    → ControlLegEndsAt setting journal s header leg
 by_leg setting journal i s header (Seek version partition) way at on = record {
   hosted = on.hosted;
   found = on.own.found;
@@ -54,7 +54,7 @@ packets_arrive setting journal kept i s header leg at =
 
 -- ---- in a journal whose items have their causes the ends of packets do, and what fails
 
-pub ends_caused : (setting : Setting) (journal : List Item) → IsSetting setting
+pub ends_caused : (setting : Setting) (journal : List Item) → IsMachineSetting setting
     → JournalItemsHaveCauses (IsWayItem setting) [] journal → JournalItemsHaveCauses (HasMachineCause setting) [] journal
 ends_caused setting journal is have = have_weaker _ (HasMachineCause setting)
     (λ before next behind. end_caused setting before next
@@ -73,7 +73,7 @@ pub record IsRightly (setting : Setting) (journal : List Item) (header : Header)
     : Type 0 where
   pub known : 1 ≤ decision.version
   pub current : decision.version ≤ journal_current_mark journal
-  pub first_match : scan (policy_at setting journal decision.version) header ≡ hit_in decision
+  pub first_match : scan (machine_policy_at setting journal decision.version) header ≡ packet_decision_hit decision
 
 -- of each packet, as long as it has a header and a decision
 abbrev pub AreRight : Setting → List Item → Type 0
@@ -116,7 +116,7 @@ decides_rightly setting before i version rule act by header known way entered =
     let now = decided_now _ _ i s _ _ act by knows_it here (known.kept.cached s) way.by in record {
       known = omega (arith, now.rightly.not_retired);
       current = now.rightly.current;
-      first_match = ap (scan (policy_at setting before version))
+      first_match = ap (scan (machine_policy_at setting before version))
           (sym (some_same _ _ header here.under.entered entered)) ∙ now.rightly.first_match;
     }
 
@@ -149,7 +149,7 @@ right_next setting before (Item.Decided packet version rule act how) known way a
     by false other entered decided = are i header decision entered decided
 right_next setting before next known way are i header decision = are i header decision
 
-right_kept : (setting : Setting) → IsSetting setting
+right_kept : (setting : Setting) → IsMachineSetting setting
     → AreKept (Behind (Past (IsWayItem setting)) (AllPacketFactsKept setting)) (AreRight setting)
 right_kept setting is before next behind are i header decision entered decided =
     let known : Before setting before = known_before setting is before next behind in
@@ -163,7 +163,7 @@ right_at_first : (setting : Setting) → AreRight setting []
 unfolding journal_decision_of
 right_at_first setting i header decision entered decided = absurd cc
 
-pub all_right : (setting : Setting) (journal : List Item) → IsSetting setting
+pub all_right : (setting : Setting) (journal : List Item) → IsMachineSetting setting
     → JournalItemsHaveCauses (IsWayItem setting) [] journal → AreRight setting journal
 all_right setting journal is have = fact_on _ (AreRight setting) (right_kept setting is) [] journal
     (kept_before setting journal is have) (right_at_first setting)
@@ -171,13 +171,13 @@ all_right setting journal is have = fact_on _ (AreRight setting) (right_kept set
 -- ---- the policies of two versions
 
 own_policy : (setting : Setting) (journal : List Item) (version : ℕ) (rows : List Row)
-    → policy_in setting journal version ≡ Some rows → policy_at setting journal version ≡ rows
-unfolding policy_at
+    → machine_policy_in setting journal version ≡ Some rows → machine_policy_at setting journal version ≡ rows
+unfolding machine_policy_at
 own_policy setting journal version rows is = ap (λ o. unwrap_or o []) is
 
 -- ---- changes
 
-module _ (laws : AmendmentLaws) (setting : Setting) (journal : List Item) (is : IsSetting setting)
+module _ (laws : PolicyAmendmentLaws) (setting : Setting) (journal : List Item) (is : IsMachineSetting setting)
     (have : JournalItemsHaveCauses (IsWayItem setting) [] journal) where
   pub changes_leave : ChangesLeaveOtherPackets setting journal
   changes_leave version header leaves =
@@ -187,10 +187,10 @@ module _ (laws : AmendmentLaws) (setting : Setting) (journal : List Item) (is : 
       let same : scan new header ≡ scan old header = laws.same old new leaves.change header
       (subst IsPolicy own (versions_own setting journal version is).0) leaves.makes leaves.apart in
       let either : (v : ℕ) → (v ≡ version) ⊎ (v ≡ version + 1)
-      → scan (policy_at setting journal v) header ≡ scan old header = λ v under. elim under [
-        | inl this ↦ ap (λ n. scan (policy_at setting journal n) header) this
+      → scan (machine_policy_at setting journal v) header ≡ scan old header = λ v under. elim under [
+        | inl this ↦ ap (λ n. scan (machine_policy_at setting journal n) header) this
             ∙ ap (λ rows. scan rows header) own
-        | inr later ↦ ap (λ n. scan (policy_at setting journal n) header) later
+        | inr later ↦ ap (λ n. scan (machine_policy_at setting journal n) header) later
             ∙ ap (λ rows. scan rows header) (own_policy setting journal _ new leaves.next) ∙ same
       ] in record {
         hit = scan old header;
@@ -353,7 +353,7 @@ least_route setting before i s leg route knows_it at leads =
 
 further : (setting : Setting) (before : List Item) (next : Item) → Before setting before
     → HasControlItemCause setting before next → HasPacketItemCause setting before next
-    → FurtherCause setting before next
+    → PacketFurtherCause setting before next
 further setting before (Item.Submitted file version) known cause way = cause
 further setting before (Item.Retired version) known cause way = cause
 further setting before (Item.Seeking packet version partition route) known cause way = (
@@ -380,9 +380,9 @@ further setting before (Item.Stuck packet switch why leg down) known cause way =
     stuck_on_leg setting before packet switch why leg down (knows setting before packet known) way
 further setting before next known cause way = tt
 
-pub strongly_caused : (setting : Setting) (journal : List Item) → IsSetting setting
-    → JournalItemsHaveCauses (IsWayItem setting) [] journal → JournalItemsHaveCauses (StrongCause setting) [] journal
-strongly_caused setting journal is have = have_weaker _ (StrongCause setting)
+pub strongly_caused : (setting : Setting) (journal : List Item) → IsMachineSetting setting
+    → JournalItemsHaveCauses (IsWayItem setting) [] journal → JournalItemsHaveCauses (PacketStrongCause setting) [] journal
+strongly_caused setting journal is have = have_weaker _ (PacketStrongCause setting)
     (λ before next behind. (
       behind.caused.caused.way,
       further setting before next (known_before setting is before next behind)

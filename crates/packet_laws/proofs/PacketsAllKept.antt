@@ -2,12 +2,12 @@
 -- induction by items.
 use Rattle.std.proofs.Common.{[], ◌++◌, ◌+◌, ◌==◌, ◌∙◌, ◌∷◌, ◌≡◌, ◌≢◌, ◌≤◌, ◌⊎◌, All, Bool, IsTrue, List, None, Some, arith, eqb-true, false, if◌then◌else◌, inl, inr, refl, subst, sym, true, unwrap_or, ℕ, rules}
 use Rattle.base.proofs.Exports.{All-weaker, nat_tests, option_or, some_same}
-use Rattle.failover.specs.Exports.{no_links}
-use Rattle.update_machine.specs.Exports.{AuthorityRule, Body, CacheRule, SettingHasPlan, JournalItemsHaveCauses, Header, IsSetting, Item, Message, Packet, Setting, Step, journal_cache_of, item_changes_found, changes_hops, changes_journal_leg, journal_current_mark, journal_decision_of, journal_found_down, machine_item_gives_decision, machine_item_gives_header, machine_item_gives_ingress, machine_item_gives_route, machine_item_gives_standing, machine_item_gives_travelling, journal_packet_header, journal_ingress_of, journal_last_given, journal_leg_of, journal_message_of, journal_next_packet, journal_plan_at, policy_at, journal_present_step, journal_retired_mark, journal_route_in, route_place, standing, travels}
+use Rattle.failover.specs.Exports.{no_failover_links}
+use Rattle.update_machine.specs.Exports.{MachineAuthorityRule, Body, CacheRule, MachineVersionHasPlan, JournalItemsHaveCauses, Header, IsMachineSetting, Item, Message, Packet, Setting, Step, journal_cache_of, machine_item_changes_found, machine_item_changes_hops, changes_journal_leg, journal_current_mark, journal_decision_of, journal_found_down, machine_item_gives_decision, machine_item_gives_header, machine_item_gives_ingress, machine_item_gives_route, machine_item_gives_standing, machine_item_gives_travelling, journal_packet_header, journal_ingress_of, journal_last_given, journal_leg_of, journal_message_of, journal_next_packet, journal_plan_at, machine_policy_at, journal_present_step, journal_retired_mark, journal_route_in, journal_route_place, journal_standing_of, travels_in_journal}
 use Rattle.update_machine.proofs.Exports.{begins_planned, folded_append, last_given_append, step_stays}
-use Rattle.packet_laws.specs.Exports.{AllPacketFactsKept, Blocked, BringsRightRule, CameIn, HasKeptPacketFacts, IsRightPacketCacheEntry, IsRightPacketRule, IsUnknownPacket, Judged, OnWay, HasPacketItemCause, PacketFacts, SendsRightPacketRule, PacketSendsRule, PacketStage, changes_packet_entry_mark, entry_mark, packet_facts_after, gives_packet_stage, is_item_of_packet_facts, packet_stage_of, packet_facts_of}
+use Rattle.packet_laws.specs.Exports.{AllPacketFactsKept, Blocked, BringsRightPacketRule, CameIn, HasKeptPacketFacts, IsRightPacketCacheEntry, IsRightPacketRule, IsUnknownPacket, Judged, OnWay, HasPacketItemCause, PacketFacts, SendsRightPacketRule, PacketSendsRule, PacketStage, changes_packet_entry_mark, packet_entry_mark, packet_facts_after, gives_packet_stage, is_item_of_entered_packet, packet_stage_of, packet_facts_of}
 use Rattle.cache_maker.specs.Independent.{widen}
-use Rattle.five_tuple.specs.Exports.{number_of}
+use Rattle.five_tuple.specs.Exports.{header_number_of}
 use Rattle.control_laws.proofs.Exports.{AreKept, Behind, HasBothCauses, NamesOwn, StampsAreCurrent, current_at_first, current_kept, fact_on, have_weaker, links_there, message_more, said_parts, stamps_touched, versions_planned, with_fact}
 use Rattle.control_laws.specs.Exports.{HasControlItemCause, control_stamp_message_to}
 use Rattle.packet_laws.proofs.PacketCacheRules.{Grows, cache_holds, cache_rule_right, carried_right, first_match_by_scan, grows, kept_on, right_on}
@@ -26,21 +26,21 @@ abbrev told_facts : List Item → ℕ → Item → PacketFacts
 told_facts before i item = record {
   header = option_or (machine_item_gives_header i item) (journal_packet_header before i);
   ingress = option_or (machine_item_gives_ingress i item) (journal_ingress_of before i);
-  stands = option_or (machine_item_gives_standing i item) (standing before i);
+  stands = option_or (machine_item_gives_standing i item) (journal_standing_of before i);
   travels = unwrap_or (option_or (machine_item_gives_travelling i item) (journal_last_given (machine_item_gives_travelling i) before))
       false;
   decision = option_or (machine_item_gives_decision i item) (journal_decision_of before i);
   leg = changes_journal_leg i before (journal_leg_of before i) item;
   route = unwrap_or (option_or (machine_item_gives_route i item) (journal_last_given (machine_item_gives_route i) before)) [];
-  hops = changes_hops i before (route_place before i) item;
-  found = item_changes_found i before (journal_found_down before i) item;
-  mark = changes_packet_entry_mark i before (entry_mark before i) item;
+  hops = machine_item_changes_hops i before (journal_route_place before i) item;
+  found = machine_item_changes_found i before (journal_found_down before i) item;
+  mark = changes_packet_entry_mark i before (packet_entry_mark before i) item;
 }
 
 facts_more : (before : List Item) (i : ℕ) (item : Item)
     → packet_facts_of (before ++ item ∷ []) i ≡ told_facts before i item
-unfolding packet_facts_of journal_packet_header journal_ingress_of standing travels journal_decision_of journal_leg_of journal_route_in route_place
-    journal_found_down entry_mark
+unfolding packet_facts_of journal_packet_header journal_ingress_of journal_standing_of travels_in_journal journal_decision_of journal_leg_of journal_route_in journal_route_place
+    journal_found_down packet_entry_mark
 facts_more before i item = rw (
   last_given_append (machine_item_gives_header i) before (item ∷ []),
   last_given_append (machine_item_gives_ingress i) before (item ∷ []),
@@ -49,16 +49,16 @@ facts_more before i item = rw (
   last_given_append (machine_item_gives_decision i) before (item ∷ []),
   folded_append (changes_journal_leg i) None before (item ∷ []),
   last_given_append (machine_item_gives_route i) before (item ∷ []),
-  folded_append (changes_hops i) 0 before (item ∷ []),
-  folded_append (item_changes_found i) no_links before (item ∷ []),
+  folded_append (machine_item_changes_hops i) 0 before (item ∷ []),
+  folded_append (machine_item_changes_found i) no_failover_links before (item ∷ []),
   folded_append (changes_packet_entry_mark i) 0 before (item ∷ []),
 ) refl
 
-by_name : (before : List Item) (i : ℕ) (item : Item) (b : Bool) → is_item_of_packet_facts i item ≡ b
+by_name : (before : List Item) (i : ℕ) (item : Item) (b : Bool) → is_item_of_entered_packet i item ≡ b
     → told_facts before i item
     ≡ (if b then packet_facts_after (journal_retired_mark before) item (packet_facts_of before i) else packet_facts_of before i)
-unfolding packet_facts_of journal_packet_header journal_ingress_of standing travels journal_decision_of journal_leg_of journal_route_in route_place
-    journal_found_down entry_mark
+unfolding packet_facts_of journal_packet_header journal_ingress_of journal_standing_of travels_in_journal journal_decision_of journal_leg_of journal_route_in journal_route_place
+    journal_found_down packet_entry_mark
 by_name before i (Item.Entered packet switch header) true e = rw e refl
 by_name before i (Item.Entered packet switch header) false e = rw e refl
 by_name before i (Item.Seeking packet version partition route) true e = rw e refl
@@ -85,15 +85,15 @@ by_name before i other true e = absurd cc
 by_name before i other false e = refl
 
 pub facts_grow : (i : ℕ) (before : List Item) (item : Item) → packet_facts_of (before ++ item ∷ []) i
-    ≡ (if is_item_of_packet_facts i item then packet_facts_after (journal_retired_mark before) item (packet_facts_of before i)
+    ≡ (if is_item_of_entered_packet i item then packet_facts_after (journal_retired_mark before) item (packet_facts_of before i)
     else packet_facts_of before i)
-facts_grow i before item = facts_more _ i item ∙ by_name before i item (is_item_of_packet_facts i item) refl
+facts_grow i before item = facts_more _ i item ∙ by_name before i item (is_item_of_entered_packet i item) refl
 
-pub facts_named : (i : ℕ) (before : List Item) (item : Item) → is_item_of_packet_facts i item ≡ true
+pub facts_named : (i : ℕ) (before : List Item) (item : Item) → is_item_of_entered_packet i item ≡ true
     → packet_facts_of (before ++ item ∷ []) i ≡ packet_facts_after (journal_retired_mark before) item (packet_facts_of before i)
 facts_named i before item named = cc (facts_grow i before item, named)
 
-pub facts_other : (i : ℕ) (before : List Item) (item : Item) → is_item_of_packet_facts i item ≡ false
+pub facts_other : (i : ℕ) (before : List Item) (item : Item) → is_item_of_entered_packet i item ≡ false
     → packet_facts_of (before ++ item ∷ []) i ≡ packet_facts_of before i
 facts_other i before item other = cc (facts_grow i before item, other)
 
@@ -121,7 +121,7 @@ present_asked setting journal have = fact_on (IsAsked setting) _ (asked_kept set
 -- ---- what is known before an item
 
 pub record Before (setting : Setting) (before : List Item) : Type 0 where
-  pub is : IsSetting setting
+  pub is : IsMachineSetting setting
   pub have : JournalItemsHaveCauses (IsWayItem setting) [] before
   pub kept : AllPacketFactsKept setting before
 
@@ -151,7 +151,7 @@ named_as setting before packet i next stage named tells kept =
     rw (stage_more before next i stage tells) (rw (eqb-true packet i named) at kept)
 
 named_after : (setting : Setting) (before : List Item) (next : Item) (i : ℕ)
-    → Before setting before → HasPacketItemCause setting before next → is_item_of_packet_facts i next ≡ true
+    → Before setting before → HasPacketItemCause setting before next → is_item_of_entered_packet i next ≡ true
     → HasKeptPacketFacts setting before (packet_facts_after (journal_retired_mark before) next (packet_facts_of before i))
     (packet_stage_of (before ++ next ∷ []) i)
 named_after setting before (Item.Entered packet s header) i known way named =
@@ -187,15 +187,15 @@ named_after setting before (Item.Stuck packet switch cause leg down) i known way
     gone setting before _ _ refl
 named_after setting before next i known way named = absurd cc
 
-unnamed_stage : (i : ℕ) (next : Item) → is_item_of_packet_facts i next ≡ false → gives_packet_stage i next ≡ None
+unnamed_stage : (i : ℕ) (next : Item) → is_item_of_entered_packet i next ≡ false → gives_packet_stage i next ≡ None
 unnamed_stage i next e = search rules
 
 packets_on : (setting : Setting) (before : List Item) (next : Item) → Before setting before
     → IsWayItem setting before next → Grows setting before (before ++ next ∷ []) → (i : ℕ)
     → HasKeptPacketFacts setting (before ++ next ∷ []) (packet_facts_of (before ++ next ∷ []) i)
     (packet_stage_of (before ++ next ∷ []) i)
-packets_on setting before next known cause grow i = by_name (is_item_of_packet_facts i next) refl where
-  by_name : (b : Bool) → is_item_of_packet_facts i next ≡ b → HasKeptPacketFacts setting (before ++ next ∷ [])
+packets_on setting before next known cause grow i = by_name (is_item_of_entered_packet i next) refl where
+  by_name : (b : Bool) → is_item_of_entered_packet i next ≡ b → HasKeptPacketFacts setting (before ++ next ∷ [])
       (packet_facts_of (before ++ next ∷ []) i) (packet_stage_of (before ++ next ∷ []) i)
   by_name true e = rw (facts_named i before next e) (kept_on setting before
       (before ++ next ∷ []) _ _ grow (named_after setting before next i known cause.way e))
@@ -206,32 +206,32 @@ packets_on setting before next known cause grow i = by_name (is_item_of_packet_f
 
 -- an item names a packet that travels, or the next one, which enters
 named_travels : (setting : Setting) (before : List Item) (next : Item) (i : ℕ)
-    → HasPacketItemCause setting before next → is_item_of_packet_facts i next ≡ true → IsTrue (travels before i)
+    → HasPacketItemCause setting before next → is_item_of_entered_packet i next ≡ true → IsTrue (travels_in_journal before i)
     ⊎ ((i ≡ journal_next_packet before) × (journal_next_packet (before ++ next ∷ []) ≡ journal_next_packet before + 1))
 named_travels setting before (Item.Entered packet s header) i way named = inr (
   sym (eqb-true packet i named) ∙ way.0.number,
   packet_more before (Item.Entered packet s header),
 )
 named_travels setting before (Item.Seeking packet version partition route) i way named =
-    inl (subst (λ k. IsTrue (travels before k)) (eqb-true packet i named) way.at.travelling)
+    inl (subst (λ k. IsTrue (travels_in_journal before k)) (eqb-true packet i named) way.at.travelling)
 named_travels setting before (Item.Exiting packet route) i way named = search (rules, eqb-true)
 named_travels setting before (Item.Rerouted packet route) i way named = search (rules, eqb-true)
 named_travels setting before (Item.Hopped packet next) i way named = search (rules, eqb-true)
 named_travels setting before (Item.FoundDown packet one two) i way named = search (rules, eqb-true)
 named_travels setting before (Item.Decided packet version rule act by) i way named =
-    inl (subst (λ k. IsTrue (travels before k)) (eqb-true packet i named) way.at.travelling)
+    inl (subst (λ k. IsTrue (travels_in_journal before k)) (eqb-true packet i named) way.at.travelling)
 named_travels setting before (Item.Left packet port leaving) i way named = search (rules, eqb-true)
 named_travels setting before (Item.Dropped packet) i way named = search (rules, eqb-true)
 named_travels setting before (Item.Lost packet) i way named = search (rules, eqb-true)
 named_travels setting before (Item.Stuck packet switch cause leg down) i way named =
-    inl (subst (λ k. IsTrue (travels before k)) (eqb-true packet i named) way.at.travelling)
+    inl (subst (λ k. IsTrue (travels_in_journal before k)) (eqb-true packet i named) way.at.travelling)
 named_travels setting before next i way named = absurd cc
 
 unknown_on : (setting : Setting) (before : List Item) (next : Item) → Before setting before
     → HasPacketItemCause setting before next → (i : ℕ) → journal_next_packet (before ++ next ∷ []) ≤ i
     → IsUnknownPacket (packet_facts_of (before ++ next ∷ []) i)
-unknown_on setting before next known way i past = by_name (is_item_of_packet_facts i next) refl where
-  not_named : IsTrue (travels before i)
+unknown_on setting before next known way i past = by_name (is_item_of_entered_packet i next) refl where
+  not_named : IsTrue (travels_in_journal before i)
       ⊎ ((i ≡ journal_next_packet before) × (journal_next_packet (before ++ next ∷ []) ≡ journal_next_packet before + 1))
       → IsUnknownPacket (packet_facts_of (before ++ next ∷ []) i)
   not_named (inl travelling) =
@@ -239,7 +239,7 @@ unknown_on setting before next known way i past = by_name (is_item_of_packet_fac
       absurd (omega (arith, number.1, past, packet_more before next))
   not_named (inr own) = absurd (omega (arith, own.0, own.1, past))
 
-  by_name : (b : Bool) → is_item_of_packet_facts i next ≡ b → IsUnknownPacket (packet_facts_of (before ++ next ∷ []) i)
+  by_name : (b : Bool) → is_item_of_entered_packet i next ≡ b → IsUnknownPacket (packet_facts_of (before ++ next ∷ []) i)
   by_name true e = not_named (named_travels setting before next i way e)
   by_name false e = subst IsUnknownPacket (sym (facts_other i before next e))
       (known.kept.unknown i (omega (arith, past, packet_more before next)))
@@ -247,14 +247,14 @@ unknown_on setting before next known way i past = by_name (is_item_of_packet_fac
 -- ---- messages
 
 brings_on : (setting : Setting) (before after : List Item) (body : Body) → Grows setting before
-    after → BringsRightRule setting before body → BringsRightRule setting after body
+    after → BringsRightPacketRule setting before body → BringsRightPacketRule setting after body
 brings_on setting before after (CacheRule version word rule act) grow right =
     right_on setting before after version word rule act grow right
 brings_on setting before after _ grow right = tt
 
 -- the rule that a switch tells is right
 told_right : (setting : Setting) (before : List Item) (message : Message) → Before setting before
-    → PacketSendsRule setting before message → BringsRightRule setting before message.body
+    → PacketSendsRule setting before message → BringsRightPacketRule setting before message.body
 told_right setting before message known tells =
     let i : ℕ = tells.packet in
     let s : ℕ = tells.switch in
@@ -266,38 +266,38 @@ told_right setting before message known tells =
     here (knows_it.kept.judged here.travelling tells.judged header here.under.entered).sought
     tells.finds in
     let version : ℕ = tells.found.version in
-    let own : AuthorityRule = deciding version rules.finds in
+    let own : MachineAuthorityRule = deciding version rules.finds in
     let right : IsRightPacketRule setting before version
-    (widen (number_of header) own.part.region own.part.rules own.place) own.rule.rule
+    (widen (header_number_of header) own.part.region own.part.rules own.place) own.rule.rule
     own.rule.action = record {
       known = omega (arith, rules.not_retired);
       current = rules.current;
-      decides = λ other sound held. first_match_by_scan (policy_at setting before version) other _
-          (cache_rule_right setting (policy_at setting before version) (journal_plan_at setting before
+      decides = λ other sound held. first_match_by_scan (machine_policy_at setting before version) other _
+          (cache_rule_right setting (machine_policy_at setting before version) (journal_plan_at setting before
           version) header rules.hosted rules.finds rules.planned here.under.sound other sound held);
     } in
-    subst (λ (m : Message). BringsRightRule setting before m.body) (sym tells.says)
+    subst (λ (m : Message). BringsRightPacketRule setting before m.body) (sym tells.says)
     (rw here.header (rw rules.same right))
 
 sent_right : (setting : Setting) (before : List Item) (number : ℕ) (message : Message)
     → Before setting before → HasPacketItemCause setting before (Item.Sent number message)
-    → BringsRightRule setting before message.body
+    → BringsRightPacketRule setting before message.body
 sent_right setting before number message known way = by_body message.body refl way where
   by_body : (body : Body) → message.body ≡ body
       → HasPacketItemCause setting before (Item.Sent number message)
-      → BringsRightRule setting before message.body
+      → BringsRightPacketRule setting before message.body
   by_body (CacheRule version word rule act) e way = told_right setting before message known
       (subst (λ b. SendsRightPacketRule setting before message b) e way)
-  by_body _ e way = subst (BringsRightRule setting before) (sym e) tt
+  by_body _ e way = subst (BringsRightPacketRule setting before) (sym e) tt
 
 sent_on : (setting : Setting) (before : List Item) (next : Item) → Before setting before
     → IsWayItem setting before next → Grows setting before (before ++ next ∷ [])
     → (n : ℕ) (message : Message) → journal_message_of (before ++ next ∷ []) n ≡ Some message
-    → BringsRightRule setting (before ++ next ∷ []) message.body
+    → BringsRightPacketRule setting (before ++ next ∷ []) message.body
 sent_on setting before (Item.Sent number sent) known cause grow n message is = by_number _ refl
   where
     by_number : (b : Bool) → (number == n) ≡ b
-        → BringsRightRule setting (before ++ Item.Sent number sent ∷ []) message.body
+        → BringsRightPacketRule setting (before ++ Item.Sent number sent ∷ []) message.body
     by_number true e =
         let same = rw (message_more before (Item.Sent number sent) n, e) at is in
         let own : sent ≡ message = cc in
@@ -335,7 +335,7 @@ cached_on setting before next known grow s =
 
     planned : (number boot version : ℕ) (touched : List WordValue)
         → journal_message_of before number ≡ Some (control_stamp_message_to s boot version touched)
-        → SettingHasPlan setting before version
+        → MachineVersionHasPlan setting before version
     planned number boot version touched sent =
         let there = (stamps_touched setting before have).sent number s boot version touched sent in
         (versions_planned setting before have).planned (begins_planned setting known.is) version
@@ -343,7 +343,7 @@ cached_on setting before next known grow s =
 
 -- ---- all of it
 
-pub kept_more : (setting : Setting) → IsSetting setting
+pub kept_more : (setting : Setting) → IsMachineSetting setting
     → AreKept (Past (IsWayItem setting)) (AllPacketFactsKept setting)
 kept_more setting is before next cause kept =
     let known : Before setting before = record { is = is; have = cause.past; kept = kept } in
@@ -355,22 +355,22 @@ kept_more setting is before next cause kept =
     }
 
 pub kept_at_first : (setting : Setting) → AllPacketFactsKept setting []
-unfolding packet_facts_of travels journal_packet_header journal_decision_of journal_leg_of journal_found_down journal_message_of journal_cache_of
+unfolding packet_facts_of travels_in_journal journal_packet_header journal_decision_of journal_leg_of journal_found_down journal_message_of journal_cache_of
 kept_at_first setting = search rules
 
-pub all_kept : (setting : Setting) (journal : List Item) → IsSetting setting
+pub all_kept : (setting : Setting) (journal : List Item) → IsMachineSetting setting
     → JournalItemsHaveCauses (IsWayItem setting) [] journal → AllPacketFactsKept setting journal
 all_kept setting journal is have = fact_on _ (AllPacketFactsKept setting) (kept_more setting is) [] journal
     (with_past (IsWayItem setting) [] journal tt have) (kept_at_first setting)
 
 -- each item, where all is kept before it
-pub kept_before : (setting : Setting) (journal : List Item) → IsSetting setting
+pub kept_before : (setting : Setting) (journal : List Item) → IsMachineSetting setting
     → JournalItemsHaveCauses (IsWayItem setting) [] journal
     → JournalItemsHaveCauses (Behind (Past (IsWayItem setting)) (AllPacketFactsKept setting)) [] journal
 kept_before setting journal is have = with_fact _ (AllPacketFactsKept setting) (kept_more setting is) []
     journal (with_past (IsWayItem setting) [] journal tt have) (kept_at_first setting)
 
-pub known_before : (setting : Setting) → IsSetting setting → (before : List Item) (next : Item)
+pub known_before : (setting : Setting) → IsMachineSetting setting → (before : List Item) (next : Item)
     → Behind (Past (IsWayItem setting)) (AllPacketFactsKept setting) before next → Before setting before
 known_before setting is before next behind =
     record { is = is; have = behind.caused.past; kept = behind.known }

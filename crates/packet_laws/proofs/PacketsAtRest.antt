@@ -1,9 +1,9 @@
 -- Between steps all packets rest: on their way, at switches that serve. So all items of packets
 -- have their causes.
 use Rattle.std.proofs.Common.{[], ◌++◌, ◌+◌, ◌<◌, ◌==◌, ◌∙◌, ◌∷◌, ◌≡◌, ◌≢◌, ◌⊎◌, All, IsTrue, List, None, Option, Some, ap, arith, drop, eq-eqb, false, get_or, inl, inr, length, ne_eqb, refl, subst, suc, sym, take, take-append-drop, unwrap_or, ℕ, rules}
-use Rattle.update_machine.specs.Exports.{AreMachineSteps, JournalBeginsAnswer, Crash, Event, Found, JournalItemsHaveCauses, Header, Hop, IsMachinePlay, IsJournalReached, IsSetting, Item, Lose, Packet, Setting, Step, StepOfRow, journal_after_steps, journal_authority_rule, journal_packet_header_at, journal_packet_header, lookup_at, journal_next_packet, machine_packet_items, piece, serves, journal_stamp_of, machine_step_items, travels}
+use Rattle.update_machine.specs.Exports.{AreMachineSteps, JournalBeginsAnswer, Crash, Event, Found, JournalItemsHaveCauses, Header, Hop, IsMachinePlay, IsJournalReached, IsMachineSetting, Item, Lose, Packet, Setting, Step, MachineStepOfRow, journal_after_steps, journal_authority_rule, journal_packet_header_at, journal_packet_header, machine_lookup_at, journal_next_packet, machine_packet_items, piece, serves, journal_stamp_of, machine_step_items, travels_in_journal}
 use Rattle.update_machine.proofs.Exports.{AreOf, HasNexts, IsEventOf, answers_so_far, begins_itself, event_steps_are, first_steps_are, have_append, last_given_append, packet_keeps, stop_begins}
-use Rattle.control_laws.specs.Exports.{AreNetworkEvents, HasControlItemCause, ControlLawHoldsReached}
+use Rattle.control_laws.specs.Exports.{AreControlNetworkEvents, HasControlItemCause, ControlLawHoldsReached}
 use Rattle.control_laws.proofs.Exports.{HasLinkCause, IsCarried, IsTraffic, NamesOwn, OfSettings, Traffic, behind_piece, carried_on, caused_known, fact_on, has_nexts, have_both, have_weaker, own_event, packet_has, pieces_caused, pieces_have, reached_by, reached_carries, serving_known, serving_more, setting_carries, so_far_carries, step_traffic}
 use Rattle.packet_laws.specs.Exports.{ArePacketsResting, ArePacketsServed, PacketLawHoldsBetween, IsPacketMoving, HasPacketItemCause, packet_stage_of, packet_steps_played}
 use Rattle.base.proofs.Exports.{⊤, cases_eq}
@@ -15,12 +15,12 @@ use Rattle.packet_laws.proofs.PacketsSpared.{IsInStep, IsNoRow, Spares, SparesAl
 
 -- ---- what is carried from step to step is true after each step of a play
 
-are_front : (Is : Step → Type 0) (xs ys : List StepOfRow) → AreOf Is (xs ++ ys) → AreOf Is xs
+are_front : (Is : Step → Type 0) (xs ys : List MachineStepOfRow) → AreOf Is (xs ++ ys) → AreOf Is xs
 are_front Is [] ys are = tt
 are_front Is (x ∷ xs) ys are = (are.0, are_front Is xs ys are.1)
 
 all_steps_are : (Is : Step → Type 0) → HasNexts Is → (setting : Setting) (row : ℕ)
-    (events : List Event) (before : List Item) (steps : List StepOfRow)
+    (events : List Event) (before : List Item) (steps : List MachineStepOfRow)
     → All (IsEventOf Is) events → AreMachineSteps setting row events before steps → AreOf Is steps
 all_steps_are Is has setting row [] before steps is are = subst (AreOf Is) (sym are) tt
 all_steps_are Is has setting row (event ∷ events) before steps is are = subst (AreOf Is)
@@ -28,16 +28,16 @@ all_steps_are Is has setting row (event ∷ events) before steps is are = subst 
     (is 0 event (omega arith)) are.3) (all_steps_are Is has setting (row + 1) events
     (journal_after_steps setting before are.0) are.1 (λ k d within. is (suc k) d (omega arith)) are.4))
   where
-    onto : (mine : List StepOfRow) → AreOf Is mine → AreOf Is are.1 → AreOf Is (mine ++ are.1)
+    onto : (mine : List MachineStepOfRow) → AreOf Is mine → AreOf Is are.1 → AreOf Is (mine ++ are.1)
     onto [] none rest = rest
     onto (x ∷ mine) own rest = (own.0, onto mine own.1 rest)
 
-own_events : (setting : Setting) (events : List Event) → AreNetworkEvents setting events
+own_events : (setting : Setting) (events : List Event) → AreControlNetworkEvents setting events
     → All (IsEventOf (NamesOwn setting)) events
 own_events setting events own = λ k d within. own_event setting (get_or events k d) (own k d within)
 
 play_steps_are : (setting : Setting) (events : List Event) (journal : List Item)
-    (full : Option ℕ) → AreNetworkEvents setting events → (play : IsMachinePlay setting events journal full)
+    (full : Option ℕ) → AreControlNetworkEvents setting events → (play : IsMachinePlay setting events journal full)
     → AreOf (NamesOwn setting) (packet_steps_played setting events journal full play)
 play_steps_are setting events journal None own play =
     all_steps_are (NamesOwn setting) (has_nexts setting) setting 1 events [] play.answers.steps
@@ -47,7 +47,7 @@ play_steps_are setting events journal (Some row) own play = are_front (NamesOwn 
     (play.steps ++ play.next ∷ []) (own_events setting events own) play.allowed)
 
 pub played_carries : (setting : Setting) (Fact : List Item → Type 0) → IsCarried setting Fact
-    → (events : List Event) (journal : List Item) (full : Option ℕ) → AreNetworkEvents setting events
+    → (events : List Event) (journal : List Item) (full : Option ℕ) → AreControlNetworkEvents setting events
     → (play : IsMachinePlay setting events journal full) (n : ℕ)
     → Fact (journal_after_steps setting [] (take n (packet_steps_played setting events journal full play)))
 played_carries setting Fact carried events journal full own play n =
@@ -111,7 +111,7 @@ ways_of_all setting before items have = search (rules, have_weaker)
 
 pub numbered : (setting : Setting) (journal : List Item) → JournalItemsHaveCauses (HasPacketItemCause setting) [] journal
     → AreNumbered journal
-unfolding travels
+unfolding travels_in_journal
 numbered setting journal have = fact_on _ _ (numbered_kept _) [] _ have (λ i travelling. absurd cc)
 
 have_legs : (setting : Setting) (journal : List Item) → JournalItemsHaveCauses (IsWayItem setting) [] journal
@@ -236,10 +236,10 @@ header_now journal i s header = rw (last_given_append, eq-eqb) refl
 
 -- the rules of its lookup are there
 rules_there : (setting : Setting) (journal : List Item) (i s : ℕ) (header : Header)
-    → IsSetting setting → JournalItemsHaveCauses (HasControlItemCause setting) [] journal
+    → IsMachineSetting setting → JournalItemsHaveCauses (HasControlItemCause setting) [] journal
     → s < length setting.net.switches → IsHeader header → IsTrue (serves journal s)
     → (partition place : ℕ) → let entered = journal ++ Item.Entered i s header ∷ [] in
-    lookup_at setting entered s (journal_packet_header_at entered i) ≡ Found.Authority partition place
+    machine_lookup_at setting entered s (journal_packet_header_at entered i) ≡ Found.Authority partition place
     → journal_authority_rule setting entered (journal_stamp_of entered s) partition place ≡ None → ⊥
 rules_there setting journal i s header is have there sound serving partition place answer none =
     let next : Item = Item.Entered i s header in
@@ -247,7 +247,7 @@ rules_there setting journal i s header is have there sound serving partition pla
     let finds : FindsRule setting entered s header partition place = authority_found setting entered
     s header partition place (stamped setting entered s is (have_append (HasControlItemCause setting) []
     journal (next ∷ []) have (tt, tt)) there (rw (serving_more journal next s) serving)) sound
-    (ap (lookup_at setting entered s) (sym (rw (header_now journal i s header) refl)) ∙ answer) in
+    (ap (machine_lookup_at setting entered s) (sym (rw (header_now journal i s header) refl)) ∙ answer) in
     let clash : Some _ ≡ None = sym (rule_there setting entered header finds.part.hosted
     (journal_stamp_of entered s) partition finds.part.finds finds.part.number)
     ∙ ap (journal_authority_rule setting entered (journal_stamp_of entered s) partition) finds.found_at ∙ none in
@@ -291,7 +291,7 @@ step_served setting before row step settled = by_kind step where
   by_kind step = aside_served step (step_aside setting before row step tt)
 
 step_moving : (setting : Setting) (before : List Item) (row : ℕ) (step : Step)
-    → IsSetting setting → NamesOwn setting step → IsSettled setting before → (j : ℕ)
+    → IsMachineSetting setting → NamesOwn setting step → IsSettled setting before → (j : ℕ)
     → let here = before ++ Item.Row row step ∷ [] in
     IsPacketMoving (here ++ machine_step_items setting before step here) j
 step_moving setting before row step is own settled j = by_kind step own where
@@ -333,7 +333,7 @@ step_moving setting before row step is own settled j = by_kind step own where
   by_kind step own = other step (λ k e. absurd cc)
 
 pub piece_settled : (setting : Setting) (before : List Item) (row : ℕ) (step : Step)
-    → IsSetting setting → NamesOwn setting step → IsSettled setting before
+    → IsMachineSetting setting → NamesOwn setting step → IsSettled setting before
     → IsSettled setting (before ++ piece setting before row step)
 piece_settled setting before row step is own settled = record {
   causes = have_append _ [] _ _ settled.causes (piece_causes _ before row step own settled.rests);
@@ -346,13 +346,13 @@ piece_settled setting before row step is own settled = record {
 -- ---- the causes of a reached journal's items, and what holds between its steps
 
 pub settled_at_first : (setting : Setting) → IsSettled setting []
-unfolding travels
+unfolding travels_in_journal
 settled_at_first setting = search rules
 
 settled_carried : (setting : Setting) → IsCarried setting (OfSettings IsSettled setting)
 settled_carried = setting_carries IsSettled settled_at_first piece_settled
 
-pub reached_settled : (setting : Setting) (journal : List Item) → IsSetting setting
+pub reached_settled : (setting : Setting) (journal : List Item) → IsMachineSetting setting
     → IsJournalReached setting journal → IsSettled setting journal
 reached_settled setting journal is reached = reached_carries _ _ (settled_carried _) _ reached is
 
@@ -360,8 +360,8 @@ reached_settled setting journal is reached = reached_carries _ _ (settled_carrie
 
 -- what holds where packets rest and all items have their causes holds between steps
 pub between : (Holds : Setting → List Item → Type 0) → ((setting : Setting) (journal : List Item)
-    → IsSetting setting → IsSettled setting journal → Holds setting journal)
-    → PacketLawHoldsBetween (λ setting journal. IsSetting setting → Holds setting journal)
+    → IsMachineSetting setting → IsSettled setting journal → Holds setting journal)
+    → PacketLawHoldsBetween (λ setting journal. IsMachineSetting setting → Holds setting journal)
 between Holds settled = record {
   reached = λ setting journal reached is.
       settled setting journal is (reached_settled setting journal is reached);
@@ -376,6 +376,6 @@ between Holds settled = record {
 
 -- what follows from the causes of all items is true of each reached journal, within a step too
 pub reached : (Holds : Setting → List Item → Type 0) → ((setting : Setting) (journal : List Item)
-    → IsSetting setting → JournalItemsHaveCauses (IsWayItem setting) [] journal → Holds setting journal)
-    → ControlLawHoldsReached (λ setting journal. IsSetting setting → Holds setting journal)
+    → IsMachineSetting setting → JournalItemsHaveCauses (IsWayItem setting) [] journal → Holds setting journal)
+    → ControlLawHoldsReached (λ setting journal. IsMachineSetting setting → Holds setting journal)
 reached Holds = reached_by _ Holds _ settled_carried (λ setting journal settled. settled.causes)

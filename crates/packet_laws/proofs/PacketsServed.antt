@@ -3,9 +3,9 @@
 use Rattle.std.proofs.Common.{[], ◌++◌, ◌+◌, ◌<◌, ◌==◌, ◌∙◌, ◌∷◌, ◌≡◌, ◌≤◌, ◌⊎◌, Bool, IsFalse, IsTrue, List, None, Some, append-nil, append_assoc, arith, eqb-true, false, if◌then◌else◌, inl, inr, map, refl, subst, sym, true, ℕ, rules}
 use Rattle.base.proofs.Exports.{⊤, list_any, nat_tests}
 use Rattle.base.specs.Exports.{has}
-use Rattle.update_machine.specs.Exports.{Exit, Item, Leg, Message, Seek, Setting, changes_journal_leg, count_of, journal_crash_items, journal_exit_port, machine_item_gives_serving, machine_item_gives_standing, machine_item_gives_travelling, is_packet, is_up, journal_items_then, journal_leg_of, journal_link_changes, journal_next_message, journal_next_packet, nothing, journal_packets_at, machine_sent_items_from, serves, standing, travels}
+use Rattle.update_machine.specs.Exports.{Exit, Item, Leg, Message, Seek, Setting, changes_journal_leg, machine_count_of, journal_crash_items, journal_exit_port, machine_item_gives_serving, machine_item_gives_standing, machine_item_gives_travelling, is_machine_packet_entry, is_up, journal_items_then, journal_leg_of, journal_link_changes, journal_next_message, journal_next_packet, nothing, journal_packets_at, machine_sent_items_from, serves, journal_standing_of, travels_in_journal}
 use Rattle.update_machine.proofs.Exports.{count_of_append, folded_append}
-use Rattle.control_laws.specs.Exports.{HasControlItemCause, ServingIsKnown}
+use Rattle.control_laws.specs.Exports.{HasControlItemCause, ControlServingIsKnown}
 use Rattle.control_laws.proofs.Exports.{AreKept, any_picked, ends_serve, losts_keep, serving_more}
 use Rattle.packet_laws.specs.Exports.{ArePacketsServed, Blocked, CameIn, IsPacketServed, Judged, OnWay, HasPacketItemCause, PacketStage, gives_packet_stage, packet_stage_of}
 use Rattle.packet_laws.proofs.PacketsSpared.{ends_or_not}
@@ -14,9 +14,9 @@ use Rattle.packet_laws.proofs.PacketBlocks.{ended, stage_next, standing_more, tr
 -- ---- what one more item makes of facts
 
 pub packet_more : (before : List Item) (next : Item)
-    → journal_next_packet (before ++ next ∷ []) ≡ journal_next_packet before + count_of is_packet (next ∷ [])
+    → journal_next_packet (before ++ next ∷ []) ≡ journal_next_packet before + machine_count_of is_machine_packet_entry (next ∷ [])
 unfolding journal_next_packet
-packet_more before next = rw (count_of_append is_packet before (next ∷ [])) (omega arith)
+packet_more before next = rw (count_of_append is_machine_packet_entry before (next ∷ [])) (omega arith)
 
 -- ---- served packets
 
@@ -24,7 +24,7 @@ packet_more before next = rw (count_of_append is_packet before (next ∷ [])) (o
 pub record IsCaused (setting : Setting) (before : List Item) (next : Item) : Type 0 where
   pub switches : HasControlItemCause setting before next
   pub way : HasPacketItemCause setting before next
-  pub known : ServingIsKnown before
+  pub known : ControlServingIsKnown before
 
 abbrev pub NotDown : Item → Type 0
 NotDown (Item.Down s) = ⊥
@@ -34,8 +34,8 @@ NotDown _ = ⊤
 pub stays_served : (before : List Item) (next : Item) (i : ℕ) → machine_item_gives_standing i next ≡ None
     → (machine_item_gives_travelling i next ≡ None) ⊎ (machine_item_gives_travelling i next ≡ Some false)
     → ((s : ℕ) → IsTrue (serves before s) → IsTrue (serves (before ++ next ∷ []) s))
-    → (IsTrue (travels before i) → IsPacketServed before i)
-    → IsTrue (travels (before ++ next ∷ []) i) → IsPacketServed (before ++ next ∷ []) i
+    → (IsTrue (travels_in_journal before i) → IsPacketServed before i)
+    → IsTrue (travels_in_journal (before ++ next ∷ []) i) → IsPacketServed (before ++ next ∷ []) i
 stays_served before next i stays h4 on served travelling =
     search (rules, travels_more, standing_more)
 
@@ -52,7 +52,7 @@ brought_served : (before : List Item) (next : Item) (packet s i : ℕ)
     → ((t : ℕ) → machine_item_gives_serving t next ≡ None)
     → machine_item_gives_standing i next ≡ (if packet == i then Some s else None)
     → ((packet == i) ≡ false → machine_item_gives_travelling i next ≡ None) → ArePacketsServed before
-    → IsTrue (serves before s) → IsTrue (travels (before ++ next ∷ []) i)
+    → IsTrue (serves before s) → IsTrue (travels_in_journal (before ++ next ∷ []) i)
     → IsPacketServed (before ++ next ∷ []) i
 brought_served before next packet s i silent stands moves served serving travelling =
     by_same (packet == i) refl
@@ -70,7 +70,7 @@ brought_served before next packet s i silent stands moves served serving travell
           serving = still_serves before next here.switch (silent here.switch) here.serving;
         }
 
-booted_serves : (before : List Item) (switch boot s : ℕ) → ServingIsKnown before
+booted_serves : (before : List Item) (switch boot s : ℕ) → ControlServingIsKnown before
     → IsFalse (is_up before switch) → IsTrue (serves before s)
     → IsTrue (serves (before ++ Item.Booted switch boot ∷ []) s)
 booted_serves before switch boot s known down serving = search (rules, eqb-true, serving_more)
@@ -103,7 +103,7 @@ served_kept setting before next is served i travelling = search (rules, stays_se
 
 -- a packet that travels has a number that was given
 abbrev pub AreNumbered : List Item → Type 0
-AreNumbered journal = (i : ℕ) → IsTrue (travels journal i) → (1 ≤ i) × (i < journal_next_packet journal)
+AreNumbered journal = (i : ℕ) → IsTrue (travels_in_journal journal i) → (1 ≤ i) × (i < journal_next_packet journal)
 
 next_first : (journal : List Item) → 1 ≤ journal_next_packet journal
 unfolding journal_next_packet
@@ -111,8 +111,8 @@ next_first journal = omega arith
 
 number_stays : (before : List Item) (next : Item) (i : ℕ)
     → (machine_item_gives_travelling i next ≡ None) ⊎ (machine_item_gives_travelling i next ≡ Some false)
-    → (IsTrue (travels before i) → (1 ≤ i) × (i < journal_next_packet before))
-    → IsTrue (travels (before ++ next ∷ []) i) → (1 ≤ i) × (i < journal_next_packet (before ++ next ∷ []))
+    → (IsTrue (travels_in_journal before i) → (1 ≤ i) × (i < journal_next_packet before))
+    → IsTrue (travels_in_journal (before ++ next ∷ []) i) → (1 ≤ i) × (i < journal_next_packet (before ++ next ∷ []))
 number_stays before next i (inr ends) numbered travelling = absurd (cc (ended before next i ends))
 number_stays before next i (inl same) numbered travelling =
     let there = numbered (rw (travels_more before next i, same) at travelling) in
@@ -239,11 +239,11 @@ among i packets = list_any (λ k. k == i) packets
 
 -- a packet that travels behind those losses travelled before them, and isn't among the lost
 record IsSpared (journal after : List Item) (packets : List ℕ) (i : ℕ) : Type 0 where
-  travelling : IsTrue (travels journal i)
+  travelling : IsTrue (travels_in_journal journal i)
   apart : IsFalse (among i packets)
 
 spared_by : (packets : List ℕ) (journal : List Item) (i : ℕ)
-    → IsTrue (travels (journal ++ map Item.Lost packets) i)
+    → IsTrue (travels_in_journal (journal ++ map Item.Lost packets) i)
     → IsSpared journal (journal ++ map Item.Lost packets) packets i
 unfolding among
 spared_by [] journal i travelling = search rules
@@ -266,9 +266,9 @@ spared_by (k ∷ packets) journal i travelling = by_same (k == i) refl (spared_b
 
 -- losses move no packet and change no switch
 lost_standing : (packets : List ℕ) (journal : List Item) (i : ℕ)
-    → standing (journal ++ map Item.Lost packets) i ≡ standing journal i
+    → journal_standing_of (journal ++ map Item.Lost packets) i ≡ journal_standing_of journal i
 lost_standing packets journal i =
-    losts_keep (λ js. standing js i) (λ js k. standing_more js (Item.Lost k) i) packets journal
+    losts_keep (λ js. journal_standing_of js i) (λ js k. standing_more js (Item.Lost k) i) packets journal
 
 lost_serves : (packets : List ℕ) (journal : List Item) (s : ℕ)
     → serves (journal ++ map Item.Lost packets) s ≡ serves journal s
@@ -278,26 +278,26 @@ lost_serves packets journal s =
 -- ---- the crash
 
 -- a packet that isn't lost is elsewhere
-left_elsewhere : (before : List Item) (s i t : ℕ) → IsTrue (travels before i)
-    → standing before i ≡ Some t → 1 ≤ i → i < 1 + count_of is_packet before
+left_elsewhere : (before : List Item) (s i t : ℕ) → IsTrue (travels_in_journal before i)
+    → journal_standing_of before i ≡ Some t → 1 ≤ i → i < 1 + machine_count_of is_machine_packet_entry before
     → IsFalse (among i (journal_packets_at before s)) → (s == t) ≡ false
 unfolding among
 left_elsewhere before s i t travelling stands first last apart =
     search (rules, nat_tests, any_picked)
 
 fallen_served : (before journal : List Item) (s : ℕ) → AreNumbered before → ArePacketsServed journal
-    → ((i : ℕ) → (travels journal i ≡ travels before i) × (standing journal i ≡ standing before i))
+    → ((i : ℕ) → (travels_in_journal journal i ≡ travels_in_journal before i) × (journal_standing_of journal i ≡ journal_standing_of before i))
     → ArePacketsServed (journal ++ Item.Down s ∷ map Item.Lost (journal_packets_at before s))
 unfolding journal_next_packet among
 fallen_served before journal s numbered served same i travelling =
     let down : Item = Item.Down s in
     let packets : List ℕ = journal_packets_at before s in
     let whole = append_assoc journal (down ∷ []) (map Item.Lost packets) in
-    let spared = spared_by _ _ i (subst (λ js. IsTrue (travels js i)) (sym whole) travelling) in
+    let spared = spared_by _ _ i (subst (λ js. IsTrue (travels_in_journal js i)) (sym whole) travelling) in
     let here_travels = rw (travels_more journal down i) at spared.travelling in
     let here : IsPacketServed journal i = served i here_travels in
-    let own : IsTrue (travels before i) = sym (same i).0 ∙ here_travels in
-    let stands : standing before i ≡ Some here.switch = sym (same i).1 ∙ here.stands in
+    let own : IsTrue (travels_in_journal before i) = sym (same i).0 ∙ here_travels in
+    let stands : journal_standing_of before i ≡ Some here.switch = sym (same i).1 ∙ here.stands in
     let number = numbered i own in
     let elsewhere = left_elsewhere before s i here.switch own stands number.0
     (omega (arith, number.1)) spared.apart in
@@ -309,7 +309,7 @@ fallen_served before journal s numbered served same i travelling =
 
 pub crash_served : (setting : Setting) (before : List Item) (s : ℕ) (journal : List Item)
     → AreNumbered before → ArePacketsServed journal
-    → ((i : ℕ) → (travels journal i ≡ travels before i) × (standing journal i ≡ standing before i))
+    → ((i : ℕ) → (travels_in_journal journal i ≡ travels_in_journal before i) × (journal_standing_of journal i ≡ journal_standing_of before i))
     → ArePacketsServed (journal ++ journal_crash_items setting before s journal)
 unfolding journal_crash_items
 crash_served setting before s journal numbered served same = by_up (is_up before s) where

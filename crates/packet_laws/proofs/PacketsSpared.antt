@@ -1,10 +1,10 @@
 -- What a step leaves of packets that it isn't about: they are on their way as before.
 use Rattle.std.proofs.Common.{[], ◌++◌, ◌+◌, ◌==◌, ◌∙◌, ◌∷◌, ◌≡◌, ◌≤◌, ◌⊎◌, Bool, IsFalse, List, None, Option, Some, arith, eq-eqb, eqb-true, false, filter, if◌then◌else◌, inr, map, ne_eqb, refl, suc, sym, true, unwrap_or, zero, ℕ, rules}
 use Rattle.base.proofs.Exports.{⊤, and_parts, option_or, range_with_len}
-use Rattle.update_machine.specs.Exports.{Action, AuthorityRule, Confirm, Crash, Deliver, Expire, Forget, Found, JournalItemsHaveCauses, Header, Hop, Item, Leg, LinkDown, LinkUp, Lose, Packet, MachinePacketKeeps, Resend, Restart, Setting, Step, Update, machine_arrive_items, machine_authority_items, journal_cache_items, count_of, journal_crash_items, machine_end_items, found_items, machine_item_gives_step, machine_item_gives_travelling, machine_hop_items, is_at, is_packet, is_up, journal_items_then, journal_last_given, machine_leg_items, journal_link_changes, machine_lookup_items, lose_items, machine_move_items, nothing, machine_packet_items, journal_packets_at, piece, journal_present_step, machine_reroute_items, machine_sent_items_from, standing, machine_step_items, travels, journal_travels_at}
+use Rattle.update_machine.specs.Exports.{Action, MachineAuthorityRule, Confirm, Crash, Deliver, Expire, Forget, Found, JournalItemsHaveCauses, Header, Hop, Item, Leg, LinkDown, LinkUp, Lose, Packet, MachinePacketKeeps, Resend, Restart, Setting, Step, Update, machine_arrive_items, machine_authority_items, journal_cache_items, machine_count_of, journal_crash_items, machine_end_items, machine_found_items, machine_item_gives_step, machine_item_gives_travelling, machine_hop_items, is_at_machine_switch, is_machine_packet_entry, is_up, journal_items_then, journal_last_given, machine_leg_items, journal_link_changes, machine_lookup_items, machine_lose_items, machine_move_items, nothing, machine_packet_items, journal_packets_at, piece, journal_present_step, machine_reroute_items, machine_sent_items_from, journal_standing_of, machine_step_items, travels_in_journal, journal_travels_at}
 use Rattle.update_machine.proofs.Exports.{have_append, have_first, have_put, last_given_append, packet_keeps, packets_keep, step_stays}
 use Rattle.control_laws.proofs.Exports.{AreKept, confirm_control, fact_on, have_weaker, serving_more, up_more}
-use Rattle.packet_laws.specs.Exports.{ArePacketsResting, IsPacketMoving, IsPacketServed, HasPacketItemCause, packet_law_ends_with_row, packet_fallen_switch, gives_packet_fall_cause, gives_packet_cause_row, gives_packet_stage}
+use Rattle.packet_laws.specs.Exports.{ArePacketsResting, IsPacketMoving, IsPacketServed, HasPacketItemCause, packet_law_ends_with_row, packet_fallen_switch, gives_fallen_packet_switch, gives_whether_packet_row, gives_packet_stage}
 use Rattle.packet_laws.proofs.PacketOtherBlocks.{AreAside, IsAside, aside_ways, changes_aside, control_aside, deliver_aside, expire_aside, forget_aside, link_aside, resend_aside, restart_aside, update_aside}
 use Rattle.packet_laws.proofs.PacketBlocks.{Ways, hop_ways, lose_ways, packet_ways, stage_stays, travels_more}
 
@@ -16,7 +16,7 @@ use Rattle.packet_laws.proofs.PacketBlocks.{Ways, hop_ways, lose_ways, packet_wa
 -- the packets from this number on are as they were
 abbrev AsBefore : List Item → List Item → ℕ → Type 0
 AsBefore before journal k = (j : ℕ) → k ≤ j
-    → (travels journal j ≡ travels before j) × (standing journal j ≡ standing before j)
+    → (travels_in_journal journal j ≡ travels_in_journal before j) × (journal_standing_of journal j ≡ journal_standing_of before j)
 
 -- the switch went down in its crash
 record WentDown (journal : List Item) (s : ℕ) : Type 0 where
@@ -24,15 +24,15 @@ record WentDown (journal : List Item) (s : ℕ) : Type 0 where
   fell : packet_fallen_switch journal ≡ Some s
   down : IsFalse (is_up journal s)
 
-at_switch : (s : ℕ) (at : Option ℕ) → is_at s at ≡ true → at ≡ Some s
+at_switch : (s : ℕ) (at : Option ℕ) → is_at_machine_switch s at ≡ true → at ≡ Some s
 at_switch s at is = search (rules, eqb-true)
 
 fallen_more : (journal : List Item) (next : Item) → packet_fallen_switch (journal ++ next ∷ [])
-    ≡ unwrap_or (option_or (gives_packet_fall_cause next) (journal_last_given gives_packet_fall_cause journal)) None
+    ≡ unwrap_or (option_or (gives_fallen_packet_switch next) (journal_last_given gives_fallen_packet_switch journal)) None
 unfolding packet_fallen_switch
-fallen_more journal next = cc (last_given_append gives_packet_fall_cause journal (next ∷ []))
+fallen_more journal next = cc (last_given_append gives_fallen_packet_switch journal (next ∷ []))
 
-fallen_stays : (journal : List Item) (next : Item) → gives_packet_fall_cause next ≡ None
+fallen_stays : (journal : List Item) (next : Item) → gives_fallen_packet_switch next ≡ None
     → packet_fallen_switch (journal ++ next ∷ []) ≡ packet_fallen_switch journal
 unfolding packet_fallen_switch
 fallen_stays journal next none = search (rules, last_given_append)
@@ -60,7 +60,7 @@ losts_ways setting before s k (suc n) journal went same = by_test (journal_trave
         → Ways setting journal (map Item.Lost (if b then k ∷ rest else rest))
     by_test false e later = later journal went (λ j above. same j (omega (arith, above)))
     by_test true e later =
-        let both = and_parts (travels before k) (is_at s (standing before k)) e in (
+        let both = and_parts (travels_in_journal before k) (is_at_machine_switch s (journal_standing_of before k)) e in (
           record {
             travelling = (same k (omega arith)).0 ∙ both.0;
             how = inr (record {
@@ -68,7 +68,7 @@ losts_ways setting before s k (suc n) journal went same = by_test (journal_trave
               crashes = went.crashes;
               fell = went.fell;
               down = went.down;
-              stands = (same k (omega arith)).1 ∙ at_switch s (standing before k) both.1;
+              stands = (same k (omega arith)).1 ∙ at_switch s (journal_standing_of before k) both.1;
             });
           },
           later (journal ++ Item.Lost k ∷ []) (lost_on journal s k went) (λ j above. let
@@ -101,7 +101,7 @@ crash_ways setting before s journal crashes same = by_up (is_up before s) where
   by_up true = have_put (HasPacketItemCause setting) (Item.Down s ∷ map Item.Lost (journal_packets_at before s))
       (journal_link_changes setting before) journal (
         crashes,
-        losts_ways setting before s 1 (count_of is_packet before) _ (down_now journal s crashes)
+        losts_ways setting before s 1 (machine_count_of is_machine_packet_entry before) _ (down_now journal s crashes)
             (λ j above. let keeps : MachinePacketKeeps j journal (journal ++ Item.Down s ∷ []) =
             packet_keeps j journal (Item.Down s ∷ []) (refl, tt) in (
               keeps.travels ∙ (same j (omega arith)).0,
@@ -120,7 +120,7 @@ step_now before row step = last_given_append machine_item_gives_step before (Ite
 row_now : (before : List Item) (row : ℕ) (step : Step)
     → packet_law_ends_with_row (before ++ Item.Row row step ∷ []) ≡ true
 unfolding packet_law_ends_with_row
-row_now before row step = cc (last_given_append gives_packet_cause_row before (Item.Row row step ∷ []))
+row_now before row step = cc (last_given_append gives_whether_packet_row before (Item.Row row step ∷ []))
 
 -- the row leaves packets and switches as they are
 pub row_rests : (before : List Item) (row : ℕ) (step : Step) → ArePacketsResting before
@@ -251,12 +251,12 @@ unfolding machine_end_items
 end_spares setting j i s Action.Drop journal apart = ((refl, tt), tt)
 end_spares setting j i s (Action.Out port) journal apart = grind (arith, leg_spares, apart)
 
-cache_spares : (setting : Setting) (j i s : ℕ) (rule : AuthorityRule) (journal : List Item)
+cache_spares : (setting : Setting) (j i s : ℕ) (rule : MachineAuthorityRule) (journal : List Item)
     → Spared j journal (journal_cache_items setting i s rule journal)
 unfolding journal_cache_items machine_sent_items_from
 cache_spares setting j i s rule journal = grind arith
 
-authority_spares : (setting : Setting) (j i s : ℕ) (rule : Option AuthorityRule)
+authority_spares : (setting : Setting) (j i s : ℕ) (rule : Option MachineAuthorityRule)
     (journal : List Item) → Apart i j → Spared j journal (machine_authority_items setting i s rule journal)
 unfolding machine_authority_items
 authority_spares setting j i s None journal apart = tt
@@ -264,7 +264,7 @@ authority_spares setting j i s (Some rule) journal apart =
     grind (arith, have_append, cache_spares, end_spares, apart)
 
 found_spares : (setting : Setting) (j i s : ℕ) (what : Found) (journal : List Item) → Apart i j
-    → Spared j journal (found_items setting i s what journal)
+    → Spared j journal (machine_found_items setting i s what journal)
 found_spares setting j i s what journal apart =
     grind (arith, end_spares, authority_spares, leg_spares, apart)
 
@@ -309,8 +309,8 @@ hop_spares setting j i journal apart = grind (arith, move_spares, apart)
 
 -- ---- other steps
 
-pub lose_spares : (j i : ℕ) (journal : List Item) → Spared j journal (lose_items i journal)
-unfolding lose_items
+pub lose_spares : (j i : ℕ) (journal : List Item) → Spared j journal (machine_lose_items i journal)
+unfolding machine_lose_items
 lose_spares j i journal = grind arith
 
 aside_spares_one : (j : ℕ) (before : List Item) (next : Item) → IsAside before next

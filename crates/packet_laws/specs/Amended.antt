@@ -3,10 +3,10 @@
 -- one. When a `Stamp` raises a switch to the very next version, the cache keeps each rule that the
 -- amendment doesn't touch, unless an entry of that version already has the rule's word.
 use Rattle.std.specs.Prelude.{[], if◌then◌else◌, ◌++◌, ◌+◌, ◌<◌, ◌||◌, ◌∷◌, ◌≡◌, ◌⊎◌, All, Any, Bool, Contains, IsFalse, List, Ok, Some, filter, map, nat_le, ℕ}
-use Rattle.update_machine.specs.Exports.{CacheEntry, Decision, Edit, Header, Hit, Item, Row, Setting, Stamp, journal_body_to_switch, journal_cache_of, journal_decision_of, journal_packet_header, policy_in, journal_stamp_of, machine_touched_by}
-use Rattle.five_tuple.specs.Exports.{fields_of}
-use Rattle.policy_rules.specs.Exports.{IsFirstMatch, applied, policy_row_matches, touched_policy_rows}
-use Rattle.switch_table.specs.Exports.{is_carried, cache_word_meets_touched, under}
+use Rattle.update_machine.specs.Exports.{CacheEntry, Decision, Edit, Header, Hit, Item, Row, Setting, Stamp, journal_body_to_switch, journal_cache_of, journal_decision_of, journal_packet_header, machine_policy_in, journal_stamp_of, machine_touched_by}
+use Rattle.five_tuple.specs.Exports.{header_fields_of}
+use Rattle.policy_rules.specs.Exports.{IsFirstPolicyMatch, policy_change_applied, policy_row_matches, touched_policy_rows}
+use Rattle.switch_table.specs.Exports.{is_cache_entry_carried, cache_word_meets_touched, cache_entry_under}
 use Rattle.ternary.specs.Exports.{WordValue}
 use Rattle.journal.specs.declared.item.Item.TheVariants as item
 use Rattle.packet_laws.specs.Rules.{IsRightPacketCacheEntry}
@@ -20,21 +20,21 @@ pub record ChangeLeavesPacketHeader (setting : Setting) (journal : List Item) (v
   pub rows : List Row
   pub change : List Edit
   pub changed : List Row
-  pub policy : policy_in setting journal version ≡ Some rows
-  pub next : policy_in setting journal (version + 1) ≡ Some changed
-  pub makes : applied rows change ≡ Ok changed
-  pub apart : All (λ row. IsFalse (policy_row_matches row (fields_of header))) (touched_policy_rows rows change)
+  pub policy : machine_policy_in setting journal version ≡ Some rows
+  pub next : machine_policy_in setting journal (version + 1) ≡ Some changed
+  pub makes : policy_change_applied rows change ≡ Ok changed
+  pub apart : All (λ row. IsFalse (policy_row_matches row (header_fields_of header))) (touched_policy_rows rows change)
 
 -- the version has a policy, and this is the header's first match in it
 pub record IsPacketMatchUnder (setting : Setting) (journal : List Item) (version : ℕ) (header : Header)
     (hit : Hit) : Type 0 where
   pub rows : List Row
-  pub policy : policy_in setting journal version ≡ Some rows
-  pub first_match : IsFirstMatch rows header hit
+  pub policy : machine_policy_in setting journal version ≡ Some rows
+  pub first_match : IsFirstPolicyMatch rows header hit
 
 -- the rule and the action of a decision
-abbrev pub hit_in : Decision → Hit
-hit_in decision = record { rule = decision.rule; action = decision.action }
+abbrev pub packet_decision_hit : Decision → Hit
+packet_decision_hit decision = record { rule = decision.rule; action = decision.action }
 
 -- one rule and its action are the first match of the header under this version and the next one;
 -- and each packet with this header that either of them decided got that rule and that action
@@ -45,7 +45,7 @@ pub record ArePacketsDecidedAlike (setting : Setting) (journal : List Item) (ver
   pub after : IsPacketMatchUnder setting journal (version + 1) header hit
   pub decided : (packet : ℕ) (decision : Decision) → journal_packet_header journal packet ≡ Some header
       → journal_decision_of journal packet ≡ Some decision
-      → (decision.version ≡ version) ⊎ (decision.version ≡ version + 1) → hit_in decision ≡ hit
+      → (decision.version ≡ version) ⊎ (decision.version ≡ version + 1) → packet_decision_hit decision ≡ hit
 
 -- this is true of each change and each header, whatever else is in the journal
 abbrev pub ChangesLeaveOtherPackets : Setting → List Item → Type 0
@@ -69,24 +69,24 @@ IsToldToStampPackets before s number boot version touched =
 
 -- the entry outlives the cache's move to a version: it is of this version or a later one; or of
 -- the one before, if its word meets no touched word and no entry of the version has that word
-abbrev pub brought_entry_outlives : ℕ → List WordValue → List CacheEntry → CacheEntry → Bool
-brought_entry_outlives version touched entries entry =
-    nat_le version entry.version || is_carried version touched entries entry
+abbrev pub packet_cache_rule_outlives : ℕ → List WordValue → List CacheEntry → CacheEntry → Bool
+packet_cache_rule_outlives version touched entries entry =
+    nat_le version entry.version || is_cache_entry_carried version touched entries entry
 
 -- the entry, of the same message, under this version; or as it is, if its version isn't lower
-abbrev pub at_least : ℕ → CacheEntry → CacheEntry
-at_least version entry = if nat_le version entry.version then entry else under version entry
+abbrev pub packet_cache_rule_at_least : ℕ → CacheEntry → CacheEntry
+packet_cache_rule_at_least version entry = if nat_le version entry.version then entry else cache_entry_under version entry
 
 -- exactly the entries that outlive the move are left, in their order, each at least at the version
 abbrev pub PacketCacheRulesStayInOrder : ℕ → List WordValue → (before after : List CacheEntry) → Type 0
 PacketCacheRulesStayInOrder version touched before after =
-    after ≡ map (at_least version) (filter (brought_entry_outlives version touched before) before)
+    after ≡ map (packet_cache_rule_at_least version) (filter (packet_cache_rule_outlives version touched before) before)
 
 -- when a message raises the stamp of a switch to a version, the entries of its cache stay in their
 -- order, except those of earlier versions that don't outlive the rise. An entry of the version
 -- before whose word meets no word that the version's change touches has an entry under that version
 -- then: itself, or the one that had its word before
-pub record BroughtCacheRulesOutliveStamp (setting : Setting) (before : List Item) (s number version : ℕ)
+pub record PacketCacheRulesOutliveStamp (setting : Setting) (before : List Item) (s number version : ℕ)
     : Type 0 where
   pub in_order : PacketCacheRulesStayInOrder version (machine_touched_by setting before version)
       (journal_cache_of setting before s).entries
@@ -96,9 +96,9 @@ pub record BroughtCacheRulesOutliveStamp (setting : Setting) (before : List Item
       → IsFalse (cache_word_meets_touched (machine_touched_by setting before version) entry.word)
       → CacheHasPacketEntryUnder setting (before ++ item.Delivered number ∷ []) s version entry
 
-abbrev pub UntouchedCacheRulesStay : Setting → List Item → Type 0
-UntouchedCacheRulesStay setting before =
+abbrev pub UntouchedPacketCacheRulesStay : Setting → List Item → Type 0
+UntouchedPacketCacheRulesStay setting before =
     (s number boot version : ℕ) (touched : List WordValue)
     → IsToldToStampPackets before s number boot version touched
     → journal_stamp_of before s < version
-    → BroughtCacheRulesOutliveStamp setting before s number version
+    → PacketCacheRulesOutliveStamp setting before s number version

@@ -1,11 +1,11 @@
 -- What it means that a fact is true between the steps that a network may take.
 use Rattle.std.specs.Prelude.{[], List, None, Option, Some, take, ℕ}
-use Rattle.update_machine.specs.Exports.{Answers, JournalAnswersSoFar, Event, IsMachinePlay, IsJournalReached, Item, Setting, StepOfRow, journal_after_steps}
-use Rattle.control_laws.specs.Exports.{AreNetworkEvents}
+use Rattle.update_machine.specs.Exports.{Answers, JournalAnswersSoFar, Event, IsMachinePlay, IsJournalReached, Item, Setting, MachineStepOfRow, journal_after_steps}
+use Rattle.control_laws.specs.Exports.{AreControlNetworkEvents}
 
 -- the steps of a play, in order
 abbrev pub packet_steps_played : (setting : Setting) (events : List Event) (journal : List Item)
-    (full : Option ℕ) → IsMachinePlay setting events journal full → List StepOfRow
+    (full : Option ℕ) → IsMachinePlay setting events journal full → List MachineStepOfRow
 packet_steps_played setting events journal None play = play.answers.steps
 packet_steps_played setting events journal (Some row) play = play.steps
 
@@ -15,11 +15,11 @@ pub record PacketLawHoldsBetween (Holds : Setting → List Item → Type 0) : Ty
   pub reached : (setting : Setting) (journal : List Item) → IsJournalReached setting journal
       → Holds setting journal
   pub answered : (setting : Setting) (events : List Event) (journal : List Item)
-      → AreNetworkEvents setting events → Answers setting events journal → Holds setting journal
+      → AreControlNetworkEvents setting events → Answers setting events journal → Holds setting journal
   pub so_far : (setting : Setting) (events : List Event) (journal : List Item)
-      → AreNetworkEvents setting events → JournalAnswersSoFar setting events journal → Holds setting journal
+      → AreControlNetworkEvents setting events → JournalAnswersSoFar setting events journal → Holds setting journal
   pub played : (setting : Setting) (events : List Event) (journal : List Item)
-      (full : Option ℕ) → AreNetworkEvents setting events → (play : IsMachinePlay setting events journal full)
+      (full : Option ℕ) → AreControlNetworkEvents setting events → (play : IsMachinePlay setting events journal full)
       → (n : ℕ)
       → Holds setting
       (journal_after_steps setting [] (take n (packet_steps_played setting events journal full play)))

@@ -7,38 +7,38 @@ use Rattle.update_machine.specs.Exports.{Deliver, Event, Header, Hop, Item, One,
 use Rattle.journal.specs.declared.item.Item.TheVariants as item
 
 -- a row of a schedule that names one step
-pub record StepRow : Type 0 where
+pub record PacketLawStepRow : Type 0 where
   pub row : ℕ
   pub step : Step
 
 -- the step's row; none for a hop or a delivery, which may be a step of a drain or a flush too
-abbrev pub packet_law_step_row : ℕ → Step → List StepRow
+abbrev pub packet_law_step_row : ℕ → Step → List PacketLawStepRow
 packet_law_step_row row (Hop packet) = []
 packet_law_step_row row (Deliver message) = []
 packet_law_step_row row step = record { row = row; step = step } ∷ []
 
-abbrev pub packet_law_event_row : ℕ → Event → List StepRow
+abbrev pub packet_law_event_row : ℕ → Event → List PacketLawStepRow
 packet_law_event_row row (One step) = packet_law_step_row row step
 packet_law_event_row row _ = []
 
 -- the step rows of these events; the first event has this row number
-abbrev pub packet_law_step_rows : ℕ → List Event → List StepRow
+abbrev pub packet_law_step_rows : ℕ → List Event → List PacketLawStepRow
 packet_law_step_rows row [] = []
 packet_law_step_rows row (event ∷ events) = packet_law_event_row row event ++ packet_law_step_rows (row + 1) events
 
 -- the step rows that were played: all, or those before the row at which the play stopped full
-abbrev pub packet_law_rows_played : Option ℕ → List Event → List StepRow
+abbrev pub packet_law_rows_played : Option ℕ → List Event → List PacketLawStepRow
 packet_law_rows_played None events = packet_law_step_rows 1 events
 packet_law_rows_played (Some row) events = packet_law_step_rows 1 (take (row - 1) events)
 
 -- ---- in a journal
 
-abbrev pub gives_packet_law_step_row : Item → List StepRow
+abbrev pub gives_packet_law_step_row : Item → List PacketLawStepRow
 gives_packet_law_step_row (item.Row row step) = packet_law_step_row row step
 gives_packet_law_step_row _ = []
 
 -- the step rows that a journal has, in order
-abbrev pub packet_law_step_rows_in : List Item → List StepRow
+abbrev pub packet_law_step_rows_in : List Item → List PacketLawStepRow
 packet_law_step_rows_in journal = journal_all_given gives_packet_law_step_row journal
 
 -- the item says that packet i entered with this header at the switch, if the switch serves; or, if
@@ -63,6 +63,6 @@ EachPacketRowEnters before (item.Closed packet switch ∷ items) = ⊥
 EachPacketRowEnters before (first ∷ items) = EachPacketRowEnters (before ++ first ∷ []) items
 
 -- the journal has these rows, each packet row with its entry, and no other entry
-pub record AreEntered (rows : List StepRow) (journal : List Item) : Type 0 where
+pub record ArePacketRowsEntered (rows : List PacketLawStepRow) (journal : List Item) : Type 0 where
   pub in_order : packet_law_step_rows_in journal ≡ rows
   pub each : EachPacketRowEnters [] journal

@@ -1,7 +1,7 @@
 -- All that a journal says about one packet, as one value, and how each item changes it.
 use Rattle.std.specs.Prelude.{if◌then◌else◌, ◌+◌, ◌==◌, Bool, List, Option, Some, false, option_and_then, true, unwrap_or, ℕ}
-use Rattle.failover.specs.Exports.{with_link}
-use Rattle.update_machine.specs.Exports.{Decision, Exit, Header, Item, Leg, Seek, journal_decision_of, journal_folded_value, journal_found_down, journal_packet_header, journal_ingress_of, journal_leg_of, machine_port_of_action, journal_retired_mark, journal_route_in, route_place, standing, travels}
+use Rattle.failover.specs.Exports.{with_failover_link}
+use Rattle.update_machine.specs.Exports.{Decision, Exit, Header, Item, Leg, Seek, journal_decision_of, journal_folded_value, journal_found_down, journal_packet_header, journal_ingress_of, journal_leg_of, machine_port_of_action, journal_retired_mark, journal_route_in, journal_route_place, journal_standing_of, travels_in_journal}
 use Rattle.journal.specs.declared.item.Item.TheVariants as item
 
 -- ---- the mark of a packet
@@ -12,8 +12,8 @@ changes_packet_entry_mark i before mark (item.Entered packet switch header) =
 changes_packet_entry_mark i before mark _ = mark
 
 -- the mark up to which versions were retired when the packet entered; 0 if it didn't enter
-unfoldable pub entry_mark : List Item → ℕ → ℕ
-entry_mark journal i = journal_folded_value (changes_packet_entry_mark i) 0 journal
+unfoldable pub packet_entry_mark : List Item → ℕ → ℕ
+packet_entry_mark journal i = journal_folded_value (changes_packet_entry_mark i) 0 journal
 
 -- ---- all that is known of it
 
@@ -33,14 +33,14 @@ unfoldable pub packet_facts_of : List Item → ℕ → PacketFacts
 packet_facts_of journal i = record {
   header = journal_packet_header journal i;
   ingress = journal_ingress_of journal i;
-  stands = standing journal i;
-  travels = travels journal i;
+  stands = journal_standing_of journal i;
+  travels = travels_in_journal journal i;
   decision = journal_decision_of journal i;
   leg = journal_leg_of journal i;
   route = journal_route_in journal i;
-  hops = route_place journal i;
+  hops = journal_route_place journal i;
   found = journal_found_down journal i;
-  mark = entry_mark journal i;
+  mark = packet_entry_mark journal i;
 }
 
 -- the port by which a packet with this decision leaves; 0 if it has no decision or no port
@@ -70,7 +70,7 @@ packet_facts_after mark (item.Rerouted packet route) facts = record facts { rout
 packet_facts_after mark (item.Hopped packet switch) facts =
     record facts { stands = Some switch; hops = facts.hops + 1 }
 packet_facts_after mark (item.FoundDown packet one two) facts =
-    record facts { found = with_link facts.found one two }
+    record facts { found = with_failover_link facts.found one two }
 packet_facts_after mark (item.Decided packet version rule action how) facts = record facts {
   decision = Some (record { version = version; rule = rule; action = action });
 }
@@ -81,16 +81,16 @@ packet_facts_after mark (item.Stuck packet switch cause leg down) facts = record
 packet_facts_after mark _ facts = facts
 
 -- the item names the packet
-abbrev pub is_item_of_packet_facts : ℕ → Item → Bool
-is_item_of_packet_facts i (item.Entered packet switch header) = packet == i
-is_item_of_packet_facts i (item.Seeking packet version partition route) = packet == i
-is_item_of_packet_facts i (item.Exiting packet route) = packet == i
-is_item_of_packet_facts i (item.Rerouted packet route) = packet == i
-is_item_of_packet_facts i (item.Hopped packet switch) = packet == i
-is_item_of_packet_facts i (item.FoundDown packet one two) = packet == i
-is_item_of_packet_facts i (item.Decided packet version rule action how) = packet == i
-is_item_of_packet_facts i (item.Left packet port leaving) = packet == i
-is_item_of_packet_facts i (item.Dropped packet) = packet == i
-is_item_of_packet_facts i (item.Lost packet) = packet == i
-is_item_of_packet_facts i (item.Stuck packet switch cause leg down) = packet == i
-is_item_of_packet_facts i _ = false
+abbrev pub is_item_of_entered_packet : ℕ → Item → Bool
+is_item_of_entered_packet i (item.Entered packet switch header) = packet == i
+is_item_of_entered_packet i (item.Seeking packet version partition route) = packet == i
+is_item_of_entered_packet i (item.Exiting packet route) = packet == i
+is_item_of_entered_packet i (item.Rerouted packet route) = packet == i
+is_item_of_entered_packet i (item.Hopped packet switch) = packet == i
+is_item_of_entered_packet i (item.FoundDown packet one two) = packet == i
+is_item_of_entered_packet i (item.Decided packet version rule action how) = packet == i
+is_item_of_entered_packet i (item.Left packet port leaving) = packet == i
+is_item_of_entered_packet i (item.Dropped packet) = packet == i
+is_item_of_entered_packet i (item.Lost packet) = packet == i
+is_item_of_entered_packet i (item.Stuck packet switch cause leg down) = packet == i
+is_item_of_entered_packet i _ = false

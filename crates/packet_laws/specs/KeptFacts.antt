@@ -1,7 +1,7 @@
 -- The invariants of packets and cache rules that each item keeps, whatever a packet's stage is.
 use Rattle.std.specs.Prelude.{◌+◌, ◌<◌, ◌≡◌, ◌≤◌, ◌⊎◌, All, IsFalse, IsTrue, List, None, Option, Some, slice_get, ℕ, ⊤}
-use Rattle.update_machine.specs.Exports.{Body, CacheRule, Decision, Header, Item, Message, NamesSettingPort, Seek, Setting, journal_cache_of, journal_current_mark, journal_message_of, journal_next_packet, policy_at}
-use Rattle.failover.specs.Exports.{has_route_link}
+use Rattle.update_machine.specs.Exports.{Body, CacheRule, Decision, Header, Item, Message, NamesMachineSettingPort, Seek, Setting, journal_cache_of, journal_current_mark, journal_message_of, journal_next_packet, machine_policy_at}
+use Rattle.failover.specs.Exports.{link_set_has}
 use Rattle.policy_rules.specs.Exports.{scan}
 use Rattle.packet_laws.specs.Rules.{IsRightPacketCacheEntry, IsRightPacketRule}
 use Rattle.packet_laws.specs.OnWay.{IsPacketOnWay, IsSoughtByPacket, IsPacketUnderWay, IsUnknownPacket}
@@ -11,7 +11,7 @@ use Rattle.packet_laws.specs.Stages.{Blocked, CameIn, Judged, OnWay, PacketStage
 -- the route uses none of the links of the set
 abbrev pub PacketRouteAvoidsFound : List ℕ → List ℕ → Type 0
 PacketRouteAvoidsFound down route = (k one two : ℕ) → slice_get route k ≡ Some one
-    → slice_get route (k + 1) ≡ Some two → IsFalse (has_route_link down one two)
+    → slice_get route (k + 1) ≡ Some two → IsFalse (link_set_has down one two)
 
 -- the packet was decided by the first match of a version that wasn't retired when it entered and
 -- is at most the current one
@@ -21,9 +21,9 @@ pub record IsPacketRightlyDecided (setting : Setting) (journal : List Item) (fac
   pub decided : facts.decision ≡ Some decision
   pub not_retired : facts.mark < decision.version
   pub current : decision.version ≤ journal_current_mark journal
-  pub first_match : scan (policy_at setting journal decision.version) header
+  pub first_match : scan (machine_policy_at setting journal decision.version) header
       ≡ record { rule = decision.rule; action = decision.action }
-  pub named : NamesSettingPort setting decision.action
+  pub named : NamesMachineSettingPort setting decision.action
   pub sought : (version partition : ℕ) → facts.leg ≡ Some (Seek version partition)
       → IsSoughtByPacket setting journal facts.mark header version partition
 
@@ -42,15 +42,15 @@ pub record HasKeptPacketFacts (setting : Setting) (journal : List Item) (facts :
   pub avoids : IsTrue facts.travels → stage ≡ Some OnWay → PacketRouteAvoidsFound facts.found facts.route
 
 -- a cache rule that a body brings is right
-abbrev pub BringsRightRule : Setting → List Item → Body → Type 0
-BringsRightRule setting journal (CacheRule version word rule action) =
+abbrev pub BringsRightPacketRule : Setting → List Item → Body → Type 0
+BringsRightPacketRule setting journal (CacheRule version word rule action) =
     IsRightPacketRule setting journal version word rule action
-BringsRightRule setting journal _ = ⊤
+BringsRightPacketRule setting journal _ = ⊤
 
 -- this is true of all packets, of those that didn't enter, of all messages sent, and of all caches
 pub record AllPacketFactsKept (setting : Setting) (journal : List Item) : Type 0 where
   pub packets : (i : ℕ) → HasKeptPacketFacts setting journal (packet_facts_of journal i) (packet_stage_of journal i)
   pub unknown : (i : ℕ) → journal_next_packet journal ≤ i → IsUnknownPacket (packet_facts_of journal i)
   pub sent : (n : ℕ) (message : Message) → journal_message_of journal n ≡ Some message
-      → BringsRightRule setting journal message.body
+      → BringsRightPacketRule setting journal message.body
   pub cached : (s : ℕ) → All (IsRightPacketCacheEntry setting journal) (journal_cache_of setting journal s).entries

@@ -2,18 +2,18 @@
 use Rattle.std.specs.Prelude.{[], ◌∷◌, ◌≤◌, List, drop, take, ℕ, ⊤}
 use Rattle.update_machine.specs.Exports.{AreMachineMarksSettled, HasMachineCause, JournalItemsHaveCauses, IsMachineRun, Item, Setting}
 use Rattle.journal.specs.declared.item.Item.TheVariants as item
-use Rattle.packet_laws.specs.Hops.{detour_count, exit_count, packet_hops_taken, most_packet_hops, most_packet_route_switches, packet_routes_taken, search_count}
+use Rattle.packet_laws.specs.Hops.{packet_detour_count, packet_exit_count, packet_hops_taken, most_packet_hops, most_packet_route_switches, packet_routes_taken, packet_search_count}
 use Rattle.packet_laws.specs.Routes.{packet_route_hops, most_packet_routes}
-use Rattle.packet_laws.specs.StrongCauses.{StrongCause}
+use Rattle.packet_laws.specs.StrongCauses.{PacketStrongCause}
 use Rattle.packet_laws.specs.Travelling.{PacketsTravel}
 use Rattle.packet_laws.specs.Whole.{PacketLawsKeepVersionsWhole}
 
 -- the packet took at most 64 routes to authorities, one to its port and 256 around links; and,
 -- while it travelled, at most 64 hops on its last route, and 20,544 in all
 pub record PacketTakesFewHops (journal : List Item) (i : ℕ) : Type 0 where
-  pub searches : search_count journal i ≤ 64
-  pub exits : exit_count journal i ≤ 1
-  pub detours : detour_count journal i ≤ 256
+  pub searches : packet_search_count journal i ≤ 64
+  pub exits : packet_exit_count journal i ≤ 1
+  pub detours : packet_detour_count journal i ≤ 256
   pub routes : packet_routes_taken journal i ≤ most_packet_routes
   pub on_route : packet_route_hops journal i ≤ most_packet_route_switches
   pub hops : packet_hops_taken journal i ≤ most_packet_hops
@@ -23,7 +23,7 @@ pub record PacketTakesFewHops (journal : List Item) (i : ℕ) : Type 0 where
 pub record PacketLawsHoldSoFar (setting : Setting) (journal : List Item) : Type 0 where
   pub run : IsMachineRun setting journal
   pub causes : JournalItemsHaveCauses (HasMachineCause setting) [] journal
-  pub strong : JournalItemsHaveCauses (StrongCause setting) [] journal
+  pub strong : JournalItemsHaveCauses (PacketStrongCause setting) [] journal
   pub versions : PacketLawsKeepVersionsWhole setting journal
   pub few : (i : ℕ) → PacketTakesFewHops journal i
 

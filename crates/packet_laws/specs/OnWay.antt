@@ -1,12 +1,12 @@
 -- A packet on its way: it is at a place on a route that ends at a target of its leg.
 use Rattle.std.specs.Prelude.{[], ◌+◌, ◌-◌, ◌<◌, ◌∷◌, ◌≡◌, ◌≤◌, IsTrue, List, None, Option, Some, false, find, length, nat_eq, slice_get, ℕ}
 use Rattle.base.specs.Exports.{has, list_any}
-use Rattle.failover.specs.Exports.{IsRouteList, no_links}
+use Rattle.failover.specs.Exports.{IsRouteList, no_failover_links}
 use Rattle.five_tuple.specs.Exports.{IsHeader}
 use Rattle.update_machine.specs.Exports.{Decision, Exit, Header, Item, Leg, Out, Seek, Setting, journal_current_mark, journal_plan_at, journal_retired_mark}
 use Rattle.net_file.specs.Exports.{links_of, net_port_owner}
 use Rattle.policy_rules.specs.Exports.{is_in_policy_partition}
-use Rattle.switch_table.specs.Exports.{Hosted, part_of}
+use Rattle.switch_table.specs.Exports.{HostedPolicyPartition, switch_table_part_of}
 use Rattle.packet_laws.specs.Facts.{PacketFacts}
 
 -- ---- routes
@@ -37,12 +37,12 @@ PacketRouteStartsAt switch route = slice_get route 0 ≡ Some switch
 -- the partition at this place of the version's plan, which is its number; it is the first whose
 -- region holds the header
 pub record IsPacketPartitionOf (setting : Setting) (journal : List Item) (header : Header)
-    (version partition : ℕ) (hosted : Hosted) : Type 0 where
+    (version partition : ℕ) (hosted : HostedPolicyPartition) : Type 0 where
   pub found : slice_get (journal_plan_at setting journal version) partition ≡ Some hosted
   pub number : hosted.0.number ≡ partition
-  pub first : find (λ other. is_in_policy_partition header (part_of other)) (journal_plan_at setting journal version)
+  pub first : find (λ other. is_in_policy_partition header (switch_table_part_of other)) (journal_plan_at setting journal version)
       ≡ Some hosted
-  pub holds : IsTrue (is_in_policy_partition header (part_of hosted))
+  pub holds : IsTrue (is_in_policy_partition header (switch_table_part_of hosted))
 
 -- a packet of this mark seeks the partition whose region holds its header, by a version that
 -- wasn't retired when it entered and is at most the current one
@@ -50,7 +50,7 @@ pub record IsSoughtByPacket (setting : Setting) (journal : List Item) (mark : �
     (version partition : ℕ) : Type 0 where
   pub not_retired : mark < version
   pub current : version ≤ journal_current_mark journal
-  pub hosted : Hosted
+  pub hosted : HostedPolicyPartition
   pub own : IsPacketPartitionOf setting journal header version partition hosted
 
 -- on its way to an authority the packet is undecided, and its route leads to one of the partition
@@ -120,4 +120,4 @@ pub record IsUnknownPacket (facts : PacketFacts) : Type 0 where
   pub travels : facts.travels ≡ false
   pub decision : facts.decision ≡ None
   pub leg : facts.leg ≡ None
-  pub found : facts.found ≡ no_links
+  pub found : facts.found ≡ no_failover_links

@@ -2,7 +2,7 @@
 -- packet. They depend only on the items, for steps of all kinds; packets are those of Yu, Rexford,
 -- Freedman and Wang, "Scalable Flow-Based Networking with DIFANE".
 use Rattle.std.specs.Prelude.{◌==◌, ◌≡◌, ◌⊎◌, Bool, IsFalse, IsTrue, List, None, Option, Some, false, true, unwrap_or, ℕ, ⊤}
-use Rattle.update_machine.specs.Exports.{Action, AuthorityRule, Body, CacheEntry, CacheRule, Cause, Crash, Decision, Exit, Header, How, IsMachineLinkStep, Item, Leaving, Leg, Lose, Message, Packet, Restart, Seek, Setting, Update, journal_authority_rule, cache_rule, journal_stuck_cause_at, journal_decision_of, first_place, journal_found_down, journal_packet_header_at, holds_version, journal_ingress_of, is_at, is_up, journal_last_given, journal_leaving_item, journal_leg_of, lookup_at, near, journal_next_packet, journal_next_switch, owner, journal_present_step, journal_packet_route, serves, journal_stamp_of, standing, travels}
+use Rattle.update_machine.specs.Exports.{Action, MachineAuthorityRule, Body, CacheEntry, CacheRule, Cause, Crash, Decision, Exit, Header, How, IsMachineLinkStep, Item, Leaving, Leg, Lose, Message, Packet, Restart, Seek, Setting, Update, journal_authority_rule, machine_cache_rule, journal_stuck_cause_at, journal_decision_of, machine_first_rule_place, journal_found_down, journal_packet_header_at, holds_version, journal_ingress_of, is_at_machine_switch, is_up, journal_last_given, journal_leaving_item, journal_leg_of, machine_lookup_at, near, journal_next_packet, journal_next_switch, owner, journal_present_step, journal_packet_route, serves, journal_stamp_of, journal_standing_of, travels_in_journal}
 use Rattle.base.specs.Exports.{has}
 use Rattle.policy_rules.specs.declared.packet.How.TheVariants as how
 use Rattle.policy_rules.specs.declared.policy.Action.TheVariants as action
@@ -14,17 +14,17 @@ use Rattle.packet_laws.specs.Stages.{Blocked, CameIn, Judged, OnWay, packet_stag
 
 -- the packet travels, and is at the switch, which serves
 pub record IsPacketAt (before : List Item) (packet switch : ℕ) : Type 0 where
-  pub travelling : IsTrue (travels before packet)
-  pub stands : unwrap_or (standing before packet) 0 ≡ switch
+  pub travelling : IsTrue (travels_in_journal before packet)
+  pub stands : unwrap_or (journal_standing_of before packet) 0 ≡ switch
   pub serving : IsTrue (serves before switch)
 
-abbrev pub gives_packet_cause_row : Item → Option Bool
-gives_packet_cause_row (item.Row row step) = Some true
-gives_packet_cause_row _ = Some false
+abbrev pub gives_whether_packet_row : Item → Option Bool
+gives_whether_packet_row (item.Row row step) = Some true
+gives_whether_packet_row _ = Some false
 
 -- the last item is the row of a step
 unfoldable pub packet_law_ends_with_row : List Item → Bool
-packet_law_ends_with_row journal = unwrap_or (journal_last_given gives_packet_cause_row journal) false
+packet_law_ends_with_row journal = unwrap_or (journal_last_given gives_whether_packet_row journal) false
 
 -- the packet enters, or is closed, right after its row, under the next number
 pub record PacketIsOfRow (before : List Item) (packet switch : ℕ) (header : Header) : Type 0 where
@@ -62,7 +62,7 @@ pub record IsPacketRedirectedHere (setting : Setting) (before : List Item)
     (packet switch version partition : ℕ) : Type 0 where
   pub looked_up : IsPacketLookedUp before packet switch
   pub targets : List ℕ
-  pub answer : lookup_at setting before switch (journal_packet_header_at before packet)
+  pub answer : machine_lookup_at setting before switch (journal_packet_header_at before packet)
       ≡ found.Redirect partition targets
   pub stamp : version ≡ journal_stamp_of before switch
 
@@ -136,7 +136,7 @@ pub record PacketMeetsDown (setting : Setting) (before : List Item) (packet one 
 -- the switch's lookup returns the place of its own rule
 pub record PacketAnswersHere (setting : Setting) (before : List Item)
     (packet switch version partition place : ℕ) : Type 0 where
-  pub answer : lookup_at setting before switch (journal_packet_header_at before packet)
+  pub answer : machine_lookup_at setting before switch (journal_packet_header_at before packet)
       ≡ found.Authority partition place
   pub stamp : version ≡ journal_stamp_of before switch
 
@@ -144,11 +144,11 @@ pub record PacketAnswersHere (setting : Setting) (before : List Item)
 pub record PacketSeeksHere (setting : Setting) (before : List Item)
     (packet version partition place : ℕ) : Type 0 where
   pub seeks : journal_leg_of before packet ≡ Some (Seek version partition)
-  pub first : place ≡ first_place setting before version partition (journal_packet_header_at before packet)
+  pub first : place ≡ machine_first_rule_place setting before version partition (journal_packet_header_at before packet)
 
 -- an authority rule of the switch for the packet
-pub record AuthorityFinds (setting : Setting) (before : List Item) (packet switch version : ℕ)
-    (found : AuthorityRule) : Type 0 where
+pub record PacketAuthorityFinds (setting : Setting) (before : List Item) (packet switch version : ℕ)
+    (found : MachineAuthorityRule) : Type 0 where
   pub partition : ℕ
   pub place : ℕ
   pub rule : journal_authority_rule setting before version partition place ≡ Some found
@@ -160,7 +160,7 @@ pub record CacheDecidesPacket (setting : Setting) (before : List Item) (packet s
     (rule : Option ℕ) (action : Action) (message : ℕ) : Type 0 where
   pub looked_up : IsPacketLookedUp before packet switch
   pub entry : CacheEntry
-  pub answer : lookup_at setting before switch (journal_packet_header_at before packet) ≡ found.Cached entry
+  pub answer : machine_lookup_at setting before switch (journal_packet_header_at before packet) ≡ found.Cached entry
   pub of_version : version ≡ entry.version
   pub by_rule : rule ≡ entry.rule
   pub says : action ≡ entry.action
@@ -176,8 +176,8 @@ pub record PacketReachesAuthority (before : List Item) (packet switch version : 
 -- an authority rule decides it, when it is looked up or arrives
 pub record AuthorityDecidesPacket (setting : Setting) (before : List Item) (packet switch version : ℕ)
     (rule : Option ℕ) (action : Action) (partition : ℕ) : Type 0 where
-  pub found : AuthorityRule
-  pub finds : AuthorityFinds setting before packet switch version found
+  pub found : MachineAuthorityRule
+  pub finds : PacketAuthorityFinds setting before packet switch version found
   pub when : IsPacketLookedUpBy before packet switch version
       ⊎ PacketReachesAuthority before packet switch version
   pub by_rule : rule ≡ found.rule.rule
@@ -203,16 +203,16 @@ pub record PacketSendsRule (setting : Setting) (before : List Item) (message : M
   pub switch : ℕ
   pub at : IsPacketAt before packet switch
   pub judged : packet_stage_of before packet ≡ Some Judged
-  pub found : AuthorityRule
-  pub finds : AuthorityFinds setting before packet switch found.version found
+  pub found : MachineAuthorityRule
+  pub finds : PacketAuthorityFinds setting before packet switch found.version found
   pub decided : journal_decision_of before packet ≡ Some (record {
     version = found.version;
     rule = found.rule.rule;
     action = found.rule.action;
   })
-  pub apart : is_at switch (journal_ingress_of before packet) ≡ false
+  pub apart : is_at_machine_switch switch (journal_ingress_of before packet) ≡ false
   pub says : message
-      ≡ cache_rule found (unwrap_or (journal_ingress_of before packet) 0) (journal_packet_header_at before packet)
+      ≡ machine_cache_rule found (unwrap_or (journal_ingress_of before packet) 0) (journal_packet_header_at before packet)
 
 -- ---- ends
 
@@ -240,14 +240,14 @@ pub record IsPacketDroppedHere (before : List Item) (packet : ℕ) : Type 0 wher
   pub decided : journal_decision_of before packet ≡ Some decision
   pub action : decision.action ≡ action.Drop
 
-abbrev pub gives_packet_fall_cause : Item → Option (Option ℕ)
-gives_packet_fall_cause (item.Row row step) = Some None
-gives_packet_fall_cause (item.Down switch) = Some (Some switch)
-gives_packet_fall_cause _ = None
+abbrev pub gives_fallen_packet_switch : Item → Option (Option ℕ)
+gives_fallen_packet_switch (item.Row row step) = Some None
+gives_fallen_packet_switch (item.Down switch) = Some (Some switch)
+gives_fallen_packet_switch _ = None
 
 -- the switch that went down in the step that is being taken
 unfoldable pub packet_fallen_switch : List Item → Option ℕ
-packet_fallen_switch journal = unwrap_or (journal_last_given gives_packet_fall_cause journal) None
+packet_fallen_switch journal = unwrap_or (journal_last_given gives_fallen_packet_switch journal) None
 
 -- the packet is at the switch that went down in this very crash
 pub record IsPacketLostInCrash (before : List Item) (packet : ℕ) : Type 0 where
@@ -255,10 +255,10 @@ pub record IsPacketLostInCrash (before : List Item) (packet : ℕ) : Type 0 wher
   pub crashes : journal_present_step before ≡ Some (Crash switch)
   pub fell : packet_fallen_switch before ≡ Some switch
   pub down : IsFalse (is_up before switch)
-  pub stands : standing before packet ≡ Some switch
+  pub stands : journal_standing_of before packet ≡ Some switch
 
 pub record IsPacketLostHere (before : List Item) (packet : ℕ) : Type 0 where
-  pub travelling : IsTrue (travels before packet)
+  pub travelling : IsTrue (travels_in_journal before packet)
   pub how : (journal_present_step before ≡ Some (Lose packet)) ⊎ IsPacketLostInCrash before packet
 
 -- ---- all items

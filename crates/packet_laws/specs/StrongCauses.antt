@@ -3,11 +3,11 @@
 -- or is lost by a row, or stuck because no route is known.
 use Rattle.std.specs.Prelude.{◌<◌, ◌≡◌, ◌≢◌, ◌≤◌, IsFalse, List, None, Some, ℕ, ⊤}
 use Rattle.failover.specs.Exports.{IsRoute}
-use Rattle.update_machine.specs.Exports.{Cause, Exit, MachineFindsNextDown, MachineFindsNoPath, Item, MachineLeavesRightly, Leg, Seek, MachineLegSeeksOwn, Setting, journal_stuck_cause_at, journal_current_mark, journal_decision_of, journal_found_down, holds_version, journal_leg_of, journal_links_known, journal_route_from, standing, journal_leg_targets}
+use Rattle.update_machine.specs.Exports.{Cause, Exit, MachineFindsNextDown, MachineFindsNoPath, Item, MachineLeavesRightly, Leg, Seek, MachineLegSeeksOwn, Setting, journal_stuck_cause_at, journal_current_mark, journal_decision_of, journal_found_down, holds_version, journal_leg_of, journal_links_known, journal_route_from, journal_standing_of, journal_leg_targets}
 use Rattle.journal.specs.declared.item.Item.TheVariants as item
-use Rattle.steps.specs.Exports.{HasLink}
+use Rattle.steps.specs.Exports.{StepLinkExists}
 use Rattle.control_laws.specs.Exports.{ControlRetirementHasCause, ControlSubmissionHasCause}
-use Rattle.packet_laws.specs.Facts.{entry_mark}
+use Rattle.packet_laws.specs.Facts.{packet_entry_mark}
 use Rattle.packet_laws.specs.KeptFacts.{PacketRouteAvoidsFound}
 use Rattle.packet_laws.specs.Stages.{Blocked, packet_stage_of}
 use Rattle.packet_laws.specs.PacketCauses.{HasPacketItemCause}
@@ -17,13 +17,13 @@ use Rattle.packet_laws.specs.PacketCauses.{HasPacketItemCause}
 pub record PacketFindsLinkDown (setting : Setting) (before : List Item) (packet one two : ℕ) : Type 0
   where
     pub finds : MachineFindsNextDown setting before packet one two
-    pub linked : HasLink setting.net one two
+    pub linked : StepLinkExists setting.net one two
 
 -- the packet is undecided, and the version, by which it seeks an authority or is being decided,
 -- wasn't retired when it entered and is at most the current one
 pub record PacketSeeksRightly (before : List Item) (packet version : ℕ) : Type 0 where
   pub undecided : journal_decision_of before packet ≡ None
-  pub not_retired : entry_mark before packet < version
+  pub not_retired : packet_entry_mark before packet < version
   pub current : version ≤ journal_current_mark before
 
 abbrev pub IsPacketOnRightLeg : List Item → ℕ → Leg → Type 0
@@ -39,7 +39,7 @@ PacketRaisesVersion before packet version = (earlier partition : ℕ)
 abbrev pub PacketRaisesUnheld : List Item → ℕ → ℕ → Type 0
 PacketRaisesUnheld before packet version = (earlier partition switch : ℕ)
     → journal_leg_of before packet ≡ Some (Seek earlier partition)
-    → standing before packet ≡ Some switch → IsFalse (holds_version before switch earlier)
+    → journal_standing_of before packet ≡ Some switch → IsFalse (holds_version before switch earlier)
     → earlier < version
 
 -- so does a lookup after which the packet is stuck at once, before it found a link of the leg down
@@ -69,13 +69,13 @@ PacketAvoidsFound before packet route = PacketRouteAvoidsFound (journal_found_do
 pub record IsLeastPacketRoute (setting : Setting) (before : List Item) (packet : ℕ) (leg : Leg)
     (route : List ℕ) : Type 0 where
   pub switch : ℕ
-  pub stands : standing before packet ≡ Some switch
+  pub stands : journal_standing_of before packet ≡ Some switch
   pub least : (let links = journal_links_known setting before switch (journal_found_down before packet) in
       IsRoute links switch (journal_leg_targets setting before leg) (Some route))
   pub avoids : PacketAvoidsFound before packet route
 
 -- it takes a least route to the port of its decision
-pub record ExitsByLeast (setting : Setting) (before : List Item) (packet : ℕ) (route : List ℕ)
+pub record PacketExitsByLeast (setting : Setting) (before : List Item) (packet : ℕ) (route : List ℕ)
     : Type 0 where
   pub port : ℕ
   pub own_leg : MachineLegSeeksOwn setting before packet (Exit port)
@@ -89,25 +89,25 @@ pub record PacketTurnsToLeast (setting : Setting) (before : List Item) (packet :
   pub by : IsLeastPacketRoute setting before packet leg route
 
 -- what is required of an item beyond its cause
-abbrev pub FurtherCause : Setting → List Item → Item → Type 0
-FurtherCause setting before (item.Submitted file version) =
+abbrev pub PacketFurtherCause : Setting → List Item → Item → Type 0
+PacketFurtherCause setting before (item.Submitted file version) =
     ControlSubmissionHasCause setting before file version
-FurtherCause setting before (item.Retired version) = ControlRetirementHasCause setting before version
-FurtherCause setting before (item.Seeking packet version partition route) =
+PacketFurtherCause setting before (item.Retired version) = ControlRetirementHasCause setting before version
+PacketFurtherCause setting before (item.Seeking packet version partition route) =
     PacketRaisesVersion before packet version
     × IsLeastPacketRoute setting before packet (Seek version partition) route
-FurtherCause setting before (item.Exiting packet route) = ExitsByLeast setting before packet route
-FurtherCause setting before (item.Rerouted packet route) = PacketTurnsToLeast setting before packet route
-FurtherCause setting before (item.FoundDown packet one two) =
+PacketFurtherCause setting before (item.Exiting packet route) = PacketExitsByLeast setting before packet route
+PacketFurtherCause setting before (item.Rerouted packet route) = PacketTurnsToLeast setting before packet route
+PacketFurtherCause setting before (item.FoundDown packet one two) =
     PacketFindsLinkDown setting before packet one two
-FurtherCause setting before (item.Decided packet version rule action how) =
+PacketFurtherCause setting before (item.Decided packet version rule action how) =
     PacketSeeksRightly before packet version × PacketRaisesUnheld before packet version
-FurtherCause setting before (item.Left packet port leaving) =
+PacketFurtherCause setting before (item.Left packet port leaving) =
     MachineLeavesRightly setting before packet port leaving
-FurtherCause setting before (item.Stuck packet switch cause leg down) =
+PacketFurtherCause setting before (item.Stuck packet switch cause leg down) =
     IsPacketStuckOnLeg setting before packet switch cause leg down
-FurtherCause setting before _ = ⊤
+PacketFurtherCause setting before _ = ⊤
 
 -- the cause of an item, and what is required beyond it
-abbrev pub StrongCause : Setting → List Item → Item → Type 0
-StrongCause setting before next = HasPacketItemCause setting before next × FurtherCause setting before next
+abbrev pub PacketStrongCause : Setting → List Item → Item → Type 0
+PacketStrongCause setting before next = HasPacketItemCause setting before next × PacketFurtherCause setting before next

@@ -2,8 +2,8 @@
 -- version and half of a new one.
 use Rattle.std.specs.Prelude.{[], List, ℕ}
 use Rattle.update_machine.specs.Exports.{JournalItemsHaveCauses, Item, Setting}
-use Rattle.control_laws.specs.Exports.{AcksHold, BootsAreKnown, HasControlItemCause, IsAckedFirst, ControlMarksAreBounded, ControlMembersAcknowledged, OpeningMessagesNameOneVersion, ServingHoldVersions, ServingIsKnown, StampsSayTouched, ControlTablesArePlanned}
-use Rattle.packet_laws.specs.Amended.{ChangesLeaveOtherPackets, UntouchedCacheRulesStay}
+use Rattle.control_laws.specs.Exports.{ControlAcksHold, ControlBootsArePast, HasControlItemCause, IsControlAckedFirst, ControlMarksAreBounded, ControlMembersAcknowledged, ControlOpeningMessagesNameOneVersion, ControlServingHoldVersions, ControlServingIsKnown, ControlStampsSayTouched, ControlTablesArePlanned}
+use Rattle.packet_laws.specs.Amended.{ChangesLeaveOtherPackets, UntouchedPacketCacheRulesStay}
 use Rattle.packet_laws.specs.Travelling.{PacketRulesAreRight}
 
 pub record PacketLawsKeepVersionsWhole (setting : Setting) (journal : List Item) : Type 0 where
@@ -12,15 +12,15 @@ pub record PacketLawsKeepVersionsWhole (setting : Setting) (journal : List Item)
   -- acknowledged each version above the old mark, up to the new one
   pub causes : JournalItemsHaveCauses (HasControlItemCause setting) [] journal
   -- the known boot of a switch is at most its own, and no message carries a greater one
-  pub boots : BootsAreKnown journal
+  pub boots : ControlBootsArePast journal
   -- a switch that serves is a member in its own boot
-  pub serving : ServingIsKnown journal
+  pub serving : ControlServingIsKnown journal
   -- a switch heard the tables that it acknowledged in its boot; it acknowledged no greater stamp
-  pub heard : (s : ℕ) → AcksHold journal s
+  pub heard : (s : ℕ) → ControlAcksHold journal s
   -- it is told to open or to stamp only at a version that it acknowledged, and to open at only one
   -- version in each boot
-  pub acknowledged : JournalItemsHaveCauses (IsAckedFirst setting) [] journal
-  pub opened : OpeningMessagesNameOneVersion journal
+  pub acknowledged : JournalItemsHaveCauses (IsControlAckedFirst setting) [] journal
+  pub opened : ControlOpeningMessagesNameOneVersion journal
   -- the tables that are sent are those that their version's plan gives the switch, and stay so
   -- however the journal continues; so are those that it heard
   pub tables : ControlTablesArePlanned setting journal
@@ -30,13 +30,13 @@ pub record PacketLawsKeepVersionsWhole (setting : Setting) (journal : List Item)
   pub marks : ControlMarksAreBounded setting journal
   -- a switch that serves has the version that it stamps with, and each later version up to the
   -- current one
-  pub holding : ServingHoldVersions setting journal
+  pub holding : ControlServingHoldVersions setting journal
   -- a switch that is told to stamp with a version also gets what its change touches
-  pub touched : StampsSayTouched setting journal
+  pub touched : ControlStampsSayTouched setting journal
   -- each cache rule decides each header of its word as its own version does
   pub rules : PacketRulesAreRight setting journal
   -- when a `Stamp` raises a switch to the very next version, its cache keeps, in their order, the
   -- rules that the amendment doesn't touch, unless an entry of that version has the rule's word
-  pub untouched : UntouchedCacheRulesStay setting journal
+  pub untouched : UntouchedPacketCacheRulesStay setting journal
   -- a header that an amendment doesn't touch is decided alike by the versions before and after it
   pub alike : ChangesLeaveOtherPackets setting journal

@@ -1,7 +1,7 @@
 //! Laws about what is true on the way to a journal: at each moment, and after each step.
 ghost use Rattle.std.specs.Prelude.{List, Option, ℕ};
-ghost use Rattle.update_machine.specs.Exports.{Event, IsMachinePlay, IsSetting, Item, Setting};
-ghost use Rattle.control_laws.specs.Always.{AreNetworkEvents, ControlLawHoldsReached};
+ghost use Rattle.update_machine.specs.Exports.{Event, IsMachinePlay, IsMachineSetting, Item, Setting};
+ghost use Rattle.control_laws.specs.Always.{AreControlNetworkEvents, ControlLawHoldsReached};
 ghost use Rattle.packet_laws.specs.Exports.{PacketLawsHeldThroughout, PacketLawHoldsBetween, PacketLawsHoldSoFar, ArePacketsKeptBehind};
 
 use crate::laws::{
@@ -13,7 +13,7 @@ use control_laws::marks_settle;
 /// At each moment, within a step too, the journal is a run of the machine whose ends and items have
 /// their causes, the versions are whole, and each packet took few routes and hops.
 pub fn packet_journals_hold_so_far()
-    ensures { ControlLawHoldsReached (λ setting journal. IsSetting setting → PacketLawsHoldSoFar setting journal) }
+    ensures { ControlLawHoldsReached (λ setting journal. IsMachineSetting setting → PacketLawsHoldSoFar setting journal) }
 {
     answers_are_runs();
     ends_have_causes();
@@ -25,7 +25,7 @@ pub fn packet_journals_hold_so_far()
 
 /// After each step packets are on their way, and the marks are settled.
 pub fn packet_steps_are_kept()
-    ensures { PacketLawHoldsBetween (λ setting journal. IsSetting setting → ArePacketsKeptBehind setting journal) }
+    ensures { PacketLawHoldsBetween (λ setting journal. IsMachineSetting setting → ArePacketsKeptBehind setting journal) }
 {
     packets_travel();
     marks_settle();
@@ -35,7 +35,7 @@ pub fn packet_steps_are_kept()
 /// and after each of its steps.
 pub fn packet_plays_held_on_way()
     ensures { (setting : Setting) (events : List Event) (journal : List Item) (full : Option ℕ)
-        → IsSetting setting → AreNetworkEvents setting events → IsMachinePlay setting events journal full
+        → IsMachineSetting setting → AreControlNetworkEvents setting events → IsMachinePlay setting events journal full
         → PacketLawsHeldThroughout setting journal }
 {
     packet_journals_hold_so_far();

@@ -9,23 +9,23 @@ use Rattle.std.proofs.lemmas.List.FromFn.{length-enumerate_from}
 use Rattle.std.proofs.lemmas.List.Sums.{sum_by-append, sum_by-cons}
 use Rattle.std.proofs.lemmas.Nat.Bits.{bit_at-lt}
 use Rattle.std.proofs.lemmas.Option.{same_Some}
-use Rattle.five_tuple.specs.Exports.{number_of}
+use Rattle.five_tuple.specs.Exports.{header_number_of}
 use Rattle.five_tuple.specs.declared.header.Header.{Header}
-use Rattle.ternary.specs.Exports.{WordValue, any_word, word_covers_of, word_fix_of, holds, is_fixed_of}
+use Rattle.ternary.specs.Exports.{WordValue, any_word, word_covers_of, word_fix_of, holds, is_word_bit_fixed}
 use Rattle.ternary.proofs.TernaryCallerLemmas.{any_holds, covers_held, covers_reflexive, covers_transitive, fix_holds, fix_within}
-use Rattle.policy_rules.specs.Exports.{ArePolicyPartitionsNumbered, AreSoundPolicyPartitions, IsPolicy, first_rule, policy_hit_of_rule, is_held, is_in_policy_partition, rules_of, scan}
+use Rattle.policy_rules.specs.Exports.{ArePolicyPartitionsNumbered, AreSoundPolicyPartitions, IsPolicy, first_policy_rule, policy_hit_of_rule, is_held_by_policy_rule, is_in_policy_partition, policy_rules_of, scan}
 use Rattle.policy_rules.specs.declared.policy.Row.{Row}
 use Rattle.policy_rules.specs.declared.policy.Hit.{Hit}
 use Rattle.policy_rules.specs.declared.rules.Partition.{Partition}
 use Rattle.policy_rules.specs.declared.rules.Rule.{Rule}
 use Rattle.policy_rules.proofs.PolicyRulesCallerLemmas.{IsRuleList-rules_of, first_rule-rules_of, at_item}
-use Rattle.cut_tree.specs.Exports.{AreCutRuleWords, End, IsDefinedTree, IsTreeOf, Node, Shape, leaf_count, cut_leaves_of, narrow, cut_narrowed_rule, side_of_cut, tree_of}
+use Rattle.cut_tree.specs.Exports.{AreCutRuleWords, End, IsDefinedCutTree, IsCutTreeOf, Node, CutTreeShape, cut_leaf_count, cut_leaves_of, narrow, cut_narrowed_rule, side_of_cut, cut_tree_of}
 use Rattle.cut_tree.proofs.CutTreeCallerLemmas.{narrow_few, narrow_first, tree_defined}
-use Rattle.partition.specs.Parts.{PartitionsDecideAs, PartitionDecidesAs, partition_numbered, partitions_from, parts_of, partitions_of}
+use Rattle.partition.specs.Parts.{PartitionsDecideAs, PartitionDecidesAs, partition_numbered, partitions_from, partitions_of_cut_tree, partitions_of}
 
 -- what becomes of a header by the first rule that holds it
 abbrev hit_at : ℕ → List Rule → Option Hit
-hit_at header rules = option_map policy_hit_of_rule (find (is_held header) rules)
+hit_at header rules = option_map policy_hit_of_rule (find (is_held_by_policy_rule header) rules)
 
 -- ---- a leaf for each header
 
@@ -37,7 +37,7 @@ counted : (t : Bool) → cond t 1 0 ≡ from_bool t
 counted t = search rules
 
 -- a header of the region is in exactly one half
-one_half : (region : WordValue) (bit header : ℕ) → IsFalse (is_fixed_of region bit)
+one_half : (region : WordValue) (bit header : ℕ) → IsFalse (is_word_bit_fixed region bit)
     → from_bool (holds (word_fix_of region bit false) header) + from_bool
     (holds (word_fix_of region bit true) header) ≡ from_bool (holds region header)
 one_half region bit header free = search (rules, fix_holds, one_digit, bit_at-lt)
@@ -46,8 +46,8 @@ one_half region bit header free = search (rules, fix_holds, one_digit, bit_at-lt
 abbrev leaves_at : ℕ → List (WordValue × List Rule) → ℕ
 leaves_at header leaves = count_by (λ (leaf : WordValue × List Rule). holds leaf.0 header) leaves
 
-leaf_count_at : (tree : Shape) (rules : List Rule) (region : WordValue) (most header : ℕ)
-    → IsTreeOf rules region most tree → leaves_at header (cut_leaves_of tree) ≡ from_bool
+leaf_count_at : (tree : CutTreeShape) (rules : List Rule) (region : WordValue) (most header : ℕ)
+    → IsCutTreeOf rules region most tree → leaves_at header (cut_leaves_of tree) ≡ from_bool
     (holds region header)
 leaf_count_at (End r rs) rules region most header is = rw is.same_region (omega (arith, counted))
 leaf_count_at (Node bit low high) rules region most header is =
@@ -87,11 +87,11 @@ widened rules region half header within leaf decides = record {
   few = omega (arith, decides.few, narrow_few rules half);
   same = λ held. let here = covers_held half leaf.0 header decides.within held in
       decides.same held ∙ ap (option_map policy_hit_of_rule) (narrow_first rules half header here)
-      ∙ hits_narrowed half (find (is_held header) rules);
+      ∙ hits_narrowed half (find (is_held_by_policy_rule header) rules);
 }
 
-leaves_decide : (tree : Shape) (rules : List Rule) (region : WordValue) (most header : ℕ)
-    → IsTreeOf rules region most tree → All (IsLeafThatDecides rules region header) (cut_leaves_of tree)
+leaves_decide : (tree : CutTreeShape) (rules : List Rule) (region : WordValue) (most header : ℕ)
+    → IsCutTreeOf rules region most tree → All (IsLeafThatDecides rules region header) (cut_leaves_of tree)
 leaves_decide (End r rs) rules region most header is =
     All-cons (IsLeafThatDecides rules region header) (r, rs) [] (record {
       within = rw is.same_region (covers_reflexive region);
@@ -124,7 +124,7 @@ unfolding partitions_from
 numbered_more number leaf leaves = refl
 
 numbered_count : (number : ℕ) (leaves : List (WordValue × List Rule)) (header : Header)
-    → count_by (is_in_policy_partition header) (partitions_from number leaves) ≡ leaves_at (number_of header) leaves
+    → count_by (is_in_policy_partition header) (partitions_from number leaves) ≡ leaves_at (header_number_of header) leaves
 numbered_count number [] header = ap (count_by (is_in_policy_partition header)) (numbered_none number)
 numbered_count number (leaf ∷ leaves) header =
     let parts = partitions_from (number + 1) leaves in
@@ -132,7 +132,7 @@ numbered_count number (leaf ∷ leaves) header =
     let part = sum_by-cons (λ part. cond (is_in_policy_partition header part) 1 0)
     (partition_numbered (number, leaf)) parts in
     let front =
-    sum_by-cons (λ (leaf : WordValue × List Rule). cond (holds leaf.0 (number_of header)) 1 0) leaf
+    sum_by-cons (λ (leaf : WordValue × List Rule). cond (holds leaf.0 (header_number_of header)) 1 0) leaf
     leaves in
     omega (arith, more, part, front, numbered_count (number + 1) leaves header)
 
@@ -171,35 +171,35 @@ numbers_at number (leaf ∷ leaves) (suc place) d within =
 
 -- ---- the partitions of a tree
 
-pub parts_decide : (rules : List Rule) (most : ℕ) (tree : Shape) → IsDefinedTree rules most tree
-    → PartitionsDecideAs rules (parts_of tree)
+pub parts_decide : (rules : List Rule) (most : ℕ) (tree : CutTreeShape) → IsDefinedCutTree rules most tree
+    → PartitionsDecideAs rules (partitions_of_cut_tree tree)
 parts_decide rules most tree is = record {
   one = λ header. numbered_count 0 (cut_leaves_of tree) header ∙ leaf_count_at tree rules any_word most
-      (number_of header) is ∙ ap from_bool (any_holds (number_of header));
+      (header_number_of header) is ∙ ap from_bool (any_holds (header_number_of header));
   decides = λ header. numbered_all
       (λ part. IsTrue (is_in_policy_partition header part) → PartitionDecidesAs rules header part)
-      (IsLeafThatDecides rules any_word (number_of header)) (λ number leaf decides. decides.same) 0
-      (cut_leaves_of tree) (leaves_decide tree rules any_word most (number_of header) is);
+      (IsLeafThatDecides rules any_word (header_number_of header)) (λ number leaf decides. decides.same) 0
+      (cut_leaves_of tree) (leaves_decide tree rules any_word most (header_number_of header) is);
   few = numbered_all (λ part. length part.rules ≤ length rules) (IsLeafThatDecides rules any_word 0)
       (λ number leaf decides. decides.few) 0 (cut_leaves_of tree)
       (leaves_decide tree rules any_word most 0 is);
 }
 
-pub parts_numbered : (tree : Shape) → ArePolicyPartitionsNumbered (parts_of tree)
+pub parts_numbered : (tree : CutTreeShape) → ArePolicyPartitionsNumbered (partitions_of_cut_tree tree)
 parts_numbered tree = λ place d within. numbers_at 0 (cut_leaves_of tree) place d
     (omega (arith, within, numbered_length 0 (cut_leaves_of tree))) ∙ omega arith
 
-pub parts_sound : (rows : List Row) (most : ℕ) (tree : Shape) → IsPolicy rows
-    → IsDefinedTree (rules_of rows) most tree → AreSoundPolicyPartitions rows (parts_of tree)
+pub parts_sound : (rows : List Row) (most : ℕ) (tree : CutTreeShape) → IsPolicy rows
+    → IsDefinedCutTree (policy_rules_of rows) most tree → AreSoundPolicyPartitions rows (partitions_of_cut_tree tree)
 parts_sound rows most tree policy is =
-    let decide = parts_decide (rules_of rows) most tree is in record {
+    let decide = parts_decide (policy_rules_of rows) most tree is in record {
       one = λ header good. decide.one header;
       decides = λ header good.
-          All-weaker (λ part. IsTrue (is_in_policy_partition header part) → PartitionDecidesAs (rules_of rows) header part)
+          All-weaker (λ part. IsTrue (is_in_policy_partition header part) → PartitionDecidesAs (policy_rules_of rows) header part)
           (λ part. IsTrue (is_in_policy_partition header part)
-          → option_map policy_hit_of_rule (first_rule part.rules header) ≡ Some (scan rows header))
+          → option_map policy_hit_of_rule (first_policy_rule part.rules header) ≡ Some (scan rows header))
           (λ part decided here. decided here ∙ first_rule-rules_of rows header policy good)
-          (parts_of tree) (decide.decides header);
+          (partitions_of_cut_tree tree) (decide.decides header);
       numbers = parts_numbered tree;
     }
 
@@ -207,13 +207,13 @@ parts_sound rows most tree policy is =
 
 pub partitions_decide : (rules : List Rule) (most : ℕ) → 0 < most → AreCutRuleWords rules
     → PartitionsDecideAs rules (partitions_of rules most)
-partitions_decide rules most some words = parts_decide rules most (tree_of rules most)
+partitions_decide rules most some words = parts_decide rules most (cut_tree_of rules most)
     (tree_defined rules most some words)
 
 pub partitions_sound : (rows : List Row) (most : ℕ) → 0 < most → IsPolicy rows
-    → AreSoundPolicyPartitions rows (partitions_of (rules_of rows) most)
-partitions_sound rows most some policy = parts_sound rows most (tree_of (rules_of rows) most) policy
-    (tree_defined (rules_of rows) most some (IsRuleList-rules_of rows policy).words)
+    → AreSoundPolicyPartitions rows (partitions_of (policy_rules_of rows) most)
+partitions_sound rows most some policy = parts_sound rows most (cut_tree_of (policy_rules_of rows) most) policy
+    (tree_defined (policy_rules_of rows) most some (IsRuleList-rules_of rows policy).words)
 
 -- ---- the one partition of a header
 
@@ -287,33 +287,33 @@ part_here header parts index part within is here =
 
 -- ---- partitions pushed leaf by leaf
 
-pub pushed_leaf : (old : List Partition) (tree : Shape) (number : ℕ) (region : WordValue)
+pub pushed_leaf : (old : List Partition) (tree : CutTreeShape) (number : ℕ) (region : WordValue)
     (rules copy : List Rule) → tree ≡ End region rules → copy ≡ rules → number ≡ length old
     → old ++ record { number = number; region = region; rules = copy } ∷ [] ≡ old ++ partitions_from
     (length old) (cut_leaves_of tree)
 unfolding partitions_from
 pushed_leaf old tree number region rules copy is same last = rw (is, same, last) refl
 
-pub pushed_room : (old new : List Partition) (tree low high : Shape) (bit most : ℕ)
+pub pushed_room : (old new : List Partition) (tree low high : CutTreeShape) (bit most : ℕ)
     → tree ≡ Node bit low high → new ≡ old ++ partitions_from (length old) (cut_leaves_of low)
-    → length old + leaf_count tree < most → length new + leaf_count high < most
+    → length old + cut_leaf_count tree < most → length new + cut_leaf_count high < most
 pushed_room old new tree low high bit most is pushed room =
     search (rules, length-append, numbered_length)
 
-pub pushed_both : (old middle new : List Partition) (tree low high : Shape) (bit : ℕ)
+pub pushed_both : (old middle new : List Partition) (tree low high : CutTreeShape) (bit : ℕ)
     → tree ≡ Node bit low high → middle ≡ old ++ partitions_from (length old) (cut_leaves_of low)
     → new ≡ middle ++ partitions_from (length middle) (cut_leaves_of high)
     → new ≡ old ++ partitions_from (length old) (cut_leaves_of tree)
 pushed_both old middle new tree low high bit is first second =
     search (rules, length-append, numbered_length, numbered_append, append_assoc)
 
-some_leaf : (tree : Shape) → 0 < leaf_count tree
+some_leaf : (tree : CutTreeShape) → 0 < cut_leaf_count tree
 some_leaf (End region rules) = omega arith
 some_leaf (Node bit low high) =
     omega (arith, some_leaf low, length-append (cut_leaves_of low) (cut_leaves_of high))
 
 -- how many leaves a cut has
-pub both_sides : (tree low high : Shape) (bit : ℕ) → tree ≡ Node bit low high
-    → (leaf_count tree ≡ leaf_count low + leaf_count high) × (0 < leaf_count low)
-    × (0 < leaf_count high)
+pub both_sides : (tree low high : CutTreeShape) (bit : ℕ) → tree ≡ Node bit low high
+    → (cut_leaf_count tree ≡ cut_leaf_count low + cut_leaf_count high) × (0 < cut_leaf_count low)
+    × (0 < cut_leaf_count high)
 both_sides tree low high bit is = search (rules, length-append, some_leaf)

@@ -4,10 +4,10 @@ use Rattle.std.specs.Prelude.{◌≡◌, ◌≤◌, All, IsTrue, List, count_by,
 use Rattle.std.specs.List.{enumerate_from}
 use Rattle.five_tuple.specs.declared.header.Header.{Header}
 use Rattle.ternary.specs.Exports.{WordValue}
-use Rattle.policy_rules.specs.Exports.{first_rule, policy_hit_of_rule, is_in_policy_partition}
+use Rattle.policy_rules.specs.Exports.{first_policy_rule, policy_hit_of_rule, is_in_policy_partition}
 use Rattle.policy_rules.specs.declared.rules.Partition.{Partition}
 use Rattle.policy_rules.specs.declared.rules.Rule.{Rule}
-use Rattle.cut_tree.specs.Exports.{Shape, cut_leaves_of, tree_of}
+use Rattle.cut_tree.specs.Exports.{CutTreeShape, cut_leaves_of, cut_tree_of}
 
 abbrev pub partition_numbered : ℕ × (WordValue × List Rule) → Partition
 partition_numbered (number, leaf) = record { number = number; region = leaf.0; rules = leaf.1 }
@@ -17,18 +17,18 @@ unfoldable pub partitions_from : ℕ → List (WordValue × List Rule) → List 
 partitions_from number leaves = map partition_numbered (enumerate_from number leaves)
 
 -- the partitions of a tree: its leaves, low side before high side, numbered from 0
-abbrev pub parts_of : Shape → List Partition
-parts_of tree = partitions_from 0 (cut_leaves_of tree)
+abbrev pub partitions_of_cut_tree : CutTreeShape → List Partition
+partitions_of_cut_tree tree = partitions_from 0 (cut_leaves_of tree)
 
 -- the partitions of a list of rules with this cap
 abbrev pub partitions_of : List Rule → ℕ → List Partition
-partitions_of rules most = parts_of (tree_of rules most)
+partitions_of rules most = partitions_of_cut_tree (cut_tree_of rules most)
 
 -- the rules of the partition decide the header as these rules do
 abbrev pub PartitionDecidesAs : List Rule → Header → Partition → Type 0
 PartitionDecidesAs rules header part =
-    option_map policy_hit_of_rule (first_rule part.rules header)
-    ≡ option_map policy_hit_of_rule (first_rule rules header)
+    option_map policy_hit_of_rule (first_policy_rule part.rules header)
+    ≡ option_map policy_hit_of_rule (first_policy_rule rules header)
 
 -- each header lies in exactly one region, whose rules decide it as the whole list does
 pub record PartitionsDecideAs (rules : List Rule) (parts : List Partition) : Type 0 where

@@ -1,10 +1,10 @@
 ghost use Rattle.std.specs.Prelude.{ℕ, ◌≡◌, ◌+◌, ◌<◌, ◌^◌, ◌++◌, All, IfOk, OnOk, IsTrue, List, Some, count_by, find, length, option_map};
-ghost use Rattle.policy_rules.specs.Exports.{AreSoundPolicyPartitions, IsPolicy, LastRuleCovers, is_in_policy_partition, rules_of};
+ghost use Rattle.policy_rules.specs.Exports.{AreSoundPolicyPartitions, IsPolicy, LastPolicyRuleCovers, is_in_policy_partition, policy_rules_of};
 ghost use Rattle.policy_rules.specs.declared.policy.Row.{Row};
 ghost use Rattle.policy_rules.specs.declared.rules.Rule.{Rule};
-ghost use Rattle.cut_tree.specs.DefinedTree.{IsDefinedTree};
-ghost use Rattle.cut_tree.specs.Shape.{leaf_count, cut_leaves_of, shape_of};
-ghost use Rattle.partition.specs.Parts.{PartitionsDecideAs, partitions_from, parts_of};
+ghost use Rattle.cut_tree.specs.DefinedTree.{IsDefinedCutTree};
+ghost use Rattle.cut_tree.specs.Shape.{cut_leaf_count, cut_leaves_of, cut_tree_shape_of};
+ghost use Rattle.partition.specs.Parts.{PartitionsDecideAs, partitions_from, partitions_of_cut_tree};
 
 use cut_tree::Tree;
 use five_tuple::Header;
@@ -19,17 +19,17 @@ use std::alloc::{AllocError, Global};
 /// # Errors
 /// Only out of memory.
 pub fn list(alloc: Global, tree: &Tree) -> Result<Vec<Partition>, AllocError>
-    requires { leaf_count (shape_of tree.now) < 2 ^ 32 }
-    ensures parts { IfOk result (λ parts. parts.items ≡ parts_of (shape_of tree.now)) }
-    ensures count { IfOk result (λ parts. length parts.items ≡ leaf_count (shape_of tree.now)) }
+    requires { cut_leaf_count (cut_tree_shape_of tree.now) < 2 ^ 32 }
+    ensures parts { IfOk result (λ parts. parts.items ≡ partitions_of_cut_tree (cut_tree_shape_of tree.now)) }
+    ensures count { IfOk result (λ parts. length parts.items ≡ cut_leaf_count (cut_tree_shape_of tree.now)) }
     ensures decide { IfOk result (λ parts. (rules : List Rule) (cap : ℕ) →
-        IsDefinedTree rules cap (shape_of tree.now) → PartitionsDecideAs rules parts.items) }
+        IsDefinedCutTree rules cap (cut_tree_shape_of tree.now) → PartitionsDecideAs rules parts.items) }
     ensures sound { IfOk result (λ parts. (rows : List Row) (cap : ℕ) →
-        IsPolicy rows → IsDefinedTree (rules_of rows) cap (shape_of tree.now) →
+        IsPolicy rows → IsDefinedCutTree (policy_rules_of rows) cap (cut_tree_shape_of tree.now) →
         AreSoundPolicyPartitions rows parts.items) }
     ensures ended { IfOk result (λ parts. (rows : List Row) (cap : ℕ) →
-        IsPolicy rows → IsDefinedTree (rules_of rows) cap (shape_of tree.now) →
-        All LastRuleCovers parts.items) }
+        IsPolicy rows → IsDefinedCutTree (policy_rules_of rows) cap (cut_tree_shape_of tree.now) →
+        All LastPolicyRuleCovers parts.items) }
 {
     let mut parts = Vec::new(alloc);
     push_leaves(tree, &mut parts)?;
@@ -37,9 +37,9 @@ pub fn list(alloc: Global, tree: &Tree) -> Result<Vec<Partition>, AllocError>
 }
 
 fn push_leaves(tree: &Tree, parts: &mut Vec<Partition>) -> Result<(), AllocError>
-    requires { length parts.old.items + leaf_count (shape_of tree.now) < 2 ^ 32 }
+    requires { length parts.old.items + cut_leaf_count (cut_tree_shape_of tree.now) < 2 ^ 32 }
     ensures { OnOk result (parts.new.items ≡ parts.old.items
-        ++ partitions_from (length parts.old.items) (cut_leaves_of (shape_of tree.now))) }
+        ++ partitions_from (length parts.old.items) (cut_leaves_of (cut_tree_shape_of tree.now))) }
 {
     match tree {
         Tree::Leaf { region, rules } => {

@@ -1,22 +1,22 @@
 -- The first of the switches that have room: what a rising list gives, and that only one list is it.
 use Rattle.std.proofs.Common.{[], ◌&&◌, ◌+◌, ◌-◌, ◌<◌, ◌^◌, ◌∙◌, ◌∷◌, ◌≡◌, ◌≢◌, ◌≤◌, All, AllPairs, Bool, List, MatchOption, None, Option, Some, ap, arith, cond, eq-eqb, eqb, false, filter, get_or, inl, inr, leb, leb-true, length, length-take, min, ne_eqb, not, refl, subst, suc, sym, take, true, true≢false, zero, ℕ, rules}
 use Rattle.base.proofs.Exports.{All-from_recursion, AllByRecursion, and_from, and_parts, cases_Bool, cases_eq, cases_lt, false≢true, list_any, nat_tests, not-true, not_from_false, or_parts, recursion_from_All, sum_by-cons}
-use Rattle.placement.specs.Order.{in_order}
-use Rattle.placement.specs.Placement.{is_placed_earlier, is_lighter_switch, has_room, placement_with_room, AreLightestSwitches}
+use Rattle.placement.specs.Order.{in_placement_order}
+use Rattle.placement.specs.Placement.{is_earlier_in_placement, is_lighter_placement_switch, placement_has_room, placement_with_room, AreLightestPlacementSwitches}
 use Rattle.placement.proofs.PlacementOrder.{IsOrder, Rises, one_of, one_of-same, one_of-other, count, count-filter, count-range-le, count-range_within, length-in_order, sum-in_order, rises-in_order, each_from_count, each_by_count, pairs_from_rises, rises_from_pairs}
 
 -- ---- the two orders
 
-pub earlier_order : (sizes : List ℕ) → IsOrder (is_placed_earlier sizes)
-unfolding is_placed_earlier
+pub earlier_order : (sizes : List ℕ) → IsOrder (is_earlier_in_placement sizes)
+unfolding is_earlier_in_placement
 earlier_order sizes = record {
   never = λ a. grind (arith, nat_tests);
   trans = λ a b c p q. grind (arith, nat_tests);
   total = λ a b other later. grind (arith, nat_tests);
 }
 
-pub lighter_order : (load : ℕ → ℕ) → IsOrder (is_lighter_switch load)
-unfolding is_lighter_switch
+pub lighter_order : (load : ℕ → ℕ) → IsOrder (is_lighter_placement_switch load)
+unfolding is_lighter_placement_switch
 lighter_order load = search (rules, nat_tests)
 
 -- ---- the front of a rising list
@@ -49,9 +49,9 @@ after-take before (suc n) (x ∷ xs) z rises there none =
       after-take before n xs z rises.1 later parts.1,
     )
 
-has_room-within : (load : ℕ → ℕ) (rooms : List ℕ) (size s : ℕ) → has_room load rooms size s ≡ true
+has_room-within : (load : ℕ → ℕ) (rooms : List ℕ) (size s : ℕ) → placement_has_room load rooms size s ≡ true
     → s < length rooms
-unfolding has_room
+unfolding placement_has_room
 has_room-within load rooms size s room = grind (arith, nat_tests)
 
 -- a sum that stops at its type's end is above the same rooms
@@ -60,7 +60,7 @@ capped_within n room small = grind (arith, nat_tests)
 
 -- a switch is listed once if it has room, and else not at all
 pub count-placement_with_room : (load : ℕ → ℕ) (rooms : List ℕ) (size s : ℕ)
-    → count s (placement_with_room load rooms size) ≡ cond (has_room load rooms size s) 1 0
+    → count s (placement_with_room load rooms size) ≡ cond (placement_has_room load rooms size s) 1 0
 count-placement_with_room load rooms size s =
     search (rules, count-filter, count-range-le, count-range_within, has_room-within)
 
@@ -70,34 +70,34 @@ count-placement_with_room-le load rooms size s = grind (arith, count-placement_w
 
 -- a list that rises, of the switches that have room: its front is the first of them
 pub front_is_first : (held load : ℕ → ℕ) (rooms : List ℕ) (size n : ℕ) (xs : List ℕ)
-    → Rises (is_lighter_switch load) xs → ((s : ℕ) → count s xs ≡ count s (placement_with_room held rooms size))
-    → n ≤ length xs → AreLightestSwitches held load rooms size n (take n xs)
+    → Rises (is_lighter_placement_switch load) xs → ((s : ℕ) → count s xs ≡ count s (placement_with_room held rooms size))
+    → n ≤ length xs → AreLightestPlacementSwitches held load rooms size n (take n xs)
 front_is_first held load rooms size n xs rises counts enough =
-    let fits : (s : ℕ) → 0 < count s xs → has_room held rooms size s ≡ true = λ s there.
+    let fits : (s : ℕ) → 0 < count s xs → placement_has_room held rooms size s ≡ true = λ s there.
     grind (arith, counts s, count-placement_with_room held rooms size s) in record {
       number = omega (arith, length-take n xs);
-      fit = All-from_recursion (λ s. has_room held rooms size s ≡ true) (take n xs)
-          (each-take (λ s. has_room held rooms size s ≡ true) n xs
-          (each_by_count (λ s. has_room held rooms size s ≡ true) xs fits));
-      rising = pairs_from_rises (is_lighter_switch load) (take n xs)
-          (rises-take (is_lighter_switch load) n xs rises);
+      fit = All-from_recursion (λ s. placement_has_room held rooms size s ≡ true) (take n xs)
+          (each-take (λ s. placement_has_room held rooms size s ≡ true) n xs
+          (each_by_count (λ s. placement_has_room held rooms size s ≡ true) xs fits));
+      rising = pairs_from_rises (is_lighter_placement_switch load) (take n xs)
+          (rises-take (is_lighter_placement_switch load) n xs rises);
       least = λ other room none. All-from_recursion
-          (λ s. is_lighter_switch load s other ≡ true) (take n xs) (after-take (is_lighter_switch load) n xs other
+          (λ s. is_lighter_placement_switch load s other ≡ true) (take n xs) (after-take (is_lighter_placement_switch load) n xs other
           rises (grind (arith, counts other, count-placement_with_room held rooms size other)) none);
     }
 
 -- so is the front of the switches that have room, in order
 pub first_in_order : (held load : ℕ → ℕ) (rooms : List ℕ) (size n : ℕ)
-    → n ≤ length (in_order (is_lighter_switch load) (placement_with_room held rooms size))
-    → AreLightestSwitches held load rooms size n (take n (in_order (is_lighter_switch load) (placement_with_room held rooms size)))
+    → n ≤ length (in_placement_order (is_lighter_placement_switch load) (placement_with_room held rooms size))
+    → AreLightestPlacementSwitches held load rooms size n (take n (in_placement_order (is_lighter_placement_switch load) (placement_with_room held rooms size)))
 first_in_order held load rooms size n enough =
     search (rules, front_is_first, rises-in_order, lighter_order, count-placement_with_room-le, sum-in_order)
 
 -- the same order, by numbers that are the same
 pub order_along : (held held' loads loads' rooms : List ℕ) (size size' : ℕ) (switches : List ℕ)
     → held ≡ held' → loads ≡ loads' → size ≡ size' → switches
-    ≡ in_order (is_lighter_switch (λ s. get_or loads s 0)) (placement_with_room (λ s. get_or held s 0) rooms size)
-    → switches ≡ in_order (is_lighter_switch (λ s. get_or loads' s 0))
+    ≡ in_placement_order (is_lighter_placement_switch (λ s. get_or loads s 0)) (placement_with_room (λ s. get_or held s 0) rooms size)
+    → switches ≡ in_placement_order (is_lighter_placement_switch (λ s. get_or loads' s 0))
     (placement_with_room (λ s. get_or held' s 0) rooms size')
 order_along held held' loads loads' rooms size size' switches holds carries large is = search rules
 
@@ -109,14 +109,14 @@ none_of (Some targets) few first said none = absurd (none targets refl)
 
 -- fewer switches in order are fewer with room
 pub fewer_in_order : (held load : ℕ → ℕ) (rooms : List ℕ) (size n : ℕ) (switches : List ℕ)
-    → switches ≡ in_order (is_lighter_switch load) (placement_with_room held rooms size) → length switches < n
+    → switches ≡ in_placement_order (is_lighter_placement_switch load) (placement_with_room held rooms size) → length switches < n
     → length (placement_with_room held rooms size) < n
 fewer_in_order held load rooms size n switches is fewer = search (rules, length-in_order)
 
 -- the front of the switches in order
 pub first_of_order : (held load : ℕ → ℕ) (rooms : List ℕ) (size n : ℕ) (switches targets : List ℕ)
-    → switches ≡ in_order (is_lighter_switch load) (placement_with_room held rooms size) → n ≤ length switches
-    → targets ≡ take n switches → AreLightestSwitches held load rooms size n targets
+    → switches ≡ in_placement_order (is_lighter_placement_switch load) (placement_with_room held rooms size) → n ≤ length switches
+    → targets ≡ take n switches → AreLightestPlacementSwitches held load rooms size n targets
 first_of_order held load rooms size n switches targets is enough front =
     search (rules, first_in_order)
 
@@ -181,18 +181,18 @@ same_front before order passes (x ∷ xs) (y ∷ ys) len p q = elim (cases_eq x 
 ]
 
 front_of : (held load : ℕ → ℕ) (rooms : List ℕ) (size n : ℕ) (xs : List ℕ)
-    → AreLightestSwitches held load rooms size n xs → IsFront (is_lighter_switch load) (has_room held rooms size) xs
+    → AreLightestPlacementSwitches held load rooms size n xs → IsFront (is_lighter_placement_switch load) (placement_has_room held rooms size) xs
 front_of held load rooms size n xs first = record {
-  each = recursion_from_All (λ s. has_room held rooms size s ≡ true) xs first.fit;
-  rises = rises_from_pairs (is_lighter_switch load) xs first.rising;
-  least = λ z room none. recursion_from_All (λ s. is_lighter_switch load s z ≡ true) xs
+  each = recursion_from_All (λ s. placement_has_room held rooms size s ≡ true) xs first.fit;
+  rises = rises_from_pairs (is_lighter_placement_switch load) xs first.rising;
+  least = λ z room none. recursion_from_All (λ s. is_lighter_placement_switch load s z ≡ true) xs
       (first.least z room none);
 }
 
 pub same_first : (held load : ℕ → ℕ) (rooms : List ℕ) (size n : ℕ) (xs ys : List ℕ)
-    → AreLightestSwitches held load rooms size n xs → AreLightestSwitches held load rooms size n ys → xs ≡ ys
-same_first held load rooms size n xs ys p q = same_front (is_lighter_switch load) (lighter_order load)
-    (has_room held rooms size) xs ys (p.number ∙ sym q.number)
+    → AreLightestPlacementSwitches held load rooms size n xs → AreLightestPlacementSwitches held load rooms size n ys → xs ≡ ys
+same_first held load rooms size n xs ys p q = same_front (is_lighter_placement_switch load) (lighter_order load)
+    (placement_has_room held rooms size) xs ys (p.number ∙ sym q.number)
     (front_of held load rooms size n xs p) (front_of held load rooms size n ys q)
 
 count-rises : (before : ℕ → ℕ → Bool) → IsOrder before → (xs : List ℕ) → Rises before xs → (z : ℕ)
@@ -261,14 +261,14 @@ length_by_count (x ∷ xs) ys once there =
 
 -- as many switches have room
 pub room_for_first : (held load : ℕ → ℕ) (rooms : List ℕ) (size n : ℕ) (xs : List ℕ)
-    → AreLightestSwitches held load rooms size n xs → n ≤ length (placement_with_room held rooms size)
+    → AreLightestPlacementSwitches held load rooms size n xs → n ≤ length (placement_with_room held rooms size)
 room_for_first held load rooms size n xs first =
-    let rises = rises_from_pairs (is_lighter_switch load) xs first.rising in
-    let once = count-rises (is_lighter_switch load) (lighter_order load) xs rises in
+    let rises = rises_from_pairs (is_lighter_placement_switch load) xs first.rising in
+    let once = count-rises (is_lighter_placement_switch load) (lighter_order load) xs rises in
     let there : (s : ℕ) → count s xs ≤ count s (placement_with_room held rooms size) = λ s.
     elim (cases_lt 0 (count s xs)) [
-      | inl some ↦ let room = each_from_count (λ t. has_room held rooms size t ≡ true) s xs
-          (recursion_from_All (λ t. has_room held rooms size t ≡ true) xs first.fit) some in
+      | inl some ↦ let room = each_from_count (λ t. placement_has_room held rooms size t ≡ true) s xs
+          (recursion_from_All (λ t. placement_has_room held rooms size t ≡ true) xs first.fit) some in
           grind (arith, once s, count-placement_with_room held rooms size s)
       | inr none ↦ omega arith
     ] in
@@ -277,22 +277,22 @@ room_for_first held load rooms size n xs first =
 -- ---- what the first switches are
 
 pub first_there : (held load : ℕ → ℕ) (rooms : List ℕ) (size n : ℕ) (xs : List ℕ)
-    → AreLightestSwitches held load rooms size n xs → All (λ s. s < length rooms) xs
+    → AreLightestPlacementSwitches held load rooms size n xs → All (λ s. s < length rooms) xs
 first_there held load rooms size n xs first = search (rules, has_room-within)
 
 pub first_room : (held load : ℕ → ℕ) (rooms : List ℕ) (size n : ℕ) (xs : List ℕ)
-    → AreLightestSwitches held load rooms size n xs → All (λ s. held s + size ≤ get_or rooms s 0) xs
-unfolding has_room
+    → AreLightestPlacementSwitches held load rooms size n xs → All (λ s. held s + size ≤ get_or rooms s 0) xs
+unfolding placement_has_room
 first_room held load rooms size n xs first = search (rules, leb-true)
 
 pub first_distinct : (held load : ℕ → ℕ) (rooms : List ℕ) (size n : ℕ) (xs : List ℕ)
-    → AreLightestSwitches held load rooms size n xs → AllPairs (λ a b. a ≡ b → ⊥) xs
+    → AreLightestPlacementSwitches held load rooms size n xs → AllPairs (λ a b. a ≡ b → ⊥) xs
 first_distinct held load rooms size n xs first = λ i j d less within same. false≢true
     (sym ((lighter_order load).never (get_or xs i d)) ∙ subst
-    (λ z. is_lighter_switch load (get_or xs i d) z ≡ true) (sym same) (first.rising i j d less within))
+    (λ z. is_lighter_placement_switch load (get_or xs i d) z ≡ true) (sym same) (first.rising i j d less within))
 
 -- the same switches are first where the same is held and carried
 pub first_along : (held held' load load' : ℕ → ℕ) (rooms : List ℕ) (size n : ℕ) (xs ys : List ℕ)
-    → held ≡ held' → load ≡ load' → xs ≡ ys → AreLightestSwitches held load rooms size n xs
-    → AreLightestSwitches held' load' rooms size n ys
+    → held ≡ held' → load ≡ load' → xs ≡ ys → AreLightestPlacementSwitches held load rooms size n xs
+    → AreLightestPlacementSwitches held' load' rooms size n ys
 first_along held held' load load' rooms size n xs ys holds carries same first = search rules

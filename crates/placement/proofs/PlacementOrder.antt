@@ -1,7 +1,7 @@
 -- Numbers in an order: what an insertion sort keeps, and that only one list of given numbers rises.
 use Rattle.base.proofs.Exports.{All-from_recursion, AllByRecursion, AllPairs-cons, cases_Bool, cases_eq, false≢true, list_any, list_any-append, list_any_none, nat_tests, ordering_then, range_with_len, recursion_from_All, sum_by-cons, ⊤}
 use Rattle.std.proofs.Common.{[], ◌&&◌, ◌++◌, ◌+◌, ◌<◌, ◌||◌, ◌∙◌, ◌∷◌, ◌≡◌, ◌≢◌, ◌≤◌, AllPairs, Bool, IsSortedBy, List, ap, arith, cond, eq-eqb, eqb, false, filter, get_or, get_or-take, inl, inr, is_lt, leb, length, length-take, ltb, nat_cmp, ne_eqb, refl, subst, suc, sum_by, sym, take, true, zero, ℕ, rules}
-use Rattle.placement.specs.Order.{with_placement_key_inserted, in_order}
+use Rattle.placement.specs.Order.{with_placement_key_inserted, in_placement_order}
 
 -- a test that puts any two different numbers in one order
 pub record IsOrder (before : ℕ → ℕ → Bool) : Type 0 where
@@ -107,13 +107,13 @@ sum-inserted f before x (y ∷ ys) = by_case (before y x) (sum-inserted f before
   )
   by_case false rest = sum_by-cons f x (y ∷ ys)
 
-pub sum-in_order : (f : ℕ → ℕ) (before : ℕ → ℕ → Bool) (xs : List ℕ) → sum_by f (in_order before xs)
+pub sum-in_order : (f : ℕ → ℕ) (before : ℕ → ℕ → Bool) (xs : List ℕ) → sum_by f (in_placement_order before xs)
     ≡ sum_by f xs
-unfolding in_order
+unfolding in_placement_order
 sum-in_order f before [] = refl
 sum-in_order f before (x ∷ xs) = omega (
   arith,
-  sum-inserted f before x (in_order before xs),
+  sum-inserted f before x (in_placement_order before xs),
   sum-in_order f before xs,
   sum_by-cons f x xs,
 )
@@ -126,11 +126,11 @@ length-inserted before x (y ∷ ys) = by_case (before y x) (length-inserted befo
       → length (cond b (y ∷ with_placement_key_inserted before x ys) (x ∷ y ∷ ys)) ≡ suc (suc (length ys))
   by_case b rest = search rules
 
-pub length-in_order : (before : ℕ → ℕ → Bool) (xs : List ℕ) → length (in_order before xs) ≡ length
+pub length-in_order : (before : ℕ → ℕ → Bool) (xs : List ℕ) → length (in_placement_order before xs) ≡ length
     xs
-unfolding in_order
+unfolding in_placement_order
 length-in_order before [] = refl
-length-in_order before (x ∷ xs) = length-inserted before x (in_order before xs)
+length-in_order before (x ∷ xs) = length-inserted before x (in_placement_order before xs)
     ∙ ap suc (length-in_order before xs)
 
 each-inserted : (P : ℕ → Type 0) (before : ℕ → ℕ → Bool) (x : ℕ) (xs : List ℕ) → P x
@@ -165,18 +165,18 @@ rises-inserted before order x (y ∷ ys) none rises =
     ]
 
 pub rises-in_order : (before : ℕ → ℕ → Bool) → IsOrder before → (xs : List ℕ)
-    → ((z : ℕ) → count z xs ≤ 1) → Rises before (in_order before xs)
-unfolding in_order
+    → ((z : ℕ) → count z xs ≤ 1) → Rises before (in_placement_order before xs)
+unfolding in_placement_order
 rises-in_order before order [] once = tt
 rises-in_order before order (x ∷ xs) once =
-    let none : count x (in_order before xs) ≡ 0 = omega (
+    let none : count x (in_placement_order before xs) ≡ 0 = omega (
       arith,
       sum-in_order (one_of x) before xs,
       once x,
       sum_by-cons (one_of x) x xs,
       one_of-same x,
     ) in
-    rises-inserted before order x (in_order before xs) none
+    rises-inserted before order x (in_placement_order before xs) none
     (rises-in_order before order xs (λ z. omega (arith, once z, sum_by-cons (one_of z) x xs)))
 
 -- ---- what std's sort leaves

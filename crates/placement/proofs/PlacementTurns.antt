@@ -3,8 +3,8 @@
 use Rattle.std.proofs.Common.{[], ◌&&◌, ◌++◌, ◌+◌, ◌<◌, ◌∙◌, ◌∷◌, ◌≡◌, ◌≢◌, ◌≤◌, Bool, List, ap, append-nil, append_assoc, arith, cond, drop, eqb, false, filter, get_or, get_or-set_other, get_or-set_same, inl, inr, length, length-set, refl, replicate, set, subst, sum, sum_by, sym, take, take_all, true, ℕ, rules}
 use Rattle.base.proofs.Exports.{AllByRecursion, cases_Bool, cases_eq, cases_lt, common_steps, drop_all, false_from_ne_true, false≢true, fill_by_all, filter_agree, fun_ext, get_or_default, get_or_past, list_any, nat_tests, range_with_len, recursion_from_All, same_lists, sum-map, sum_by-append, sum_by-cons, sum_by-le-sum_by, sum_by_push}
 use Rattle.policy_rules.proofs.PolicyRulesCallerLemmas.{each_weaker}
-use Rattle.placement.specs.Order.{in_order}
-use Rattle.placement.specs.Placement.{is_placed_earlier, placed_sum_before, placed_targets_at, placement_with_room, AreLightestSwitches, AreHosted, HasDuePlacementTargets, IsPlacementRefused, PlacementTurnRule}
+use Rattle.placement.specs.Order.{in_placement_order}
+use Rattle.placement.specs.Placement.{is_earlier_in_placement, placement_sum_before, placement_targets_at, placement_with_room, AreLightestPlacementSwitches, PlacementHasTargets, HasDuePlacementTargets, IsPlacementRefused, PlacementTurnRule}
 use Rattle.placement.proofs.PlacementOrder.{Rises, one_of, one_of-same, one_of-other, count, count-range-le, count-range_within, range-within, sum-in_order, rises-in_order, each_from_count}
 use Rattle.placement.proofs.PlacementFirsts.{among_holds, earlier_order, first_along, first_room, same_first, room_for_first}
 
@@ -12,14 +12,14 @@ use Rattle.placement.proofs.PlacementFirsts.{among_holds, earlier_order, first_a
 
 -- the partitions in turn
 abbrev pub turns : List ℕ → List ℕ
-turns sizes = in_order (is_placed_earlier sizes) (range_with_len 0 (length sizes))
+turns sizes = in_placement_order (is_earlier_in_placement sizes) (range_with_len 0 (length sizes))
 
-rises-turns : (sizes : List ℕ) → Rises (is_placed_earlier sizes) (turns sizes)
+rises-turns : (sizes : List ℕ) → Rises (is_earlier_in_placement sizes) (turns sizes)
 rises-turns sizes = search (rules, rises-in_order, earlier_order, count-range-le)
 
 count-turns : (sizes : List ℕ) (z : ℕ)
     → count z (turns sizes) ≡ count z (range_with_len 0 (length sizes))
-count-turns sizes z = sum-in_order (one_of z) (is_placed_earlier sizes) (range_with_len 0 (length sizes))
+count-turns sizes z = sum-in_order (one_of z) (is_earlier_in_placement sizes) (range_with_len 0 (length sizes))
 
 in_turns : (sizes : List ℕ) (p : ℕ) → p < length sizes → 0 < count p (turns sizes)
 in_turns sizes p within = search (rules, count-turns, count-range_within)
@@ -30,9 +30,9 @@ turns-within sizes p there = range-within p (length sizes) (omega (arith, count-
 -- a number, with those before and after it
 record IsSplit (sizes done : List ℕ) (p : ℕ) (left : List ℕ) : Type 0 where
   within : p < length sizes
-  before : AllByRecursion (λ o. is_placed_earlier sizes o p ≡ true) done
-  after : AllByRecursion (λ o. is_placed_earlier sizes p o ≡ true) left
-  others : (o : ℕ) → o < length sizes → is_placed_earlier sizes o p ≡ true → 0 < count o done
+  before : AllByRecursion (λ o. is_earlier_in_placement sizes o p ≡ true) done
+  after : AllByRecursion (λ o. is_earlier_in_placement sizes p o ≡ true) left
+  others : (o : ℕ) → o < length sizes → is_earlier_in_placement sizes o p ≡ true → 0 < count o done
 
 rises-parts : (before : ℕ → ℕ → Bool) (done : List ℕ) (p : ℕ) (left : List ℕ)
     → Rises before (done ++ p ∷ left) → AllByRecursion (λ o. before o p ≡ true) done
@@ -46,7 +46,7 @@ rises-parts before (x ∷ xs) p left rises =
     reached [] each = each.0
     reached (y ∷ ys) each = reached ys each.1
 
-not_both : (sizes : List ℕ) (a b : ℕ) → is_placed_earlier sizes a b ≡ true → is_placed_earlier sizes b a ≡ true
+not_both : (sizes : List ℕ) (a b : ℕ) → is_earlier_in_placement sizes a b ≡ true → is_earlier_in_placement sizes b a ≡ true
     → ⊥
 not_both sizes a b p q =
     false≢true (sym ((earlier_order sizes).never a) ∙ (earlier_order sizes).trans a b a p q)
@@ -54,8 +54,8 @@ not_both sizes a b p q =
 split_of : (sizes done : List ℕ) (p : ℕ) (left : List ℕ) → turns sizes ≡ done ++ p ∷ left
     → IsSplit sizes done p left
 split_of sizes done p left split =
-    let parts = rises-parts (is_placed_earlier sizes) done p left
-    (subst (Rises (is_placed_earlier sizes)) split (rises-turns sizes)) in
+    let parts = rises-parts (is_earlier_in_placement sizes) done p left
+    (subst (Rises (is_earlier_in_placement sizes)) split (rises-turns sizes)) in
     let counts : (o : ℕ) → count o (turns sizes) ≡ count o done + count o (p ∷ left) =
     λ o. ap (count o) split ∙ sum_by-append (one_of o) done (p ∷ left) in record {
       within = turns-within sizes p
@@ -64,10 +64,10 @@ split_of sizes done p left split =
       after = parts.1;
       others = λ o within earlier. let other : o ≢ p =
           λ same. false≢true (sym ((earlier_order sizes).never p)
-          ∙ subst (λ z. is_placed_earlier sizes z p ≡ true) same earlier) in
+          ∙ subst (λ z. is_earlier_in_placement sizes z p ≡ true) same earlier) in
           elim (cases_lt 0 (count o left)) [
             | inl later ↦ absurd (not_both sizes o p earlier
-                (each_from_count (λ z. is_placed_earlier sizes p z ≡ true) o left parts.1 later))
+                (each_from_count (λ z. is_earlier_in_placement sizes p z ≡ true) o left parts.1 later))
             | inr none ↦ omega (
               arith,
               counts o,
@@ -88,9 +88,9 @@ split_at p (x ∷ xs) there = elim (cases_eq p x) [
       (x ∷ rest.0, rest.1, ap (λ ys. x ∷ ys) rest.2)
 ]
 
-earlier-within : (sizes : List ℕ) (o p : ℕ) → is_placed_earlier sizes o p ≡ true → p < length sizes
+earlier-within : (sizes : List ℕ) (o p : ℕ) → is_earlier_in_placement sizes o p ≡ true → p < length sizes
     → o < length sizes
-unfolding is_placed_earlier
+unfolding is_earlier_in_placement
 earlier-within sizes o p earlier within = search (rules, nat_tests, get_or_past)
 
 -- ---- what the earlier partitions put on a switch
@@ -98,18 +98,18 @@ earlier-within sizes o p earlier within = search (rules, nat_tests, get_or_past)
 -- the sum of the numbers of these partitions, as far as they put theirs on the switch
 abbrev pub sum_among : (List ℕ → List ℕ) → List ℕ → List (List ℕ) → List ℕ → ℕ → ℕ
 sum_among chosen numbers placement done s =
-    sum_by (λ o. cond (list_any (eqb s) (chosen (placed_targets_at placement o))) (get_or numbers o 0) 0)
+    sum_by (λ o. cond (list_any (eqb s) (chosen (placement_targets_at placement o))) (get_or numbers o 0) 0)
     done
 
 sums_agree : (chosen : List ℕ → List ℕ) (keys numbers : List ℕ) (P Q : List (List ℕ)) (p : ℕ)
-    → ((o : ℕ) → is_placed_earlier keys o p ≡ true → placed_targets_at P o ≡ placed_targets_at Q o)
-    → placed_sum_before chosen keys numbers P p ≡ placed_sum_before chosen keys numbers Q p
+    → ((o : ℕ) → is_earlier_in_placement keys o p ≡ true → placement_targets_at P o ≡ placement_targets_at Q o)
+    → placement_sum_before chosen keys numbers P p ≡ placement_sum_before chosen keys numbers Q p
 sums_agree chosen keys numbers P Q p same = search (rules, filter_agree)
 
 -- a turn changes no sum before itself or before an earlier one
 sums-set : (chosen : List ℕ → List ℕ) (keys numbers : List ℕ) (P : List (List ℕ)) (p q : ℕ)
-    (targets : List ℕ) → is_placed_earlier keys p q ≡ false
-    → placed_sum_before chosen keys numbers (set P p targets) q ≡ placed_sum_before chosen keys numbers P q
+    (targets : List ℕ) → is_earlier_in_placement keys p q ≡ false
+    → placement_sum_before chosen keys numbers (set P p targets) q ≡ placement_sum_before chosen keys numbers P q
 sums-set chosen keys numbers P p q targets later = search (rules, sums_agree, get_or-set_other)
 
 pub sum-filter : (f : ℕ → ℕ) (p : ℕ → Bool) (xs : List ℕ)
@@ -148,21 +148,21 @@ each-append P (x ∷ xs) ys front back = (front.0, each-append P xs ys front.1 b
 -- what was put on a switch so far is its sum before the next turn
 running_sum : (chosen : List ℕ → List ℕ) (keys numbers : List ℕ) (P : List (List ℕ))
     (done : List ℕ) (p : ℕ) (left : List ℕ) → turns keys ≡ done ++ p ∷ left → (s : ℕ)
-    → placed_sum_before chosen keys numbers P p s ≡ sum_among chosen numbers P done s
+    → placement_sum_before chosen keys numbers P p s ≡ sum_among chosen numbers P done s
 running_sum chosen keys numbers P done p left split s =
     let parts = split_of keys done p left split in
     let number : ℕ → ℕ = λ o. get_or numbers o 0 in
-    let among : ℕ → Bool = λ o. list_any (eqb s) (chosen (placed_targets_at P o)) in
-    let held : ℕ → Bool = λ o. is_placed_earlier keys o p && among o in
+    let among : ℕ → Bool = λ o. list_any (eqb s) (chosen (placement_targets_at P o)) in
+    let held : ℕ → Bool = λ o. is_earlier_in_placement keys o p && among o in
     let weight : ℕ → ℕ = λ o. cond (held o) (number o) 0 in
-    let there = each_weaker (λ o. is_placed_earlier keys o p ≡ true) _
+    let there = each_weaker (λ o. is_earlier_in_placement keys o p ≡ true) _
     (λ o is. ap (λ b. cond (b && among o) (number o) 0) is) done parts.before in
-    let later = each_weaker (λ o. is_placed_earlier keys p o ≡ true) _
+    let later = each_weaker (λ o. is_earlier_in_placement keys p o ≡ true) _
     (λ o is. ap (λ b. cond (b && among o) (number o) 0)
     (false_from_ne_true _ (λ flipped. not_both keys p o is flipped))) left parts.after in
     let whole : sum_by number (filter held (range_with_len 0 (length keys))) ≡ sum_by weight
     (done ++ p ∷ left) = sum-filter number held (range_with_len 0 (length keys))
-    ∙ sym (sum-in_order weight (is_placed_earlier keys) (range_with_len 0 (length keys)))
+    ∙ sym (sum-in_order weight (is_earlier_in_placement keys) (range_with_len 0 (length keys)))
     ∙ ap (sum_by weight) split in
     let front = sum_same weight (λ o. cond (among o) (number o) 0) done there in
     let back = sum_none weight (p ∷ left)
@@ -182,19 +182,19 @@ pub taken_none : (t : PlacementTurnRule) (placement : List (List ℕ)) → lengt
 taken_none t placement len = record { split = refl; number = len; hosted = tt }
 
 hosted-set : (t : PlacementTurnRule) (P : List (List ℕ)) (p q : ℕ) (targets : List ℕ)
-    → is_placed_earlier t.keys q p ≡ true → HasDuePlacementTargets t P q → HasDuePlacementTargets t (set P p targets) q
+    → is_earlier_in_placement t.keys q p ≡ true → HasDuePlacementTargets t P q → HasDuePlacementTargets t (set P p targets) q
 hosted-set t P p q targets earlier hosted =
     let later = false_from_ne_true _ (λ flipped. not_both t.keys q p earlier flipped) in
     let other : q ≢ p = λ same. false≢true (sym ((earlier_order t.keys).never p)
-    ∙ subst (λ z. is_placed_earlier t.keys z p ≡ true) same earlier) in
+    ∙ subst (λ z. is_earlier_in_placement t.keys z p ≡ true) same earlier) in
     first_along _ _ _ _ t.rooms (get_or t.sizes q 0) (1 + t.backups) _ _
     (sym (sums-set (λ xs. xs) t.keys t.sizes P p q targets later))
     (sym (sums-set t.loaded t.keys t.keys P p q targets later))
     (sym (get_or-set_other P p q targets [] other)) hosted
 
 pub taken_more : (t : PlacementTurnRule) (P : List (List ℕ)) (done : List ℕ) (p : ℕ) (left targets : List ℕ)
-    → TakenTurns t P done (p ∷ left) → AreLightestSwitches (placed_sum_before (λ xs. xs) t.keys t.sizes P p)
-    (placed_sum_before t.loaded t.keys t.keys P p) t.rooms (get_or t.sizes p 0) (1 + t.backups) targets
+    → TakenTurns t P done (p ∷ left) → AreLightestPlacementSwitches (placement_sum_before (λ xs. xs) t.keys t.sizes P p)
+    (placement_sum_before t.loaded t.keys t.keys P p) t.rooms (get_or t.sizes p 0) (1 + t.backups) targets
     → TakenTurns t (set P p targets) (done ++ p ∷ []) left
 taken_more t P done p left targets taken first =
     let parts = split_of t.keys done p left taken.split in
@@ -211,7 +211,7 @@ taken_more t P done p left targets taken first =
           (both done parts.before taken.hosted) (here, tt);
     }
   where
-    both : (xs : List ℕ) → AllByRecursion (λ o. is_placed_earlier t.keys o p ≡ true) xs
+    both : (xs : List ℕ) → AllByRecursion (λ o. is_earlier_in_placement t.keys o p ≡ true) xs
         → AllByRecursion (HasDuePlacementTargets t P) xs → AllByRecursion (HasDuePlacementTargets t (set P p targets)) xs
     both [] earlier hosted = tt
     both (x ∷ xs) earlier hosted =
@@ -223,7 +223,7 @@ taken_within t P done p left taken =
     omega (arith, (split_of t.keys done p left taken.split).within, taken.number)
 
 pub taken_all : (t : PlacementTurnRule) (P : List (List ℕ)) (done : List ℕ) → TakenTurns t P done []
-    → AreHosted t P
+    → PlacementHasTargets t P
 taken_all t P done taken = record {
   number = taken.number;
   hosted = λ p within. each_from_count (HasDuePlacementTargets t P) p done taken.hosted
@@ -232,7 +232,7 @@ taken_all t P done taken = record {
 
 pub taken_refused : (t : PlacementTurnRule) (P : List (List ℕ)) (done : List ℕ) (p : ℕ) (left : List ℕ)
     → TakenTurns t P done (p ∷ left)
-    → length (placement_with_room (placed_sum_before (λ xs. xs) t.keys t.sizes P p) t.rooms (get_or t.sizes p 0))
+    → length (placement_with_room (placement_sum_before (λ xs. xs) t.keys t.sizes P p) t.rooms (get_or t.sizes p 0))
     < 1 + t.backups → IsPlacementRefused t p
 taken_refused t P done p left taken fewer =
     let parts = split_of t.keys done p left taken.split in record {
@@ -251,12 +251,12 @@ sum_among_more : (chosen : List ℕ → List ℕ) (t : PlacementTurnRule) (numbe
 sum_among_more chosen t numbers P done p left targets taken s =
     let parts = split_of t.keys done p left taken.split in
     let put : List ℕ → ℕ → ℕ = λ xs o. cond (list_any (eqb s) (chosen xs)) (get_or numbers o 0) 0 in
-    let after : ℕ → ℕ = λ o. put (placed_targets_at (set P p targets) o) o in
-    let before : ℕ → ℕ = λ o. put (placed_targets_at P o) o in
+    let after : ℕ → ℕ = λ o. put (placement_targets_at (set P p targets) o) o in
+    let before : ℕ → ℕ = λ o. put (placement_targets_at P o) o in
     let same : AllByRecursion (λ o. after o ≡ before o) done =
-    each_weaker (λ o. is_placed_earlier t.keys o p ≡ true) _
+    each_weaker (λ o. is_earlier_in_placement t.keys o p ≡ true) _
     (λ o is. let other : o ≢ p = λ here. false≢true
-    (sym ((earlier_order t.keys).never p) ∙ subst (λ z. is_placed_earlier t.keys z p ≡ true) here is) in
+    (sym ((earlier_order t.keys).never p) ∙ subst (λ z. is_earlier_in_placement t.keys z p ≡ true) here is) in
     ap (λ xs. put xs o) (get_or-set_other P p o targets [] other)) done parts.before in
     let here : after p ≡ put targets p = ap (λ xs. put xs p)
     (get_or-set_same P p targets [] (omega (arith, parts.within, taken.number))) in
@@ -285,13 +285,13 @@ pub record Loaded (t : PlacementTurnRule) (held loads : List ℕ) (placement : L
 -- the running sums are those before the next turn
 held_before : (t : PlacementTurnRule) (held loads : List ℕ) (P : List (List ℕ)) (done : List ℕ) (p : ℕ)
     (left : List ℕ) → Loaded t held loads P done (p ∷ left)
-    → (λ s. get_or held s 0) ≡ placed_sum_before (λ xs. xs) t.keys t.sizes P p
+    → (λ s. get_or held s 0) ≡ placement_sum_before (λ xs. xs) t.keys t.sizes P p
 held_before t held loads P done p left loaded = fun_ext (λ s. loaded.held_is s
     ∙ sym (running_sum (λ xs. xs) t.keys t.sizes P done p left loaded.taken.split s))
 
 loads_before : (t : PlacementTurnRule) (held loads : List ℕ) (P : List (List ℕ)) (done : List ℕ) (p : ℕ)
     (left : List ℕ) → Loaded t held loads P done (p ∷ left)
-    → (λ s. get_or loads s 0) ≡ placed_sum_before t.loaded t.keys t.keys P p
+    → (λ s. get_or loads s 0) ≡ placement_sum_before t.loaded t.keys t.keys P p
 loads_before t held loads P done p left loaded = search (rules, running_sum)
 
 pub loaded_none : (t : PlacementTurnRule) (held loads : List ℕ) (P : List (List ℕ))
@@ -313,7 +313,7 @@ IsAdded old new targets size = (s : ℕ) → get_or new s 0
 
 pub loaded_more : (t : PlacementTurnRule) (held loads : List ℕ) (P : List (List ℕ)) (done : List ℕ) (p : ℕ)
     (left targets more_held more_loads : List ℕ) → Loaded t held loads P done (p ∷ left)
-    → AreLightestSwitches (λ s. get_or held s 0) (λ s. get_or loads s 0) t.rooms (get_or t.sizes p 0)
+    → AreLightestPlacementSwitches (λ s. get_or held s 0) (λ s. get_or loads s 0) t.rooms (get_or t.sizes p 0)
     (1 + t.backups) targets → IsAdded held more_held targets (get_or t.sizes p 0)
     → IsAdded loads more_loads (t.loaded targets) (get_or t.keys p 0)
     → length more_held ≡ length held → length more_loads ≡ length loads
@@ -353,16 +353,16 @@ pub carried-room : (t : PlacementTurnRule) (held loads : List ℕ) (P : List (Li
     → get_or loads s 0 + get_or t.keys p 0 ≤ sum t.keys
 carried-room t held loads P done p left loaded s =
     let key : ℕ → ℕ = λ o. get_or t.keys o 0 in
-    let put : ℕ → ℕ = λ o. cond (list_any (eqb s) (t.loaded (placed_targets_at P o))) (key o) 0 in
+    let put : ℕ → ℕ = λ o. cond (list_any (eqb s) (t.loaded (placement_targets_at P o))) (key o) 0 in
     omega (
       arith,
       loaded.loads_is s,
       sum_by-le-sum_by put key done
-          (λ o. part_le (list_any (eqb s) (t.loaded (placed_targets_at P o))) (key o)),
+          (λ o. part_le (list_any (eqb s) (t.loaded (placement_targets_at P o))) (key o)),
       sum_by-append key done (p ∷ left),
       sum_by-cons key p left,
       ap (sum_by key) loaded.taken.split,
-      sum-in_order key (is_placed_earlier t.keys) (range_with_len 0 (length t.keys)),
+      sum-in_order key (is_earlier_in_placement t.keys) (range_with_len 0 (length t.keys)),
       sum-map key (range_with_len 0 (length t.keys)),
       ap sum (fill_by_all key t.keys (length t.keys) 0 refl (λ k within. refl)),
     )
@@ -375,15 +375,15 @@ carried-room t held loads P done p left loaded s =
 
 -- two placements give these partitions the same targets
 abbrev Agree : List (List ℕ) → List (List ℕ) → List ℕ → Type 0
-Agree P Q xs = AllByRecursion (λ o. placed_targets_at P o ≡ placed_targets_at Q o) xs
+Agree P Q xs = AllByRecursion (λ o. placement_targets_at P o ≡ placement_targets_at Q o) xs
 
 agree_next : (chosen : List ℕ → List ℕ) (keys numbers : List ℕ) (P Q : List (List ℕ))
     (done : List ℕ) (p : ℕ) (left : List ℕ) → turns keys ≡ done ++ p ∷ left → Agree P Q done
-    → placed_sum_before chosen keys numbers P p ≡ placed_sum_before chosen keys numbers Q p
+    → placement_sum_before chosen keys numbers P p ≡ placement_sum_before chosen keys numbers Q p
 agree_next chosen keys numbers P Q done p left split agree =
     let parts = split_of keys done p left split in
     sums_agree chosen keys numbers P Q p (λ o earlier.
-    each_from_count (λ z. placed_targets_at P z ≡ placed_targets_at Q z) o
+    each_from_count (λ z. placement_targets_at P z ≡ placement_targets_at Q z) o
     done agree (parts.others o (earlier-within keys o p earlier parts.within) earlier))
 
 agree_from : (t : PlacementTurnRule) (P Q : List (List ℕ)) (now done left : List ℕ)
@@ -392,15 +392,15 @@ agree_from : (t : PlacementTurnRule) (P Q : List (List ℕ)) (now done left : Li
 agree_from t P Q [] done left split agree p q = subst (Agree P Q) (sym (append-nil done)) agree
 agree_from t P Q (x ∷ xs) done left split agree p q =
     let held = agree_next (λ xs. xs) t.keys t.sizes P Q done x (xs ++ left) split agree in
-    let here = same_first (placed_sum_before (λ xs. xs) t.keys t.sizes Q x)
-    (placed_sum_before t.loaded t.keys t.keys Q x) t.rooms (get_or t.sizes x 0)
-    (1 + t.backups) (placed_targets_at P x) (placed_targets_at Q x) (first_along _ _ _ _ t.rooms
-    (get_or t.sizes x 0) (1 + t.backups) (placed_targets_at P x) (placed_targets_at P x) held
+    let here = same_first (placement_sum_before (λ xs. xs) t.keys t.sizes Q x)
+    (placement_sum_before t.loaded t.keys t.keys Q x) t.rooms (get_or t.sizes x 0)
+    (1 + t.backups) (placement_targets_at P x) (placement_targets_at Q x) (first_along _ _ _ _ t.rooms
+    (get_or t.sizes x 0) (1 + t.backups) (placement_targets_at P x) (placement_targets_at P x) held
     (agree_next t.loaded t.keys t.keys P Q done x (xs ++ left) split agree) refl p.0) q.0 in
     subst (Agree P Q) (append_assoc done (x ∷ []) xs)
     (agree_from t P Q xs (done ++ x ∷ []) left
     (split ∙ sym (append_assoc done (x ∷ []) (xs ++ left)))
-    (each-append (λ o. placed_targets_at P o ≡ placed_targets_at Q o) done (x ∷ []) agree (here, tt)) p.1 q.1)
+    (each-append (λ o. placement_targets_at P o ≡ placement_targets_at Q o) done (x ∷ []) agree (here, tt)) p.1 q.1)
 
 each_within : (P : ℕ → Type 0) (sizes : List ℕ) → ((p : ℕ) → p < length sizes → P p) → (xs : List ℕ)
     → ((z : ℕ) → 0 < count z xs → z < length sizes) → AllByRecursion P xs
@@ -410,12 +410,12 @@ each_within P sizes all (x ∷ xs) within = (
   each_within P sizes all xs (λ z there. within z (omega (arith, sum_by-cons (one_of z) x xs))),
 )
 
-pub same_hosted : (t : PlacementTurnRule) (P Q : List (List ℕ)) → AreHosted t P → AreHosted t Q → P ≡ Q
+pub same_hosted : (t : PlacementTurnRule) (P Q : List (List ℕ)) → PlacementHasTargets t P → PlacementHasTargets t Q → P ≡ Q
 same_hosted t P Q p q =
-    let due = λ (R : List (List ℕ)) (r : AreHosted t R). each_within (HasDuePlacementTargets t R) t.keys r.hosted
+    let due = λ (R : List (List ℕ)) (r : PlacementHasTargets t R). each_within (HasDuePlacementTargets t R) t.keys r.hosted
     (turns t.keys) (turns-within t.keys) in
     same_lists P Q (omega (arith, p.number, q.number)) (λ k d within.
-    let here = each_from_count (λ z. placed_targets_at P z ≡ placed_targets_at Q z) k (turns t.keys)
+    let here = each_from_count (λ z. placement_targets_at P z ≡ placement_targets_at Q z) k (turns t.keys)
     (agree_from t P Q (turns t.keys) [] [] (sym (append-nil (turns t.keys))) tt (due P p) (due Q q))
     (in_turns t.keys k (omega (arith, p.number))) in
     get_or_default P k d [] within ∙ here
@@ -423,27 +423,27 @@ same_hosted t P Q p q =
 
 -- a partition that is refused has no targets in any placement of the earlier ones
 refused_clash : (t : PlacementTurnRule) (p : ℕ) → IsPlacementRefused t p → (Q : List (List ℕ))
-    → ((o : ℕ) → o < length t.keys → is_placed_earlier t.keys o p ≡ true → HasDuePlacementTargets t Q o) → HasDuePlacementTargets t Q p → ⊥
+    → ((o : ℕ) → o < length t.keys → is_earlier_in_placement t.keys o p ≡ true → HasDuePlacementTargets t Q o) → HasDuePlacementTargets t Q p → ⊥
 refused_clash t p refused Q earlier due =
     let cut = split_at p (turns t.keys) (in_turns t.keys p refused.there) in
     let parts = split_of t.keys cut.0 p cut.1 cut.2 in
     let within : (z : ℕ) → 0 < count z cut.0 → z < length t.keys = λ z there. turns-within t.keys z
     (omega (arith, ap (count z) cut.2, sum_by-append (one_of z) cut.0 (p ∷ cut.1))) in
     let all = λ (R : List (List ℕ)) (r : (o : ℕ) → o < length t.keys
-    → is_placed_earlier t.keys o p ≡ true → HasDuePlacementTargets t R o). each_both R r cut.0 parts.before within in
+    → is_earlier_in_placement t.keys o p ≡ true → HasDuePlacementTargets t R o). each_both R r cut.0 parts.before within in
     let agree = agree_from t refused.placement Q cut.0 [] (p ∷ cut.1) cut.2 tt
     (all refused.placement refused.earlier) (all Q earlier) in
     let held = agree_next (λ xs. xs) t.keys t.sizes refused.placement Q cut.0 p cut.1 cut.2 agree in
-    let room = room_for_first (placed_sum_before (λ xs. xs) t.keys t.sizes Q p)
-    (placed_sum_before t.loaded t.keys t.keys Q p) t.rooms (get_or t.sizes p 0) (1 + t.backups)
-    (placed_targets_at Q p) due in
+    let room = room_for_first (placement_sum_before (λ xs. xs) t.keys t.sizes Q p)
+    (placement_sum_before t.loaded t.keys t.keys Q p) t.rooms (get_or t.sizes p 0) (1 + t.backups)
+    (placement_targets_at Q p) due in
     let fewer = subst (λ f. length (placement_with_room f t.rooms (get_or t.sizes p 0)) < 1 + t.backups) held
     refused.fewer in
     omega (arith, room, fewer)
   where
     each_both : (R : List (List ℕ))
-        → ((o : ℕ) → o < length t.keys → is_placed_earlier t.keys o p ≡ true → HasDuePlacementTargets t R o)
-        → (xs : List ℕ) → AllByRecursion (λ o. is_placed_earlier t.keys o p ≡ true) xs
+        → ((o : ℕ) → o < length t.keys → is_earlier_in_placement t.keys o p ≡ true → HasDuePlacementTargets t R o)
+        → (xs : List ℕ) → AllByRecursion (λ o. is_earlier_in_placement t.keys o p ≡ true) xs
         → ((z : ℕ) → 0 < count z xs → z < length t.keys) → AllByRecursion (HasDuePlacementTargets t R) xs
     each_both R all [] before within = tt
     each_both R all (x ∷ xs) before within = (
@@ -453,7 +453,7 @@ refused_clash t p refused Q earlier due =
     )
 
 refused_before : (t : PlacementTurnRule) (p q : ℕ) → IsPlacementRefused t p → IsPlacementRefused t q
-    → is_placed_earlier t.keys p q ≡ true → ⊥
+    → is_earlier_in_placement t.keys p q ≡ true → ⊥
 refused_before t p q at_p at_q first = refused_clash t p at_p at_q.placement
     (λ o within earlier. at_q.earlier o within ((earlier_order t.keys).trans o p q earlier first))
     (at_q.earlier p at_p.there first)
@@ -461,14 +461,14 @@ refused_before t p q at_p at_q first = refused_clash t p at_p at_q.placement
 pub same_refused : (t : PlacementTurnRule) (p q : ℕ) → IsPlacementRefused t p → IsPlacementRefused t q → p ≡ q
 same_refused t p q at_p at_q = elim (cases_eq p q) [
   | inl same ↦ same
-  | inr other ↦ elim (cases_Bool (is_placed_earlier t.keys q p)) [
+  | inr other ↦ elim (cases_Bool (is_earlier_in_placement t.keys q p)) [
     | inl later ↦ absurd (refused_before t q p at_q at_p later)
     | inr first ↦ absurd (refused_before t p q at_p at_q
         ((earlier_order t.keys).total p q other first))
   ]
 ]
 
-pub hosted_or_refused : (t : PlacementTurnRule) (p : ℕ) (Q : List (List ℕ)) → AreHosted t Q → IsPlacementRefused t p → ⊥
+pub hosted_or_refused : (t : PlacementTurnRule) (p : ℕ) (Q : List (List ℕ)) → PlacementHasTargets t Q → IsPlacementRefused t p → ⊥
 hosted_or_refused t p Q placement refused = refused_clash t p refused Q
     (λ o within _. placement.hosted o within) (placement.hosted p refused.there)
 
@@ -479,18 +479,18 @@ fits_more : (t : PlacementTurnRule) (P : List (List ℕ)) (done : List ℕ) (p :
     → turns t.keys ≡ done ++ p ∷ left → HasDuePlacementTargets t P p
     → sum_among (λ xs. xs) t.sizes P done s ≤ get_or t.rooms s 0
     → sum_among (λ xs. xs) t.sizes P (done ++ p ∷ []) s ≤ get_or t.rooms s 0
-fits_more t P done p left s split due fits = by_case (list_any (eqb s) (placed_targets_at P p)) refl where
-  by_case : (b : Bool) → list_any (eqb s) (placed_targets_at P p) ≡ b
+fits_more t P done p left s split due fits = by_case (list_any (eqb s) (placement_targets_at P p)) refl where
+  by_case : (b : Bool) → list_any (eqb s) (placement_targets_at P p) ≡ b
       → sum_among (λ xs. xs) t.sizes P (done ++ p ∷ []) s ≤ get_or t.rooms s 0
   by_case true among =
-      let put : ℕ → ℕ = λ o. cond (list_any (eqb s) (placed_targets_at P o)) (get_or t.sizes o 0) 0 in
-      let before : ℕ → ℕ = placed_sum_before (λ xs. xs) t.keys t.sizes P p in
-      let load : ℕ → ℕ = placed_sum_before t.loaded t.keys t.keys P p in
+      let put : ℕ → ℕ = λ o. cond (list_any (eqb s) (placement_targets_at P o)) (get_or t.sizes o 0) 0 in
+      let before : ℕ → ℕ = placement_sum_before (λ xs. xs) t.keys t.sizes P p in
+      let load : ℕ → ℕ = placement_sum_before t.loaded t.keys t.keys P p in
       let room : before s + get_or t.sizes p 0 ≤ get_or t.rooms s 0 =
-      among_holds (λ z. before z + get_or t.sizes p 0 ≤ get_or t.rooms z 0) s (placed_targets_at P p)
+      among_holds (λ z. before z + get_or t.sizes p 0 ≤ get_or t.rooms z 0) s (placement_targets_at P p)
       (recursion_from_All (λ z. before z + get_or t.sizes p 0 ≤ get_or t.rooms z 0)
-      (placed_targets_at P p) (first_room before load t.rooms (get_or t.sizes p 0)
-      (1 + t.backups) (placed_targets_at P p) due)) among in
+      (placement_targets_at P p) (first_room before load t.rooms (get_or t.sizes p 0)
+      (1 + t.backups) (placement_targets_at P p) due)) among in
       omega (
         arith,
         sum_by_push put done p,
@@ -499,7 +499,7 @@ fits_more t P done p left s split due fits = by_case (list_any (eqb s) (placed_t
         running_sum (λ xs. xs) t.keys t.sizes P done p left split s,
       )
   by_case false among =
-      let put : ℕ → ℕ = λ o. cond (list_any (eqb s) (placed_targets_at P o)) (get_or t.sizes o 0) 0 in
+      let put : ℕ → ℕ = λ o. cond (list_any (eqb s) (placement_targets_at P o)) (get_or t.sizes o 0) 0 in
       omega (arith, sum_by_push put done p, ap (λ b. cond b (get_or t.sizes p 0) 0) among, fits)
 
 fits_from : (t : PlacementTurnRule) (P : List (List ℕ)) (now done : List ℕ) (s : ℕ)
@@ -512,13 +512,13 @@ fits_from t P (x ∷ xs) done s split due fits = rw (append_assoc done (x ∷ []
     (fits_more t P done x xs s split due.0 fits))
 
 -- all that is put on a switch is within its room
-pub hosted_fits : (t : PlacementTurnRule) (P : List (List ℕ)) → AreHosted t P → (s : ℕ)
+pub hosted_fits : (t : PlacementTurnRule) (P : List (List ℕ)) → PlacementHasTargets t P → (s : ℕ)
     → sum_among (λ xs. xs) t.sizes P (range_with_len 0 (length t.keys)) s ≤ get_or t.rooms s 0
 hosted_fits t P hosted s =
     let due = each_within (HasDuePlacementTargets t P) t.keys hosted.hosted (turns t.keys) (turns-within t.keys) in
-    let put : ℕ → ℕ = λ o. cond (list_any (eqb s) (placed_targets_at P o)) (get_or t.sizes o 0) 0 in
+    let put : ℕ → ℕ = λ o. cond (list_any (eqb s) (placement_targets_at P o)) (get_or t.sizes o 0) 0 in
     omega (
       arith,
       fits_from t P (turns t.keys) [] s refl due (omega arith),
-      sum-in_order put (is_placed_earlier t.keys) (range_with_len 0 (length t.keys)),
+      sum-in_order put (is_earlier_in_placement t.keys) (range_with_len 0 (length t.keys)),
     )

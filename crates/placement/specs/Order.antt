@@ -8,6 +8,6 @@ with_placement_key_inserted stands_before x (y ∷ ys) =
     if stands_before y x then y ∷ with_placement_key_inserted stands_before x ys else x ∷ y ∷ ys
 
 -- the numbers in order
-unfoldable pub in_order : (ℕ → ℕ → Bool) → List ℕ → List ℕ
-in_order stands_before [] = []
-in_order stands_before (x ∷ xs) = with_placement_key_inserted stands_before x (in_order stands_before xs)
+unfoldable pub in_placement_order : (ℕ → ℕ → Bool) → List ℕ → List ℕ
+in_placement_order stands_before [] = []
+in_placement_order stands_before (x ∷ xs) = with_placement_key_inserted stands_before x (in_placement_order stands_before xs)

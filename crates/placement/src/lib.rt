@@ -12,7 +12,7 @@ mod turns;
 
 ghost use Rattle.std.specs.Prelude.{ℕ, ◌≡◌, ◌<◌, ◌≤◌, ◌^◌, Ok, Err, List, length, IfOk, IfErr};
 ghost use Rattle.base.specs.Refusals.{IfRefused};
-ghost use Rattle.placement.specs.Placement.{IsPlacement, LacksRoom, MeetsPlacement, RefusesPlacement, placement_of};
+ghost use Rattle.placement.specs.Placement.{IsPlacement, PlacementLacksRoom, MeetsPlacement, RefusesPlacement, placement_of};
 
 use base::Failure;
 use policy_rules::Targets;
@@ -66,5 +66,5 @@ pub fn placement_laws()
         IsPlacement sizes rooms backups placement →
         placement_of sizes rooms backups ≡ Ok placement }
     ensures refused { (sizes rooms : List ℕ) (backups partition : ℕ) →
-        LacksRoom sizes rooms backups partition → placement_of sizes rooms backups ≡ Err partition }
+        PlacementLacksRoom sizes rooms backups partition → placement_of sizes rooms backups ≡ Err partition }
 {}

@@ -1,8 +1,8 @@
 ghost use Rattle.std.specs.Prelude.{ℕ, ◌≡◌, ◌+◌, ◌<◌, ◌≤◌, ◌^◌, length, slice_index, sum, take, All, AllPairs, MatchOption, IfOk, IfErr, IfSome, if◌then◌else◌, nat_eq};
 ghost use Rattle.std.specs.List.{list_any, range_with_len};
 ghost use Rattle.base.specs.Refusals.{IfRefused};
-ghost use Rattle.placement.specs.Order.{in_order};
-ghost use Rattle.placement.specs.Placement.{AreHosted, IsPlacementRefused, MayTakePlacementTurns, is_placed_earlier, is_lighter_switch, has_room, placement_loaded_by, placement_turn_rule, placement_with_room};
+ghost use Rattle.placement.specs.Order.{in_placement_order};
+ghost use Rattle.placement.specs.Placement.{PlacementHasTargets, IsPlacementRefused, MayTakePlacementTurns, is_earlier_in_placement, is_lighter_placement_switch, placement_has_room, placement_loaded_by, placement_turn_rule, placement_with_room};
 
 use crate::NoRoom;
 use base::Failure;
@@ -37,7 +37,7 @@ impl Load {
     ) -> Result<Vec<Targets>, Failure<NoRoom>>
         requires { MayTakePlacementTurns keys.now rooms.now backups }
         ensures hosted { IfOk result (λ targets.
-            AreHosted (placement_turn_rule self keys.now sizes.now rooms.now backups) targets.items) }
+            PlacementHasTargets (placement_turn_rule self keys.now sizes.now rooms.now backups) targets.items) }
         ensures refused { IfErr result (IfRefused (λ lack.
             IsPlacementRefused (placement_turn_rule self keys.now sizes.now rooms.now backups) lack.partition)) }
     {
@@ -77,7 +77,7 @@ impl Load {
 fn by_falling_key(alloc: Global, numbers: &[u64]) -> Result<Vec<u32>, AllocError>
     requires { length numbers.now < 2 ^ 32 }
     ensures { IfOk result (λ order.
-        order.items ≡ in_order (is_placed_earlier numbers.now) (range_with_len 0 (length numbers.now))) }
+        order.items ≡ in_placement_order (is_earlier_in_placement numbers.now) (range_with_len 0 (length numbers.now))) }
 {
     let mut order = placement_numbers_below(alloc, numbers.len() as u32)?;
     order.sort_unstable_by_key(|place| (Reverse(placement_number_at(numbers, *place)), *place));
@@ -95,7 +95,7 @@ fn by_switch_load(
     requires { length rooms.now ≤ 64 }
     ensures { IfOk result (λ switches. let load = slice_index loads.now in
         switches.items
-        ≡ in_order (is_lighter_switch load) (placement_with_room (slice_index held.now) rooms.now size)) }
+        ≡ in_placement_order (is_lighter_placement_switch load) (placement_with_room (slice_index held.now) rooms.now size)) }
 {
     let mut switches = placement_numbers_below(alloc, rooms.len() as u32)?;
     switches.retain(|switch| has_room(held, rooms, size, *switch));
@@ -150,9 +150,9 @@ pub fn widened(alloc: Global, numbers: &[u32]) -> Result<Vec<u64>, AllocError>
         .collect(alloc)
 }
 
-#[tactic(auto, using(crate::proofs::PlacementFirsts::capped_within), unfolding(crate::specs::Placement::has_room))]
+#[tactic(auto, using(crate::proofs::PlacementFirsts::capped_within), unfolding(crate::specs::Placement::placement_has_room))]
 fn has_room(held: &[u64], rooms: &[u32], size: u64, switch: u32) -> bool
-    ensures { result ≡ has_room (slice_index held.now) rooms.now size switch }
+    ensures { result ≡ placement_has_room (slice_index held.now) rooms.now size switch }
 {
     let taken = placement_number_at(held, switch).saturating_add(size);
     let room = rooms.get(switch as usize).copied().unwrap_or(0);

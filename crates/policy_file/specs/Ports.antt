@@ -11,28 +11,28 @@ use Rattle.policy_rules.specs.declared.policy.Row.{Row}
 use Rattle.policy_file.specs.declared.ports.NoPort.{NoPort}
 
 -- the action names no port, or one of the mask
-abbrev pub policy_names_only_ports : ℕ → Action → Bool
-policy_names_only_ports ports Drop = true
-policy_names_only_ports ports (Out port) = bit_at ports port == 1
+abbrev pub action_names_only_ports : ℕ → Action → Bool
+action_names_only_ports ports Drop = true
+action_names_only_ports ports (Out port) = bit_at ports port == 1
 
 -- the first row, counted from 1, whose action names a port outside the mask
-abbrev pub first_policy_row_without_port : ℕ → List Row → Option NoPort
-first_policy_row_without_port ports rows =
+abbrev pub policy_file_first_row_without_port : ℕ → List Row → Option NoPort
+policy_file_first_row_without_port ports rows =
     option_map (λ place. record { row = place + 1 })
-    (position (λ row. not (policy_names_only_ports ports row.action)) rows)
+    (position (λ row. not (action_names_only_ports ports row.action)) rows)
 
 -- the edit adds no row, or one whose action names no port or one of the mask
-abbrev pub policy_adds_only_ports : ℕ → Edit → Bool
-policy_adds_only_ports ports (Remove priority) = true
-policy_adds_only_ports ports (Add row) = policy_names_only_ports ports row.action
+abbrev pub policy_edit_fits_ports : ℕ → Edit → Bool
+policy_edit_fits_ports ports (Remove priority) = true
+policy_edit_fits_ports ports (Add row) = action_names_only_ports ports row.action
 
 -- the first edit, counted from 1, that adds a row whose action names a port outside the mask
-abbrev pub first_in_change_file : ℕ → List Edit → Option NoPort
-first_in_change_file ports edits =
+abbrev pub first_in_policy_change_file : ℕ → List Edit → Option NoPort
+first_in_policy_change_file ports edits =
     option_map (λ place. record { row = place + 1 })
-    (position (λ edit. not (policy_adds_only_ports ports edit)) edits)
+    (position (λ edit. not (policy_edit_fits_ports ports edit)) edits)
 
 -- the first row of the file that names, or adds a row that names, a port outside the mask
 abbrev pub first_in_policy_file : ℕ → PolicyFile → Option NoPort
-first_in_policy_file ports (Whole rows) = first_policy_row_without_port ports rows
-first_in_policy_file ports (Change edits) = first_in_change_file ports edits
+first_in_policy_file ports (Whole rows) = policy_file_first_row_without_port ports rows
+first_in_policy_file ports (Change edits) = first_in_policy_change_file ports edits

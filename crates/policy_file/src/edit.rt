@@ -1,8 +1,8 @@
 ghost use Rattle.std.specs.Prelude.{◌≡◌, drop, IfOk};
 ghost use Rattle.csv.specs.Records.{fields_of};
-ghost use Rattle.csv_records.specs.Texts.{is_heading};
-ghost use Rattle.policy_rules.specs.Exports.{EditAddsOnly, HasSmallActionPort};
-ghost use Rattle.policy_file.specs.Changes.{change_heading, csv_policy_edit_read, csv_policy_removal_read};
+ghost use Rattle.csv_records.specs.Texts.{is_csv_heading};
+ghost use Rattle.policy_rules.specs.Exports.{PolicyEditAddsOnly, HasSmallPolicyActionPort};
+ghost use Rattle.policy_file.specs.Changes.{policy_file_change_heading, csv_policy_edit_read, csv_policy_removal_read};
 
 use crate::error::PolicyRefusal;
 use crate::row::{is_heading, read_policy_file_row, read_priority};
@@ -19,7 +19,7 @@ pub const ADD: &str = "add";
 /// Whether the record is the heading of a change.
 #[tactic(auto, using(crate::proofs::PolicyFileEdits::edits))]
 pub fn is_change_heading(fields: &ByteRecord) -> bool
-    ensures { result ≡ is_heading change_heading (fields_of fields.now) }
+    ensures { result ≡ is_csv_heading policy_file_change_heading (fields_of fields.now) }
 {
     csv_field_has_text(fields, 0, OP) && is_heading(fields, 1)
 }
@@ -33,7 +33,7 @@ pub fn is_change_heading(fields: &ByteRecord) -> bool
 #[tactic(auto, using(crate::proofs::PolicyFileEdits::edits))]
 pub fn read_edit(fields: &ByteRecord) -> Result<Edit, PolicyRefusal>
     ensures edit { result ≡ csv_policy_edit_read (fields_of fields.now) }
-    ensures small_port { IfOk result (EditAddsOnly (λ row. HasSmallActionPort row.action)) }
+    ensures small_port { IfOk result (PolicyEditAddsOnly (λ row. HasSmallPolicyActionPort row.action)) }
 {
     if csv_field_has_text(fields, 0, REMOVE) {
         return read_removal(fields);
@@ -48,7 +48,7 @@ pub fn read_edit(fields: &ByteRecord) -> Result<Edit, PolicyRefusal>
 #[tactic(auto, using(crate::proofs::PolicyFileEdits::edits))]
 fn read_removal(fields: &ByteRecord) -> Result<Edit, PolicyRefusal>
     ensures edit { result ≡ csv_policy_removal_read (drop 1 (fields_of fields.now)) }
-    ensures small_port { IfOk result (EditAddsOnly (λ row. HasSmallActionPort row.action)) }
+    ensures small_port { IfOk result (PolicyEditAddsOnly (λ row. HasSmallPolicyActionPort row.action)) }
 {
     if fields.len() != 2 {
         return Err(PolicyRefusal::Width);

@@ -1,6 +1,6 @@
 ghost use Rattle.std.specs.Prelude.{◌≡◌, ◌≤◌, Ok, IfOk, IfErr, All, length};
-ghost use Rattle.policy_rules.specs.Exports.{EditAddsOnly, PolicyFileRowsAre, HasSmallActionPort, IsAmendment, IsPolicyRulesOrAmendment};
-ghost use Rattle.policy_file.specs.Changes.{csv_change_of, policy_file_length, is_change_text, policy_file_of};
+ghost use Rattle.policy_rules.specs.Exports.{PolicyEditAddsOnly, PolicyFileRowsAre, HasSmallPolicyActionPort, IsPolicyAmendment, IsSoundPolicyFile};
+ghost use Rattle.policy_file.specs.Changes.{csv_change_of, policy_file_length, is_policy_file_change_text, policy_file_of};
 ghost use Rattle.base.specs.Refusals.{IsCallRefusal};
 
 use crate::edit::is_change_heading;
@@ -16,9 +16,9 @@ use std::alloc::{AllocError, Global};
 ///
 /// # Errors
 /// Only out of memory.
-#[tactic(auto, unfolding(crate::specs::Changes::is_change_text))]
+#[tactic(auto, unfolding(crate::specs::Changes::is_policy_file_change_text))]
 pub fn is_change(alloc: Global, bytes: &[u8]) -> Result<bool, AllocError>
-    ensures { IfOk result (λ is. is ≡ is_change_text bytes.now) }
+    ensures { IfOk result (λ is. is ≡ is_policy_file_change_text bytes.now) }
 {
     let mut records = Records::new(alloc, bytes);
     let mut fields = ByteRecord::new(alloc);
@@ -41,9 +41,9 @@ pub fn is_change(alloc: Global, bytes: &[u8]) -> Result<bool, AllocError>
 #[tactic(auto, unfolding(crate::specs::Changes::csv_change_of))]
 pub fn read_change(alloc: Global, bytes: &[u8]) -> Result<Amendment, PolicyError>
     ensures change { IfOk result (λ change. csv_change_of bytes.now ≡ Ok change) }
-    ensures sound { IfOk result IsAmendment }
+    ensures sound { IfOk result IsPolicyAmendment }
     ensures few { IfOk result (λ change. length change ≤ 2000) }
-    ensures small_ports { IfOk result (All (EditAddsOnly (λ row. HasSmallActionPort row.action))) }
+    ensures small_ports { IfOk result (All (PolicyEditAddsOnly (λ row. HasSmallPolicyActionPort row.action))) }
     ensures refused { IfErr result (IsCallRefusal (csv_change_of bytes.now)) }
 {
     let Reading { rows, refusal } = read_policy_rows(alloc, bytes)?;
@@ -75,9 +75,9 @@ pub fn read_change(alloc: Global, bytes: &[u8]) -> Result<Amendment, PolicyError
 #[tactic(auto, unfolding(crate::specs::Changes::policy_file_of))]
 pub fn read_file(alloc: Global, bytes: &[u8]) -> Result<PolicyFile, PolicyError>
     ensures file { IfOk result (λ file. policy_file_of bytes.now ≡ Ok file) }
-    ensures sound { IfOk result IsPolicyRulesOrAmendment }
+    ensures sound { IfOk result IsSoundPolicyFile }
     ensures few { IfOk result (λ file. policy_file_length file ≤ 2000) }
-    ensures small_ports { IfOk result (PolicyFileRowsAre (λ row. HasSmallActionPort row.action)) }
+    ensures small_ports { IfOk result (PolicyFileRowsAre (λ row. HasSmallPolicyActionPort row.action)) }
     ensures refused { IfErr result (IsCallRefusal (policy_file_of bytes.now)) }
 {
     let is_change = is_change(alloc, bytes)?;

@@ -1,9 +1,9 @@
 ghost use Rattle.std.specs.Prelude.{◌≡◌, ◌≤◌, All, IfErr, IfOk, length};
 ghost use Rattle.csv.specs.Records.{fields_of};
-ghost use Rattle.csv_records.specs.Texts.{is_heading};
-ghost use Rattle.policy_rules.specs.Exports.{EditAddsOnly, HasSmallActionPort};
-ghost use Rattle.policy_file.specs.Changes.{change_rows};
-ghost use Rattle.policy_file.specs.Reading.{IsPolicyReadFrom, IsPolicyReadUpTo, PolicyRowFormat, policy_file_rows, csv_policy_rows_in};
+ghost use Rattle.csv_records.specs.Texts.{is_csv_heading};
+ghost use Rattle.policy_rules.specs.Exports.{PolicyEditAddsOnly, HasSmallPolicyActionPort};
+ghost use Rattle.policy_file.specs.Changes.{policy_file_change_rows};
+ghost use Rattle.policy_file.specs.Reading.{IsPolicyReadFrom, IsPolicyReadUpTo, PolicyFileRowFormat, policy_file_rows, csv_policy_rows_in};
 ghost use Rattle.base.specs.Refusals.{IsCallRefusal};
 
 use crate::edit::{is_change_heading, read_edit};
@@ -17,14 +17,14 @@ use std::alloc::{AllocError, Global};
 /// A row of a file, of one kind.
 pub trait FileRow: Drop {
     /// How a file states rows of this kind.
-    ghost format: { PolicyRowFormat Self };
+    ghost format: { PolicyFileRowFormat Self };
 
     /// True of a row that names a port below 64, or none.
     ghost has_small_port: { Self → Type 0 };
 
     /// Whether the record is the heading of rows of this kind.
     fn is_heading(fields: &ByteRecord) -> bool
-        ensures { result ≡ is_heading format.heading (fields_of fields.now) };
+        ensures { result ≡ is_csv_heading format.heading (fields_of fields.now) };
 
     /// The row that the record states, or why it states none.
     fn read(fields: &ByteRecord) -> Result<Self, PolicyRefusal>
@@ -35,7 +35,7 @@ pub trait FileRow: Drop {
 impl FileRow for Row {
     ghost format = { policy_file_rows };
 
-    ghost has_small_port = { λ row. HasSmallActionPort row.action };
+    ghost has_small_port = { λ row. HasSmallPolicyActionPort row.action };
 
     fn is_heading(fields: &ByteRecord) -> bool {
         is_heading(fields, 0)
@@ -47,9 +47,9 @@ impl FileRow for Row {
 }
 
 impl FileRow for Edit {
-    ghost format = { change_rows };
+    ghost format = { policy_file_change_rows };
 
-    ghost has_small_port = { EditAddsOnly (λ row. HasSmallActionPort row.action) };
+    ghost has_small_port = { PolicyEditAddsOnly (λ row. HasSmallPolicyActionPort row.action) };
 
     fn is_heading(fields: &ByteRecord) -> bool {
         is_change_heading(fields)

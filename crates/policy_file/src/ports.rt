@@ -1,7 +1,7 @@
 ghost use Rattle.std.specs.Prelude.{◌≡◌, ◌<◌, All, IfNone, IfSome, IsTrue, OnOk, length, not, position};
 ghost use Rattle.std.specs.Result.{result_err};
-ghost use Rattle.policy_rules.specs.Exports.{EditAddsOnly, PolicyFileRowsAre};
-ghost use Rattle.policy_file.specs.Ports.{policy_adds_only_ports, first_in_change_file, first_in_policy_file, first_policy_row_without_port, policy_names_only_ports};
+ghost use Rattle.policy_rules.specs.Exports.{PolicyEditAddsOnly, PolicyFileRowsAre};
+ghost use Rattle.policy_file.specs.Ports.{policy_edit_fits_ports, first_in_policy_change_file, first_in_policy_file, policy_file_first_row_without_port, action_names_only_ports};
 
 use base::has;
 use policy_rules::{Action, Amendment, Edit, Policy, PolicyFile, Row};
@@ -15,8 +15,8 @@ pub struct NoPort {
 }
 
 // Whether the action names no port, or one of the mask.
-fn policy_file_has_port(ports: u64, action: Action) -> bool
-    ensures { result ≡ policy_names_only_ports ports action }
+fn action_names_only_ports(ports: u64, action: Action) -> bool
+    ensures { result ≡ action_names_only_ports ports action }
 {
     match action {
         Action::Drop => true,
@@ -26,12 +26,12 @@ fn policy_file_has_port(ports: u64, action: Action) -> bool
 
 // The place of the first row whose action names a port outside the mask.
 fn policy_file_row_without_port(ports: u64, rows: &[Row]) -> Option<usize>
-    ensures place { result ≡ position (λ row. not (policy_names_only_ports ports row.action)) rows.now }
+    ensures place { result ≡ position (λ row. not (action_names_only_ports ports row.action)) rows.now }
     ensures there { IfSome result (λ place. place < length rows.now) }
-    ensures all { IfNone result (All (λ row. IsTrue (policy_names_only_ports ports row.action)) rows.now) }
+    ensures all { IfNone result (All (λ row. IsTrue (action_names_only_ports ports row.action)) rows.now) }
 {
     rows.iter()
-        .position(|row| !policy_file_has_port(ports, row.action))
+        .position(|row| !action_names_only_ports(ports, row.action))
 }
 
 /// Checks that each action names no port, or one of the mask, in which bit p is for port p.
@@ -39,8 +39,8 @@ fn policy_file_row_without_port(ports: u64, rows: &[Row]) -> Option<usize>
 /// # Errors
 /// The first row whose action names another port; a port of 64 or more is in no mask.
 pub fn check_ports(policy: &Policy, ports: u64) -> Result<(), NoPort>
-    ensures first { result_err result ≡ first_policy_row_without_port ports policy.now }
-    ensures all { OnOk result (All (λ row. IsTrue (policy_names_only_ports ports row.action)) policy.now) }
+    ensures first { result_err result ≡ policy_file_first_row_without_port ports policy.now }
+    ensures all { OnOk result (All (λ row. IsTrue (action_names_only_ports ports row.action)) policy.now) }
 {
     match policy_file_row_without_port(ports, policy.rows()) {
         None => Ok(()),
@@ -51,24 +51,24 @@ pub fn check_ports(policy: &Policy, ports: u64) -> Result<(), NoPort>
 }
 
 // Whether the edit adds no row, or one whose action names no port or one of the mask.
-fn policy_file_edit_port_fits(ports: u64, edit: &Edit) -> bool
-    ensures { result ≡ policy_adds_only_ports ports edit.now }
+fn policy_edit_fits_ports(ports: u64, edit: &Edit) -> bool
+    ensures { result ≡ policy_edit_fits_ports ports edit.now }
 {
     match edit {
         Edit::Remove(_) => true,
-        Edit::Add(row) => policy_file_has_port(ports, row.action),
+        Edit::Add(row) => action_names_only_ports(ports, row.action),
     }
 }
 
 // The place of the first edit that adds a row whose action names a port outside the mask.
 fn policy_file_edit_without_port(ports: u64, edits: &[Edit]) -> Option<usize>
-    ensures place { result ≡ position (λ edit. not (policy_adds_only_ports ports edit)) edits.now }
+    ensures place { result ≡ position (λ edit. not (policy_edit_fits_ports ports edit)) edits.now }
     ensures there { IfSome result (λ place. place < length edits.now) }
-    ensures all { IfNone result (All (λ edit. IsTrue (policy_adds_only_ports ports edit)) edits.now) }
+    ensures all { IfNone result (All (λ edit. IsTrue (policy_edit_fits_ports ports edit)) edits.now) }
 {
     edits
         .iter()
-        .position(|edit| !policy_file_edit_port_fits(ports, edit))
+        .position(|edit| !policy_edit_fits_ports(ports, edit))
 }
 
 /// Checks that the action of each row that the file states names a port of the mask, or none: the
@@ -79,7 +79,7 @@ fn policy_file_edit_without_port(ports: u64, edits: &[Edit]) -> Option<usize>
 pub fn check_policy_file_ports(file: &PolicyFile, ports: u64) -> Result<(), NoPort>
     ensures first { result_err result ≡ first_in_policy_file ports file.now }
     ensures all { OnOk result
-        (PolicyFileRowsAre (λ row. IsTrue (policy_names_only_ports ports row.action)) file.now) }
+        (PolicyFileRowsAre (λ row. IsTrue (action_names_only_ports ports row.action)) file.now) }
 {
     match file {
         PolicyFile::Whole(policy) => check_ports(policy, ports),
@@ -88,9 +88,9 @@ pub fn check_policy_file_ports(file: &PolicyFile, ports: u64) -> Result<(), NoPo
 }
 
 fn check_change_ports(change: &Amendment, ports: u64) -> Result<(), NoPort>
-    ensures first { result_err result ≡ first_in_change_file ports change.now }
+    ensures first { result_err result ≡ first_in_policy_change_file ports change.now }
     ensures all { OnOk result
-        (All (EditAddsOnly (λ row. IsTrue (policy_names_only_ports ports row.action))) change.now) }
+        (All (PolicyEditAddsOnly (λ row. IsTrue (action_names_only_ports ports row.action))) change.now) }
 {
     match policy_file_edit_without_port(ports, change.edits()) {
         None => Ok(()),

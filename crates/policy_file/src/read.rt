@@ -1,6 +1,6 @@
 ghost use Rattle.std.specs.Prelude.{◌≡◌, ◌≤◌, Ok, IfOk, IfErr, All, length};
-ghost use Rattle.policy_rules.specs.Exports.{HasSmallActionPort, IsPolicy};
-ghost use Rattle.policy_file.specs.Reading.{policy_of};
+ghost use Rattle.policy_rules.specs.Exports.{HasSmallPolicyActionPort, IsPolicy};
+ghost use Rattle.policy_file.specs.Reading.{policy_file_policy_of};
 ghost use Rattle.base.specs.Refusals.{IsCallRefusal};
 
 use crate::error::{PolicyError, PolicyRefusal};
@@ -18,13 +18,13 @@ use std::alloc::Global;
 /// # Errors
 /// The first refusal in the text, or out of memory. The rows are checked in order: first a row's
 /// width, then its fields from left to right, and last whether an earlier row has its priority.
-#[tactic(auto, unfolding(crate::specs::Reading::policy_of))]
+#[tactic(auto, unfolding(crate::specs::Reading::policy_file_policy_of))]
 pub fn read_policy(alloc: Global, bytes: &[u8]) -> Result<Policy, PolicyError>
-    ensures policy { IfOk result (λ policy. policy_of bytes.now ≡ Ok policy) }
+    ensures policy { IfOk result (λ policy. policy_file_policy_of bytes.now ≡ Ok policy) }
     ensures sound { IfOk result IsPolicy }
     ensures few { IfOk result (λ policy. length policy ≤ 2000) }
-    ensures small_ports { IfOk result (All (λ row. HasSmallActionPort row.action)) }
-    ensures refused { IfErr result (IsCallRefusal (policy_of bytes.now)) }
+    ensures small_ports { IfOk result (All (λ row. HasSmallPolicyActionPort row.action)) }
+    ensures refused { IfErr result (IsCallRefusal (policy_file_policy_of bytes.now)) }
 {
     let Reading { rows, refusal } = read_policy_rows(alloc, bytes)?;
     let number = rows.len() as u32;

@@ -1,9 +1,9 @@
 ghost use Rattle.std.specs.Prelude.{◌≡◌, ◌<◌, ◌+◌, ◌^◌, ◌&&◌, [], ◌∷◌, drop, IfOk, bytes_eq};
 ghost use Rattle.csv.specs.Records.{fields_of};
-ghost use Rattle.csv_records.specs.Texts.{field_or_empty, is_heading};
-ghost use Rattle.five_tuple.specs.Texts.{number_up_to};
-ghost use Rattle.policy_rules.specs.Read.{HasSmallActionPort};
-ghost use Rattle.policy_file.specs.Reading.{policy_heading, csv_policy_row_read};
+ghost use Rattle.csv_records.specs.Texts.{csv_field_or_empty, is_csv_heading};
+ghost use Rattle.five_tuple.specs.Texts.{tuple_number_up_to};
+ghost use Rattle.policy_rules.specs.Read.{HasSmallPolicyActionPort};
+ghost use Rattle.policy_file.specs.Reading.{policy_file_heading, csv_policy_row_read};
 
 use crate::error::PolicyRefusal;
 use csv_records::{ByteRecord, csv_field_has_text, field};
@@ -31,8 +31,8 @@ pub const ACTION: &str = "action";
 // Whether the fields at this place and the next are these texts.
 fn policy_csv_fields_are(fields: &ByteRecord, place: usize, one: &str, next: &str) -> bool
     requires { place + 1 < 2 ^ 64 }
-    ensures { result ≡ (bytes_eq (field_or_empty (fields_of fields.now) place) one.now
-        && bytes_eq (field_or_empty (fields_of fields.now) (place + 1)) next.now) }
+    ensures { result ≡ (bytes_eq (csv_field_or_empty (fields_of fields.now) place) one.now
+        && bytes_eq (csv_field_or_empty (fields_of fields.now) (place + 1)) next.now) }
 {
     csv_field_has_text(fields, place, one) && csv_field_has_text(fields, place + 1, next)
 }
@@ -41,7 +41,7 @@ fn policy_csv_fields_are(fields: &ByteRecord, place: usize, one: &str, next: &st
 /// whether the record is the heading of a policy.
 #[tactic(auto, using(crate::proofs::PolicyFileRowFields::sevens))]
 pub fn is_heading(fields: &ByteRecord, from: usize) -> bool
-    ensures { result ≡ is_heading policy_heading (drop from (fields_of fields.now)) }
+    ensures { result ≡ is_csv_heading policy_file_heading (drop from (fields_of fields.now)) }
 {
     if fields.len() < from || fields.len() - from != WIDTH {
         return false;
@@ -54,7 +54,7 @@ pub fn is_heading(fields: &ByteRecord, from: usize) -> bool
 
 /// The priority that the field states, up to 4294967295; `None` if it states none.
 pub fn read_priority(text: &[u8]) -> Option<u32>
-    ensures { result ≡ number_up_to 4294967295 text.now }
+    ensures { result ≡ tuple_number_up_to 4294967295 text.now }
 {
     let priority = read_number(text, 4294967295)?;
     Some(priority as u32)
@@ -68,7 +68,7 @@ pub fn read_priority(text: &[u8]) -> Option<u32>
 #[tactic(auto, using(crate::proofs::PolicyFileRowFields::sevens))]
 pub fn read_policy_file_row(fields: &ByteRecord, from: usize) -> Result<Row, PolicyRefusal>
     ensures row { result ≡ csv_policy_row_read (drop from (fields_of fields.now)) }
-    ensures small_port { IfOk result (λ row. HasSmallActionPort row.action) }
+    ensures small_port { IfOk result (λ row. HasSmallPolicyActionPort row.action) }
 {
     if fields.len() < from || fields.len() - from != WIDTH {
         return Err(PolicyRefusal::Width);
@@ -80,11 +80,11 @@ pub fn read_policy_file_row(fields: &ByteRecord, from: usize) -> Result<Row, Pol
 fn read_row_fields(fields: &ByteRecord, from: usize) -> Result<Row, PolicyRefusal>
     requires { from + 6 < 2 ^ 64 }
     ensures row { let all = fields_of fields.now in
-        result ≡ csv_policy_row_read (field_or_empty all from ∷ field_or_empty all (from + 1)
-        ∷ field_or_empty all (from + 2) ∷ field_or_empty all (from + 3)
-        ∷ field_or_empty all (from + 4) ∷ field_or_empty all (from + 5)
-        ∷ field_or_empty all (from + 6) ∷ []) }
-    ensures small_port { IfOk result (λ row. HasSmallActionPort row.action) }
+        result ≡ csv_policy_row_read (csv_field_or_empty all from ∷ csv_field_or_empty all (from + 1)
+        ∷ csv_field_or_empty all (from + 2) ∷ csv_field_or_empty all (from + 3)
+        ∷ csv_field_or_empty all (from + 4) ∷ csv_field_or_empty all (from + 5)
+        ∷ csv_field_or_empty all (from + 6) ∷ []) }
+    ensures small_port { IfOk result (λ row. HasSmallPolicyActionPort row.action) }
 {
     Ok(Row {
         priority: read_priority(field(fields, from)).ok_or(PolicyRefusal::Priority)?,

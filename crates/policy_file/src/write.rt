@@ -1,14 +1,14 @@
 ghost use Rattle.std.specs.Prelude.{ℕ, ◌≡◌, ◌<◌, ◌≤◌, ◌^◌, ◌++◌, Ok, Some, All, IfOk, List, OnOk, decimal, length};
 ghost use Rattle.std.specs.List.{join_with_byte};
 ghost use Rattle.std.specs.String.{string_bytes};
-ghost use Rattle.five_tuple.specs.Texts.{number_up_to};
-ghost use Rattle.policy_rules.specs.Exports.{EditAddsOnly, HasSmallActionPort, IsAmendment, IsPolicy, IsSoundPolicyRow};
+ghost use Rattle.five_tuple.specs.Texts.{tuple_number_up_to};
+ghost use Rattle.policy_rules.specs.Exports.{PolicyEditAddsOnly, HasSmallPolicyActionPort, IsPolicyAmendment, IsPolicy, IsSoundPolicyRow};
 ghost use Rattle.policy_rules.specs.declared.amendment.Edit.{Edit};
 ghost use Rattle.policy_rules.specs.declared.file.PolicyFile.TheVariants.{Whole, Change};
 ghost use Rattle.policy_rules.specs.declared.policy.Row.{Row};
-ghost use Rattle.policy_file.specs.Changes.{change_heading, csv_change_of, policy_file_of};
-ghost use Rattle.policy_file.specs.Printing.{policy_change_text, policy_file_edit_fields, policy_fields_line, policy_text, row_fields, rows_text};
-ghost use Rattle.policy_file.specs.Reading.{policy_heading, policy_of, csv_policy_row_read};
+ghost use Rattle.policy_file.specs.Changes.{policy_file_change_heading, csv_change_of, policy_file_of};
+ghost use Rattle.policy_file.specs.Printing.{policy_file_change_text, policy_file_edit_fields, policy_file_fields_line, policy_file_text, policy_file_row_fields, policy_file_rows_text};
+ghost use Rattle.policy_file.specs.Reading.{policy_file_heading, policy_file_policy_of, csv_policy_row_read};
 
 use crate::edit::{ADD, REMOVE};
 use five_tuple::{tuple_fields_print_plain, tuple_fields_read_back};
@@ -22,9 +22,9 @@ use std::fmt::Write;
 /// # Errors
 /// Only out of memory.
 pub fn write_policy(alloc: Global, policy: &Policy) -> Result<Vec<u8>, AllocError>
-    ensures text { IfOk result (λ bytes. bytes.items ≡ policy_text policy.now) }
+    ensures text { IfOk result (λ bytes. bytes.items ≡ policy_file_text policy.now) }
     ensures read_back { IfOk result (λ bytes. length policy.now ≤ 2000
-        → All (λ row. HasSmallActionPort row.action) policy.now → policy_of bytes.items ≡ Ok policy.now) }
+        → All (λ row. HasSmallPolicyActionPort row.action) policy.now → policy_file_policy_of bytes.items ≡ Ok policy.now) }
 {
     policy_texts_are_read_back();
     Ok(policy_csv_text_of(alloc, policy.rows())?)
@@ -35,9 +35,9 @@ pub fn write_policy(alloc: Global, policy: &Policy) -> Result<Vec<u8>, AllocErro
 /// # Errors
 /// Only out of memory.
 pub fn write_change(alloc: Global, change: &Amendment) -> Result<Vec<u8>, AllocError>
-    ensures text { IfOk result (λ bytes. bytes.items ≡ policy_change_text change.now) }
+    ensures text { IfOk result (λ bytes. bytes.items ≡ policy_file_change_text change.now) }
     ensures read_back { IfOk result (λ bytes. length change.now ≤ 2000
-        → All (EditAddsOnly (λ row. HasSmallActionPort row.action)) change.now
+        → All (PolicyEditAddsOnly (λ row. HasSmallPolicyActionPort row.action)) change.now
         → policy_file_of bytes.items ≡ Ok (Change change.now)) }
 {
     change_texts_are_read_back();
@@ -48,10 +48,10 @@ pub fn write_change(alloc: Global, change: &Amendment) -> Result<Vec<u8>, AllocE
 /// law about the texts only.
 pub fn policy_texts_are_read_back()
     ensures policy { (rows : List Row) → IsPolicy rows → length rows ≤ 2000
-        → All (λ row. HasSmallActionPort row.action) rows → policy_of (policy_text rows) ≡ Ok rows }
+        → All (λ row. HasSmallPolicyActionPort row.action) rows → policy_file_policy_of (policy_file_text rows) ≡ Ok rows }
     ensures file { (rows : List Row) → IsPolicy rows → length rows ≤ 2000
-        → All (λ row. HasSmallActionPort row.action) rows
-        → policy_file_of (policy_text rows) ≡ Ok (Whole rows) }
+        → All (λ row. HasSmallPolicyActionPort row.action) rows
+        → policy_file_of (policy_file_text rows) ≡ Ok (Whole rows) }
 {
     row_fields_state_the_row();
     tuple_fields_print_plain();
@@ -60,12 +60,12 @@ pub fn policy_texts_are_read_back()
 /// The text of a change is read back to the change, for at most 2,000 edits that add rows with
 /// ports below 64: a law about the texts only.
 pub fn change_texts_are_read_back()
-    ensures change { (edits : List Edit) → IsAmendment edits → length edits ≤ 2000
-        → All (EditAddsOnly (λ row. HasSmallActionPort row.action)) edits
-        → csv_change_of (policy_change_text edits) ≡ Ok edits }
-    ensures file { (edits : List Edit) → IsAmendment edits → length edits ≤ 2000
-        → All (EditAddsOnly (λ row. HasSmallActionPort row.action)) edits
-        → policy_file_of (policy_change_text edits) ≡ Ok (Change edits) }
+    ensures change { (edits : List Edit) → IsPolicyAmendment edits → length edits ≤ 2000
+        → All (PolicyEditAddsOnly (λ row. HasSmallPolicyActionPort row.action)) edits
+        → csv_change_of (policy_file_change_text edits) ≡ Ok edits }
+    ensures file { (edits : List Edit) → IsPolicyAmendment edits → length edits ≤ 2000
+        → All (PolicyEditAddsOnly (λ row. HasSmallPolicyActionPort row.action)) edits
+        → policy_file_of (policy_file_change_text edits) ≡ Ok (Change edits) }
 {
     row_fields_state_the_row();
     priorities_are_read_back();
@@ -74,8 +74,8 @@ pub fn change_texts_are_read_back()
 
 // The printed fields of a row whose port is below 64 state the row: a law about the texts only.
 fn row_fields_state_the_row()
-    ensures { (row : Row) → IsSoundPolicyRow row → HasSmallActionPort row.action
-        → csv_policy_row_read (row_fields row) ≡ Ok row }
+    ensures { (row : Row) → IsSoundPolicyRow row → HasSmallPolicyActionPort row.action
+        → csv_policy_row_read (policy_file_row_fields row) ≡ Ok row }
 {
     priorities_are_read_back();
     tuple_fields_read_back();
@@ -85,7 +85,7 @@ fn row_fields_state_the_row()
 // A priority is read back from its digits: a law about the texts only.
 fn priorities_are_read_back()
     ensures { (priority : ℕ) → priority < 2 ^ 32
-        → number_up_to 4294967295 (decimal priority) ≡ Some priority }
+        → tuple_number_up_to 4294967295 (decimal priority) ≡ Some priority }
 {
     tuple_fields_read_back();
 }
@@ -101,18 +101,18 @@ trait PolicyFileRecord {
     /// Appends the heading's line.
     fn write_heading(text: &mut String) -> Result<(), AllocError>
         ensures { OnOk result
-            (string_bytes text.new ≡ string_bytes text.old ++ policy_fields_line heading) };
+            (string_bytes text.new ≡ string_bytes text.old ++ policy_file_fields_line heading) };
 
     /// Appends the record's line.
     fn write(&self, text: &mut String) -> Result<(), AllocError>
         ensures { OnOk result
-            (string_bytes text.new ≡ string_bytes text.old ++ policy_fields_line (fields self.now)) };
+            (string_bytes text.new ≡ string_bytes text.old ++ policy_file_fields_line (fields self.now)) };
 }
 
 impl PolicyFileRecord for Row {
-    ghost heading = { policy_heading };
+    ghost heading = { policy_file_heading };
 
-    ghost fields = { row_fields };
+    ghost fields = { policy_file_row_fields };
 
     fn write_heading(text: &mut String) -> Result<(), AllocError> {
         text.push_str("priority,src,dst,sport,dport,proto,action\n")
@@ -126,7 +126,7 @@ impl PolicyFileRecord for Row {
 }
 
 impl PolicyFileRecord for Edit {
-    ghost heading = { change_heading };
+    ghost heading = { policy_file_change_heading };
 
     ghost fields = { policy_file_edit_fields };
 
@@ -149,7 +149,7 @@ impl PolicyFileRecord for Edit {
 // The heading's line, and then a line for each row.
 fn policy_csv_text_of<R: PolicyFileRecord>(alloc: Global, rows: &[R]) -> Result<Vec<u8>, AllocError>
     ensures { IfOk result (λ bytes.
-        bytes.items ≡ policy_fields_line R.heading ++ rows_text R.fields rows.now) }
+        bytes.items ≡ policy_file_fields_line R.heading ++ policy_file_rows_text R.fields rows.now) }
 {
     let mut text = String::new(alloc);
     R::write_heading(&mut text)?;
@@ -163,7 +163,7 @@ fn write_policy_csv_rows<R: PolicyFileRecord>(
     rows: &[R],
 ) -> Result<(), AllocError>
     ensures { OnOk result
-        (string_bytes text.new ≡ string_bytes text.old ++ rows_text R.fields rows.now) }
+        (string_bytes text.new ≡ string_bytes text.old ++ policy_file_rows_text R.fields rows.now) }
 {
     for row in rows {
         row.write(text)?;
@@ -176,7 +176,7 @@ fn write_policy_csv_rows<R: PolicyFileRecord>(
 struct RowRecord(Row);
 
 impl fmt::Display for RowRecord {
-    ghost output = { λ r. Some (join_with_byte 44 (row_fields r.0)) };
+    ghost output = { λ r. Some (join_with_byte 44 (policy_file_row_fields r.0)) };
 
     fn fmt<W: fmt::Write>(&self, f: &mut fmt::Formatter<W>) -> fmt::Result {
         let Row {

@@ -2,7 +2,7 @@
 use Rattle.std.proofs.Common.{[], ◌&&◌, ◌+◌, ◌<◌, ◌||◌, ◌∙◌, ◌∷◌, ◌≡◌, ◌≢◌, ◌≤◌, ◌⊎◌, All, AllPairs, Bool, Contains, Err, List, Ok, Result, ap, arith, cond, count_by, eq-eqb, eqb, false, filter, inl, inr, le-ltb, length, lt-ltb, ltb, ltb-false, map, not, refl, subst, suc, sym, true, ℕ, rules}
 use Rattle.base.proofs.Exports.{All-append, All-cons, All-contains_itself, All-filter, All-nil, All-weaker, AllPairs-append, AllPairs-filter, AllPairs-map, Decides-eqb, IsDistinct, IsDistinct-from_AllPairs, IsIntersection, any-filter_same, any_key, count_by-le-length, exact_unsigned_eq, is_member, length-IsIntersection, length-filter_both, length-map, list_all, list_any, list_any_at, nat_eq_equiv, nat_tests, sum_by-cons}
 use Rattle.policy_rules.specs.declared.policy.Row.{Row}
-use Rattle.policy_rules.specs.Exports.{EditAddsOnly, HaveDistinctPriorities, IsAmendment, IsPolicy, IsSoundEdit, IsSoundPolicyRow, additions, adds_taken, amended_rows, applied, has_priority, removals, removes, removes_absent, rows_after_removal}
+use Rattle.policy_rules.specs.Exports.{PolicyEditAddsOnly, PolicyHasDistinctPriorities, IsPolicyAmendment, IsPolicy, IsSoundPolicyEdit, IsSoundPolicyRow, policy_additions, policy_change_adds_taken, amended_policy_rows, policy_change_applied, policy_has_priority, policy_removals, policy_edits_remove, policy_change_removes_absent, policy_rows_after_removal}
 use Rattle.policy_rules.proofs.PolicyRowWords.{eqb_sym}
 use Rattle.policy_rules.specs.declared.amendment.Edit.{Edit}
 use Rattle.policy_rules.specs.declared.amendment.Edit.TheVariants.{Remove, Add}
@@ -15,52 +15,52 @@ abbrev outcome : Bool → Bool → Bool → List Row → Result (List Row) Inapp
 outcome absent taken many rows = cond absent (Err Absent)
     (cond taken (Err Taken) (cond many (Err (TooManyRows (length rows))) (Ok rows)))
 
-by_cases : (rows : List Row) (change : List Edit) {absent taken many : Bool} → removes_absent rows
-    change ≡ absent → adds_taken rows change ≡ taken → ltb 2000 (length (amended_rows rows change))
-    ≡ many → applied rows change ≡ outcome absent taken many (amended_rows rows change)
-unfolding applied
+by_cases : (rows : List Row) (change : List Edit) {absent taken many : Bool} → policy_change_removes_absent rows
+    change ≡ absent → policy_change_adds_taken rows change ≡ taken → ltb 2000 (length (amended_policy_rows rows change))
+    ≡ many → policy_change_applied rows change ≡ outcome absent taken many (amended_policy_rows rows change)
+unfolding policy_change_applied
 by_cases rows change one two three = search rules
 
-pub is_absent : (rows : List Row) (change : List Edit) → removes_absent rows change ≡ true
-    → applied rows change ≡ Err Absent
+pub is_absent : (rows : List Row) (change : List Edit) → policy_change_removes_absent rows change ≡ true
+    → policy_change_applied rows change ≡ Err Absent
 is_absent rows change absent = by_cases rows change absent refl refl
 
-pub is_taken : (rows : List Row) (change : List Edit) → removes_absent rows change ≡ false
-    → adds_taken rows change ≡ true → applied rows change ≡ Err Taken
+pub is_taken : (rows : List Row) (change : List Edit) → policy_change_removes_absent rows change ≡ false
+    → policy_change_adds_taken rows change ≡ true → policy_change_applied rows change ≡ Err Taken
 is_taken rows change there taken = by_cases rows change there taken refl
 
-pub is_too_long : (rows : List Row) (change : List Edit) → removes_absent rows change ≡ false
-    → adds_taken rows change ≡ false → 2000 < length (amended_rows rows change)
-    → applied rows change ≡ Err (TooManyRows (length (amended_rows rows change)))
+pub is_too_long : (rows : List Row) (change : List Edit) → policy_change_removes_absent rows change ≡ false
+    → policy_change_adds_taken rows change ≡ false → 2000 < length (amended_policy_rows rows change)
+    → policy_change_applied rows change ≡ Err (TooManyRows (length (amended_policy_rows rows change)))
 is_too_long rows change there free long = by_cases rows change there free (lt-ltb _ _ long)
 
-pub is_applied : (rows : List Row) (change : List Edit) → removes_absent rows change ≡ false
-    → adds_taken rows change ≡ false → length (amended_rows rows change) ≤ 2000
-    → applied rows change ≡ Ok (amended_rows rows change)
+pub is_applied : (rows : List Row) (change : List Edit) → policy_change_removes_absent rows change ≡ false
+    → policy_change_adds_taken rows change ≡ false → length (amended_policy_rows rows change) ≤ 2000
+    → policy_change_applied rows change ≡ Ok (amended_policy_rows rows change)
 is_applied rows change there free few = by_cases rows change there free (le-ltb _ _ few)
 
 -- what holds where a change can be applied
 pub record CanApply (rows : List Row) (change : List Edit) (after : List Row) : Type 0 where
-  pub there : removes_absent rows change ≡ false
-  pub free : adds_taken rows change ≡ false
+  pub there : policy_change_removes_absent rows change ≡ false
+  pub free : policy_change_adds_taken rows change ≡ false
   pub few : length after ≤ 2000
-  pub is : amended_rows rows change ≡ after
+  pub is : amended_policy_rows rows change ≡ after
 
-pub can_apply : (rows after : List Row) (change : List Edit) → applied rows change ≡ Ok after
+pub can_apply : (rows after : List Row) (change : List Edit) → policy_change_applied rows change ≡ Ok after
     → CanApply rows change after
-can_apply rows after change is = by (removes_absent rows change) (adds_taken rows change)
-    (ltb 2000 (length (amended_rows rows change))) refl refl refl
+can_apply rows after change is = by (policy_change_removes_absent rows change) (policy_change_adds_taken rows change)
+    (ltb 2000 (length (amended_policy_rows rows change))) refl refl refl
     (sym (by_cases rows change refl refl refl) ∙ is)
   where
-    by : (absent taken many : Bool) → removes_absent rows change ≡ absent
-        → adds_taken rows change ≡ taken → ltb 2000 (length (amended_rows rows change)) ≡ many
-        → outcome absent taken many (amended_rows rows change) ≡ Ok after
+    by : (absent taken many : Bool) → policy_change_removes_absent rows change ≡ absent
+        → policy_change_adds_taken rows change ≡ taken → ltb 2000 (length (amended_policy_rows rows change)) ≡ many
+        → outcome absent taken many (amended_policy_rows rows change) ≡ Ok after
         → CanApply rows change after
     by true taken many one two three ok = cc ok
     by false true many one two three ok = cc ok
     by false false true one two three ok = cc ok
     by false false false one two three ok =
-        let same : amended_rows rows change ≡ after = cc ok in record {
+        let same : amended_policy_rows rows change ≡ after = cc ok in record {
           there = one;
           free = two;
           few = subst (λ xs. length xs ≤ 2000) same (ltb-false 2000 _ three);
@@ -69,60 +69,60 @@ can_apply rows after change is = by (removes_absent rows change) (adds_taken row
 
 -- ---- the rows are a policy
 
-pub All-additions : (P : Row → Type 0) (edits : List Edit) → All (EditAddsOnly P) edits
-    → All P (additions edits)
+pub All-additions : (P : Row → Type 0) (edits : List Edit) → All (PolicyEditAddsOnly P) edits
+    → All P (policy_additions edits)
 All-additions P [] only = All-nil _
 All-additions P (Remove priority ∷ edits) only = All-additions P edits
     (λ k d within. only (suc k) d (omega arith))
-All-additions P (Add row ∷ edits) only = All-cons P row (additions edits)
+All-additions P (Add row ∷ edits) only = All-cons P row (policy_additions edits)
     (only 0 (Add row) (omega arith))
     (All-additions P edits (λ k d within. only (suc k) d (omega arith)))
 
 -- the rows that sound edits add are sound
-pub additions_sound : (edits : List Edit) → All IsSoundEdit edits → All IsSoundPolicyRow (additions edits)
+pub additions_sound : (edits : List Edit) → All IsSoundPolicyEdit edits → All IsSoundPolicyRow (policy_additions edits)
 additions_sound edits sound = All-additions IsSoundPolicyRow edits
-    (All-weaker IsSoundEdit (EditAddsOnly IsSoundPolicyRow) by_edit edits sound)
+    (All-weaker IsSoundPolicyEdit (PolicyEditAddsOnly IsSoundPolicyRow) by_edit edits sound)
   where
-    by_edit : (edit : Edit) → IsSoundEdit edit → EditAddsOnly IsSoundPolicyRow edit
+    by_edit : (edit : Edit) → IsSoundPolicyEdit edit → PolicyEditAddsOnly IsSoundPolicyRow edit
     by_edit (Remove priority) sound = tt
     by_edit (Add row) sound = sound
 
 -- no added row has the priority of one that stays
-apart : (staying added : List Row) → list_any (λ row. has_priority staying row.priority) added
+apart : (staying added : List Row) → list_any (λ row. policy_has_priority staying row.priority) added
     ≡ false → All (λ (x : Row). All (λ (y : Row). x.priority ≢ y.priority) added) staying
 apart staying added free = search (rules, list_any_at, eq-eqb)
 
-pub IsPolicy-amended : (rows : List Row) (change : List Edit) → IsPolicy rows → IsAmendment change
-    → adds_taken rows change ≡ false → length (amended_rows rows change) ≤ 2000
-    → IsPolicy (amended_rows rows change)
+pub IsPolicy-amended : (rows : List Row) (change : List Edit) → IsPolicy rows → IsPolicyAmendment change
+    → policy_change_adds_taken rows change ≡ false → length (amended_policy_rows rows change) ≤ 2000
+    → IsPolicy (amended_policy_rows rows change)
 IsPolicy-amended rows change policy amendment free few =
-    let stays : Row → Bool = λ row. not (removes change row.priority) in record {
-      sound = All-append IsSoundPolicyRow (rows_after_removal rows change) (additions change)
+    let stays : Row → Bool = λ row. not (policy_edits_remove change row.priority) in record {
+      sound = All-append IsSoundPolicyRow (policy_rows_after_removal rows change) (policy_additions change)
           (All-filter stays IsSoundPolicyRow rows policy.sound) (additions_sound change amendment.sound);
-      distinct = AllPairs-append (λ (x y : Row). x.priority ≢ y.priority) (rows_after_removal rows change)
-          (additions change)
+      distinct = AllPairs-append (λ (x y : Row). x.priority ≢ y.priority) (policy_rows_after_removal rows change)
+          (policy_additions change)
           (AllPairs-filter (λ (x y : Row). x.priority ≢ y.priority) stays rows policy.distinct)
-          amendment.distinct.added_once (apart (rows_after_removal rows change) (additions change) free);
+          amendment.distinct.added_once (apart (policy_rows_after_removal rows change) (policy_additions change) free);
       few = omega (arith, few);
     }
 
 pub IsPolicy-applied : (rows after : List Row) (change : List Edit) → IsPolicy rows
-    → IsAmendment change → applied rows change ≡ Ok after → IsPolicy after
+    → IsPolicyAmendment change → policy_change_applied rows change ≡ Ok after → IsPolicy after
 IsPolicy-applied rows after change policy amendment is = let can = can_apply rows after change is in
     rw can.is at (IsPolicy-amended rows change policy amendment can.free (rw can.is can.few))
 
 pub All-applied : (P : Row → Type 0) (rows after : List Row) (change : List Edit) → All P rows
-    → All P (additions change) → applied rows change ≡ Ok after → All P after
+    → All P (policy_additions change) → policy_change_applied rows change ≡ Ok after → All P after
 All-applied P rows after change kept added is = let can = can_apply rows after change is in
-    subst (All P) can.is (All-append P (rows_after_removal rows change) (additions change)
-    (All-filter (λ (row : Row). not (removes change row.priority)) P rows kept) added)
+    subst (All P) can.is (All-append P (policy_rows_after_removal rows change) (policy_additions change)
+    (All-filter (λ (row : Row). not (policy_edits_remove change row.priority)) P rows kept) added)
 
-pub rows-applied : (rows after : List Row) (change : List Edit) → applied rows change ≡ Ok after
-    → All (λ row. Contains rows row ⊎ Contains (additions change) row) after
+pub rows-applied : (rows after : List Row) (change : List Edit) → policy_change_applied rows change ≡ Ok after
+    → All (λ row. Contains rows row ⊎ Contains (policy_additions change) row) after
 rows-applied rows after change is =
-    All-applied (λ row. Contains rows row ⊎ Contains (additions change) row) rows after change
+    All-applied (λ row. Contains rows row ⊎ Contains (policy_additions change) row) rows after change
     (λ k d within. inl (All-contains_itself rows k d within))
-    (λ k d within. inr (All-contains_itself (additions change) k d within)) is
+    (λ k d within. inr (All-contains_itself (policy_additions change) k d within)) is
 
 -- ---- by sets of priorities
 
@@ -140,18 +140,18 @@ is_member_is numbers q = ap (λ (test : ℕ → Bool). list_any test numbers) (�
 
 -- the priorities of the rows that the change removes
 abbrev gone_priorities : List Row → List Edit → List ℕ
-gone_priorities rows change = priorities (filter (λ row. removes change row.priority) rows)
+gone_priorities rows change = priorities (filter (λ row. policy_edits_remove change row.priority) rows)
 
-gone_once : (rows : List Row) (change : List Edit) → HaveDistinctPriorities rows
+gone_once : (rows : List Row) (change : List Edit) → PolicyHasDistinctPriorities rows
     → IsDistinct eqb (gone_priorities rows change)
 gone_once rows change distinct = IsDistinct-from_AllPairs Decides-eqb (gone_priorities rows change)
     (AllPairs-map (λ (x y : ℕ). x ≢ y) (λ (row : Row). row.priority)
-    (filter (λ row. removes change row.priority) rows) (AllPairs-filter (λ (x y : Row). x.priority
-    ≢ y.priority) (λ row. removes change row.priority) rows distinct))
+    (filter (λ row. policy_edits_remove change row.priority) rows) (AllPairs-filter (λ (x y : Row). x.priority
+    ≢ y.priority) (λ row. policy_edits_remove change row.priority) rows distinct))
 
 -- they are those that the policy has, of those that the change removes
 gone_are : (rows : List Row) (change : List Edit)
-    → IsIntersection eqb (removals change) (priorities rows) (gone_priorities rows change)
+    → IsIntersection eqb (policy_removals change) (priorities rows) (gone_priorities rows change)
 gone_are rows change q = search (rules, is_member_is, any_key, any-filter_same, exact_unsigned_eq)
 
 fewer : (gone staying all removed : ℕ) → gone + staying ≡ all
@@ -177,25 +177,25 @@ some_fails test (x ∷ xs) =
     by false rest = sym (lt-ltb _ _ (omega (arith, few)))
 
 -- the policy lacks a priority that is removed where fewer rows go than priorities are removed
-pub absent_by : (rows : List Row) (change : List Edit) → HaveDistinctPriorities rows
-    → AllPairs (λ (x y : ℕ). x ≢ y) (removals change) → removes_absent rows change
-    ≡ ltb (length rows) (length (rows_after_removal rows change) + length (removals change))
+pub absent_by : (rows : List Row) (change : List Edit) → PolicyHasDistinctPriorities rows
+    → AllPairs (λ (x y : ℕ). x ≢ y) (policy_removals change) → policy_change_removes_absent rows change
+    ≡ ltb (length rows) (length (policy_rows_after_removal rows change) + length (policy_removals change))
 absent_by rows change distinct once =
-    let gone = filter (λ row. removes change row.priority) rows in
-    let held : (q : ℕ) → has_priority rows q ≡ is_member eqb (priorities rows) q =
+    let gone = filter (λ row. policy_edits_remove change row.priority) rows in
+    let held : (q : ℕ) → policy_has_priority rows q ≡ is_member eqb (priorities rows) q =
     λ q. sym (any_key (λ (row : Row). row.priority) rows q) ∙ sym (is_member_is (priorities rows) q)
     in
     let count = sym (length-map gone (λ (row : Row). row.priority))
-    ∙ length-IsIntersection nat_eq_equiv (removals change) (priorities rows) (priorities gone)
-    (IsDistinct-from_AllPairs Decides-eqb (removals change) once) (gone_once rows change distinct)
+    ∙ length-IsIntersection nat_eq_equiv (policy_removals change) (priorities rows) (priorities gone)
+    (IsDistinct-from_AllPairs Decides-eqb (policy_removals change) once) (gone_once rows change distinct)
     (gone_are rows change)
-    ∙ ap (λ (test : ℕ → Bool). count_by test (removals change)) (λ i q. sym (held q) i) in
-    some_fails (has_priority rows) (removals change)
-    ∙ ap (λ n. ltb n (length (removals change))) (sym count)
-    ∙ fewer (length gone) (length (rows_after_removal rows change)) (length rows)
-    (length (removals change))
-    (length-filter_both (λ row. removes change row.priority)
-    (λ row. not (removes change row.priority)) (λ row. refl) rows)
+    ∙ ap (λ (test : ℕ → Bool). count_by test (policy_removals change)) (λ i q. sym (held q) i) in
+    some_fails (policy_has_priority rows) (policy_removals change)
+    ∙ ap (λ n. ltb n (length (policy_removals change))) (sym count)
+    ∙ fewer (length gone) (length (policy_rows_after_removal rows change)) (length rows)
+    (length (policy_removals change))
+    (length-filter_both (λ row. policy_edits_remove change row.priority)
+    (λ row. not (policy_edits_remove change row.priority)) (λ row. refl) rows)
 
 none_passes : (rows : List Row) → list_any (λ row. false) rows ≡ false
 none_passes [] = refl
@@ -210,20 +210,20 @@ passes_either p q [] = refl
 passes_either p q (row ∷ rows) = search (rules, one_passes, passes_either p q rows)
 
 -- of two lists a row of the first has the priority of one of the second, or the other way round
-share_priority : (rows others : List Row) → list_any (λ row. has_priority rows row.priority) others
-    ≡ list_any (λ row. has_priority others row.priority) rows
+share_priority : (rows others : List Row) → list_any (λ row. policy_has_priority rows row.priority) others
+    ≡ list_any (λ row. policy_has_priority others row.priority) rows
 share_priority rows [] = sym (none_passes rows)
 share_priority rows (other ∷ others) =
-    let later : Row → Bool = λ row. has_priority others row.priority in
-    ap (λ b. has_priority rows other.priority || b) (share_priority rows others)
+    let later : Row → Bool = λ row. policy_has_priority others row.priority in
+    ap (λ b. policy_has_priority rows other.priority || b) (share_priority rows others)
     ∙ ap (λ (test : Row → Bool). list_any test rows || list_any later rows)
     (λ i row. eqb_sym row.priority other.priority i)
     ∙ sym (passes_either (λ row. eqb other.priority row.priority) later rows)
 
 pub taken_by : (new : ℕ → Bool) (rows : List Row) (change : List Edit)
-    → IsSetOf new (priorities (additions change))
-    → adds_taken rows change ≡ list_any (λ row. new row.priority) (rows_after_removal rows change)
-taken_by new rows change is_new = share_priority (rows_after_removal rows change) (additions change)
-    ∙ ap (λ (test : Row → Bool). list_any test (rows_after_removal rows change))
-    (λ i row. (sym (any_key (λ (added : Row). added.priority) (additions change) row.priority)
+    → IsSetOf new (priorities (policy_additions change))
+    → policy_change_adds_taken rows change ≡ list_any (λ row. new row.priority) (policy_rows_after_removal rows change)
+taken_by new rows change is_new = share_priority (policy_rows_after_removal rows change) (policy_additions change)
+    ∙ ap (λ (test : Row → Bool). list_any test (policy_rows_after_removal rows change))
+    (λ i row. (sym (any_key (λ (added : Row). added.priority) (policy_additions change) row.priority)
     ∙ sym (is_new row.priority)) i)

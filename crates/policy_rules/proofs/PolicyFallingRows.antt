@@ -2,7 +2,7 @@
 use Rattle.std.proofs.Common.{[], ◌&&◌, ◌++◌, ◌+◌, ◌<◌, ◌^◌, ◌∙◌, ◌∷◌, ◌≡◌, ◌≢◌, ◌≤◌, All, Bool, Contains, IsPermutation, IsSortedBy, List, MatchOption, None, Option, Some, ap, arith, cond, eq-eqb, eqb, eqb-true, false, filter, find, get_or, is_lt, le-ltb, lt-ltb, ltb, ltb-true, nat_cmp, not, refl, subst, suc, sum_by, sym, true, zero, ℕ}
 use Rattle.base.proofs.Exports.{All-append, All-cons, All-contains, All-contains_itself, All-filter, All-head, All-nil, All-permutation, All-tail, AllPairs-cons, AllPairs-filter, Contains-append_right, Contains-permutation, IsPermutation-append_right, IsPermutation-filter_both, IsPermutation-refl, IsPermutation-sym, IsPermutation-trans, filter_all, filter_filter, filter_passes, ge_from_not_lt, nat_tests, sum_by-IsPermutation, sum_by-cons}
 use Rattle.policy_rules.specs.declared.policy.Row.{Row}
-use Rattle.policy_rules.specs.Exports.{HaveDistinctPriorities, IsPriorityFalling, IsHighestIn, IsSoundPolicyRow, by_falling_priority, policy_rows_falling_below, highest_row}
+use Rattle.policy_rules.specs.Exports.{PolicyHasDistinctPriorities, IsPolicyPriorityFalling, IsHighestPolicyRowIn, IsSoundPolicyRow, policy_rows_by_falling_priority, policy_rows_falling_below, highest_policy_row}
 use Rattle.policy_rules.proofs.PolicyFirstMatch.{highest_is, one_of_priority}
 
 -- ---- the rows below a priority are a permutation of them
@@ -39,8 +39,8 @@ moved_below (suc p) rows =
     (moved_below p rows))
 
 pub IsPermutation-by_falling_priority : (rows : List Row) → All IsSoundPolicyRow rows
-    → IsPermutation rows (by_falling_priority rows)
-unfolding by_falling_priority
+    → IsPermutation rows (policy_rows_by_falling_priority rows)
+unfolding policy_rows_by_falling_priority
 IsPermutation-by_falling_priority rows sound =
     rw (filter_all (below (2 ^ 32)) rows (λ k d within. lt-ltb _ _ (sound k d within).priority)) at
     (moved_below (2 ^ 32) rows)
@@ -48,7 +48,7 @@ IsPermutation-by_falling_priority rows sound =
 -- ---- they fall
 
 falls_append : (p : ℕ) (xs ys : List Row) → All (λ (x : Row). eqb x.priority p ≡ true) xs
-    → All (λ (y : Row). ltb y.priority p ≡ true) ys → IsPriorityFalling ys → IsPriorityFalling (xs ++ ys)
+    → All (λ (y : Row). ltb y.priority p ≡ true) ys → IsPolicyPriorityFalling ys → IsPolicyPriorityFalling (xs ++ ys)
 falls_append p [] ys same low falling = falling
 falls_append p (x ∷ xs) ys same low falling =
     let here = eqb-true x.priority p (All-head (λ (x : Row). eqb x.priority p ≡ true) x xs same) in
@@ -59,7 +59,7 @@ falls_append p (x ∷ xs) ys same low falling =
     (λ k d within. omega (arith, ltb-true _ _ (low k d within), here)))
     (falls_append p xs ys tail low falling)
 
-falls_below : (n : ℕ) (rows : List Row) → IsPriorityFalling (policy_rows_falling_below n rows)
+falls_below : (n : ℕ) (rows : List Row) → IsPolicyPriorityFalling (policy_rows_falling_below n rows)
 unfolding policy_rows_falling_below
 falls_below zero rows = λ i j d less within. absurd (omega arith)
 falls_below (suc p) rows =
@@ -68,17 +68,17 @@ falls_below (suc p) rows =
     falls_append p (filter (λ row. eqb row.priority p) rows) (policy_rows_falling_below p rows)
     (filter_passes (λ (row : Row). eqb row.priority p) rows) low (falls_below p rows)
 
-pub IsPriorityFalling-by_falling_priority : (rows : List Row) → IsPriorityFalling (by_falling_priority rows)
-unfolding by_falling_priority
+pub IsPriorityFalling-by_falling_priority : (rows : List Row) → IsPolicyPriorityFalling (policy_rows_by_falling_priority rows)
+unfolding policy_rows_by_falling_priority
 IsPriorityFalling-by_falling_priority rows = falls_below (2 ^ 32) rows
 
 -- ---- one order
 
-falling_head : (row : Row) (rows : List Row) → IsPriorityFalling (row ∷ rows)
+falling_head : (row : Row) (rows : List Row) → IsPolicyPriorityFalling (row ∷ rows)
     → All (λ (x : Row). x.priority ≤ row.priority) rows
 falling_head row rows falling = λ k d within. falling 0 (suc k) d (omega arith) (omega arith)
 
-falling_tail : (row : Row) (rows : List Row) → IsPriorityFalling (row ∷ rows) → IsPriorityFalling rows
+falling_tail : (row : Row) (rows : List Row) → IsPolicyPriorityFalling (row ∷ rows) → IsPolicyPriorityFalling rows
 falling_tail row rows falling = λ i j d less within. falling (suc i) (suc j) d (omega arith)
     (omega arith)
 
@@ -106,7 +106,7 @@ counts_itself row rows =
 
 -- two lists that fall, of the same rows: rows of one priority are one
 same_falling : (P : Row → Type 0) → ((x y : Row) → P x → P y → x.priority ≡ y.priority → x ≡ y)
-    → (xs ys : List Row) → IsPriorityFalling xs → IsPriorityFalling ys → All P xs → All P ys
+    → (xs ys : List Row) → IsPolicyPriorityFalling xs → IsPolicyPriorityFalling ys → All P xs → All P ys
     → ((q : ℕ) → sum_by (has q) xs ≡ sum_by (has q) ys) → xs ≡ ys
 same_falling P one [] [] f g p q counts = refl
 same_falling P one [] (y ∷ ys) f g p q counts =
@@ -132,21 +132,21 @@ same_falling P one (x ∷ xs) (y ∷ ys) f g p q counts =
     cc
 
 -- rows of distinct priorities in falling order are the defined list
-pub same_sorted : (rows sorted : List Row) → All IsSoundPolicyRow rows → HaveDistinctPriorities rows
-    → IsPermutation rows sorted → IsPriorityFalling sorted → sorted ≡ by_falling_priority rows
+pub same_sorted : (rows sorted : List Row) → All IsSoundPolicyRow rows → PolicyHasDistinctPriorities rows
+    → IsPermutation rows sorted → IsPolicyPriorityFalling sorted → sorted ≡ policy_rows_by_falling_priority rows
 same_sorted rows sorted sound distinct moved falling =
     let all = All-contains_itself rows in
     let defined = IsPermutation-by_falling_priority rows sound in
-    same_falling (Contains rows) (one_of_priority rows distinct) sorted (by_falling_priority rows)
+    same_falling (Contains rows) (one_of_priority rows distinct) sorted (policy_rows_by_falling_priority rows)
     falling (IsPriorityFalling-by_falling_priority rows)
     (All-permutation (Contains rows) rows sorted moved all)
-    (All-permutation (Contains rows) rows (by_falling_priority rows) defined all)
+    (All-permutation (Contains rows) rows (policy_rows_by_falling_priority rows) defined all)
     (λ q. sum_by-IsPermutation (has q) rows sorted moved
-    ∙ sym (sum_by-IsPermutation (has q) rows (by_falling_priority rows) defined))
+    ∙ sym (sum_by-IsPermutation (has q) rows (policy_rows_by_falling_priority rows) defined))
 
 -- what the sort ensures, where each call gives the priority for the opposite order
 pub falling_from_sorted : (rows : List Row)
-    → IsSortedBy (λ (x y : Row). is_lt (nat_cmp y.priority x.priority)) rows → IsPriorityFalling rows
+    → IsSortedBy (λ (x y : Row). is_lt (nat_cmp y.priority x.priority)) rows → IsPolicyPriorityFalling rows
 falling_from_sorted [] sorted = λ i j d less within. absurd (omega arith)
 falling_from_sorted (row ∷ []) sorted = λ i j d less within. absurd (omega arith)
 falling_from_sorted (row ∷ next ∷ rows) sorted =
@@ -169,7 +169,7 @@ FirstPasses p rows found = MatchOption found (All (λ row. p row ≡ false) rows
     (λ row. Contains rows row × (p row ≡ true)
     × All (λ other. p other ≡ true → other.priority ≤ row.priority) rows)
 
-first_passes : (p : Row → Bool) (rows : List Row) → IsPriorityFalling rows
+first_passes : (p : Row → Bool) (rows : List Row) → IsPolicyPriorityFalling rows
     → FirstPasses p rows (find p rows)
 unfolding FirstPasses
 first_passes p [] falling = All-nil _
@@ -213,27 +213,27 @@ in_filter p (row ∷ rows) = by_case (p row) refl (in_filter p rows) where
 
 -- among rows by falling priority the first that passes is the highest
 pub find-by_falling_priority : (p : Row → Bool) (rows : List Row) → All IsSoundPolicyRow rows
-    → HaveDistinctPriorities rows → find p (by_falling_priority rows) ≡ highest_row (filter p rows)
+    → PolicyHasDistinctPriorities rows → find p (policy_rows_by_falling_priority rows) ≡ highest_policy_row (filter p rows)
 unfolding FirstPasses
-find-by_falling_priority p rows sound distinct = by_case (find p (by_falling_priority rows))
-    (first_passes p (by_falling_priority rows) (IsPriorityFalling-by_falling_priority rows))
+find-by_falling_priority p rows sound distinct = by_case (find p (policy_rows_by_falling_priority rows))
+    (first_passes p (policy_rows_by_falling_priority rows) (IsPriorityFalling-by_falling_priority rows))
   where
-    by_case : (found : Option Row) → FirstPasses p (by_falling_priority rows) found
-        → found ≡ highest_row (filter p rows)
+    by_case : (found : Option Row) → FirstPasses p (policy_rows_by_falling_priority rows) found
+        → found ≡ highest_policy_row (filter p rows)
     by_case None none =
-        let all = All-permutation (λ row. p row ≡ false) (by_falling_priority rows) rows
-        (IsPermutation-sym rows (by_falling_priority rows)
+        let all = All-permutation (λ row. p row ≡ false) (policy_rows_by_falling_priority rows) rows
+        (IsPermutation-sym rows (policy_rows_by_falling_priority rows)
         (IsPermutation-by_falling_priority rows sound)) none in
-        ap highest_row (sym (filter_none p rows all))
+        ap highest_policy_row (sym (filter_none p rows all))
     by_case (Some row) first =
-        let back = IsPermutation-sym rows (by_falling_priority rows)
+        let back = IsPermutation-sym rows (policy_rows_by_falling_priority rows)
         (IsPermutation-by_falling_priority rows sound) in
-        let there = Contains-permutation (by_falling_priority rows) rows row back first.0 in
+        let there = Contains-permutation (policy_rows_by_falling_priority rows) rows row back first.0 in
         let most = All-permutation (λ (other : Row). p other ≡ true → other.priority ≤ row.priority)
-        (by_falling_priority rows) rows back first.2 in
+        (policy_rows_by_falling_priority rows) rows back first.2 in
         let kept = All-filter p (λ (other : Row). p other ≡ true → other.priority ≤ row.priority)
         rows most in
-        let is : IsHighestIn (filter p rows) row = record {
+        let is : IsHighestPolicyRowIn (filter p rows) row = record {
           member = All-contains (λ row. p row ≡ true → Contains (filter p rows) row) rows row
               (in_filter p rows) there first.1;
           highest = λ k d h. kept k d h (filter_passes p rows k d h);

@@ -6,7 +6,7 @@ use Rattle.five_tuple.specs.declared.header.Header.{Header}
 use Rattle.ternary.specs.Exports.{WordValue, word_covers_of}
 use Rattle.policy_rules.specs.Scan.{scan}
 use Rattle.policy_rules.specs.RuleList.{policy_hit_of_rule}
-use Rattle.policy_rules.specs.Rules.{first_rule}
+use Rattle.policy_rules.specs.Rules.{first_policy_rule}
 use Rattle.policy_rules.specs.declared.policy.Row.{Row}
 use Rattle.policy_rules.specs.declared.rules.Partition.{Partition}
 use Rattle.policy_rules.specs.declared.rules.Rule.{Rule}
@@ -19,13 +19,13 @@ ArePolicyPartitionsNumbered parts =
     → (slice_index_or parts place d).number ≡ place
 
 -- the last of the rules covers the region
-abbrev pub RulesEndInCover : WordValue → List Rule → Type 0
-RulesEndInCover region rules = (earlier : List Rule) × (last : Rule)
+abbrev pub PolicyRulesEndInCover : WordValue → List Rule → Type 0
+PolicyRulesEndInCover region rules = (earlier : List Rule) × (last : Rule)
     × (rules ≡ earlier ++ last ∷ []) × IsTrue (word_covers_of last.word region)
 
 -- the last rule of the partition covers its region
-abbrev pub LastRuleCovers : Partition → Type 0
-LastRuleCovers part = RulesEndInCover part.region part.rules
+abbrev pub LastPolicyRuleCovers : Partition → Type 0
+LastPolicyRuleCovers part = PolicyRulesEndInCover part.region part.rules
 
 -- sound partitions of a policy: each header lies in exactly one region, and the first rule there
 -- that holds it has the rule and the action of the policy's first match
@@ -33,5 +33,5 @@ pub record AreSoundPolicyPartitions (rows : List Row) (parts : List Partition) :
   pub one : (header : Header) → IsHeader header → count_by (is_in_policy_partition header) parts ≡ 1
   pub decides : (header : Header) → IsHeader header
       → All (λ part. IsTrue (is_in_policy_partition header part)
-      → option_map policy_hit_of_rule (first_rule part.rules header) ≡ Some (scan rows header)) parts
+      → option_map policy_hit_of_rule (first_policy_rule part.rules header) ≡ Some (scan rows header)) parts
   pub numbers : ArePolicyPartitionsNumbered parts

@@ -4,8 +4,8 @@ use Rattle.five_tuple.specs.Exports.{IsAddressBlock, IsPortRange, IsProtocol}
 use Rattle.policy_rules.specs.declared.policy.Row.{Row}
 
 -- no two rows have the same priority
-abbrev pub HaveDistinctPriorities : List Row → Type 0
-HaveDistinctPriorities rows = AllPairs (λ row later. row.priority ≢ later.priority) rows
+abbrev pub PolicyHasDistinctPriorities : List Row → Type 0
+PolicyHasDistinctPriorities rows = AllPairs (λ row later. row.priority ≢ later.priority) rows
 
 -- each field of the row satisfies the invariant of its type
 pub record IsSoundPolicyRow (row : Row) : Type 0 where
@@ -19,5 +19,5 @@ pub record IsSoundPolicyRow (row : Row) : Type 0 where
 -- what is true of the rows of each policy
 pub record IsPolicy (rows : List Row) : Type 0 where
   pub sound : All IsSoundPolicyRow rows
-  pub distinct : HaveDistinctPriorities rows
+  pub distinct : PolicyHasDistinctPriorities rows
   pub few : length rows < 2 ^ 32

@@ -1,7 +1,7 @@
 ghost use Rattle.std.specs.Prelude.{◌≡◌, ◌+◌, ◌<◌, ◌^◌, ◌++◌, ◌∷◌, [], List, IfOk, IfErr, OnOk, length, vec_len, not};
 ghost use Rattle.std.specs.BTreeSet.{contains};
 ghost use Rattle.std.specs.Ordering.{nat_cmp};
-ghost use Rattle.policy_rules.specs.Exports.{AreEditsSeen, IsAmendment, IsSoundEdit, RefusesEdits, policy_addition, additions, edits_of, policy_removal, removals, repeats};
+ghost use Rattle.policy_rules.specs.Exports.{ArePolicyEditsSeen, IsPolicyAmendment, IsSoundPolicyEdit, RefusesPolicyEdits, policy_addition, policy_additions, policy_edits_of, policy_edit_removes, policy_removals, policy_edit_repeats};
 ghost use Rattle.policy_rules.specs.declared.amendment.Edit.{Edit};
 ghost use Rattle.base.specs.Refusals.{IfRefused};
 
@@ -30,7 +30,7 @@ pub struct Repeated {
 }
 
 /// A change of a policy, as an operator gives it: edits, of which no two remove the row of the same
-/// priority, and no two add one. Contracts see the list of edits, which meets `IsAmendment`.
+/// priority, and no two add one. Contracts see the list of edits, which meets `IsPolicyAmendment`.
 ///
 /// A priority may be removed and added again, which replaces its row.
 #[derive(Drop)]
@@ -66,12 +66,12 @@ impl Amendment {
         added: Vec<Row>,
     ) -> Result<Amendment, Failure<Repeated>>
         requires { vec_len removed + vec_len added < 2 ^ 32 }
-        ensures edits { IfOk result (λ change. change ≡ edits_of removed.items added.items) }
-        ensures removed { IfOk result (λ change. removals change ≡ removed.items) }
-        ensures added { IfOk result (λ change. additions change ≡ added.items) }
-        ensures amendment { OnOk result (IsAmendment (edits_of removed.items added.items)) }
+        ensures edits { IfOk result (λ change. change ≡ policy_edits_of removed.items added.items) }
+        ensures removed { IfOk result (λ change. policy_removals change ≡ removed.items) }
+        ensures added { IfOk result (λ change. policy_additions change ≡ added.items) }
+        ensures amendment { OnOk result (IsPolicyAmendment (policy_edits_of removed.items added.items)) }
         ensures refused { IfErr result
-            (IfRefused (RefusesEdits (edits_of removed.items added.items))) }
+            (IfRefused (RefusesPolicyEdits (policy_edits_of removed.items added.items))) }
     {
         let edits = list_edits(alloc, &removed, &added)?;
         check_edits(alloc, &edits)?;
@@ -89,8 +89,8 @@ impl Amendment {
     pub fn of_edits(alloc: Global, edits: Vec<Edit>) -> Result<Amendment, Failure<Repeated>>
         requires { vec_len edits < 2 ^ 32 }
         ensures edits { IfOk result (λ change. change ≡ edits.items) }
-        ensures amendment { OnOk result (IsAmendment edits.items) }
-        ensures refused { IfErr result (IfRefused (RefusesEdits edits.items)) }
+        ensures amendment { OnOk result (IsPolicyAmendment edits.items) }
+        ensures refused { IfErr result (IfRefused (RefusesPolicyEdits edits.items)) }
     {
         check_edits(alloc, &edits)?;
         let removed = list_removals(alloc, &edits)?;
@@ -105,22 +105,22 @@ impl Amendment {
     /// The edits, in the order in which they were given.
     pub fn edits(&self) -> &[Edit]
         ensures edits { result.now ≡ self.now }
-        ensures amendment { IsAmendment self.now }
+        ensures amendment { IsPolicyAmendment self.now }
     {
         &self.edits
     }
 
     /// The priorities of the rows that are removed, in the order of the edits.
     pub fn removed(&self) -> &[u32]
-        ensures { result.now ≡ removals self.now }
+        ensures { result.now ≡ policy_removals self.now }
     {
         &self.removed
     }
 
     /// The rows that are added, in the order of the edits.
     pub fn added(&self) -> &[Row]
-        ensures rows { result.now ≡ additions self.now }
-        ensures amendment { IsAmendment self.now }
+        ensures rows { result.now ≡ policy_additions self.now }
+        ensures amendment { IsPolicyAmendment self.now }
     {
         &self.added
     }
@@ -128,15 +128,15 @@ impl Amendment {
 
 // The edits that remove the rows of these priorities and then add these rows.
 fn list_edits(alloc: Global, removed: &[u32], added: &[Row]) -> Result<Vec<Edit>, AllocError>
-    ensures { IfOk result (λ edits. edits.items ≡ edits_of removed.now added.now) }
+    ensures { IfOk result (λ edits. edits.items ≡ policy_edits_of removed.now added.now) }
 {
     let removals = removed.iter().map(|priority| Edit::Remove(*priority));
     let additions = added.iter().map(|row| Edit::Add(*row));
     removals.chain(additions).collect(alloc)
 }
 
-fn policy_removal(edit: &Edit) -> Option<u32>
-    ensures { result ≡ policy_removal edit.now }
+fn policy_edit_removes(edit: &Edit) -> Option<u32>
+    ensures { result ≡ policy_edit_removes edit.now }
 {
     match edit {
         Edit::Remove(priority) => Some(*priority),
@@ -154,13 +154,13 @@ fn policy_addition(edit: &Edit) -> Option<Row>
 }
 
 fn list_removals(alloc: Global, edits: &[Edit]) -> Result<Vec<u32>, AllocError>
-    ensures { IfOk result (λ removed. removed.items ≡ removals edits.now) }
+    ensures { IfOk result (λ removed. removed.items ≡ policy_removals edits.now) }
 {
-    edits.iter().filter_map(policy_removal).collect(alloc)
+    edits.iter().filter_map(policy_edit_removes).collect(alloc)
 }
 
 fn list_additions(alloc: Global, edits: &[Edit]) -> Result<Vec<Row>, AllocError>
-    ensures { IfOk result (λ added. added.items ≡ additions edits.now) }
+    ensures { IfOk result (λ added. added.items ≡ policy_additions edits.now) }
 {
     edits.iter().filter_map(policy_addition).collect(alloc)
 }
@@ -168,8 +168,8 @@ fn list_additions(alloc: Global, edits: &[Edit]) -> Result<Vec<Row>, AllocError>
 // Finds the first edit that repeats an earlier one.
 fn check_edits(alloc: Global, edits: &[Edit]) -> Result<(), Failure<Repeated>>
     requires { length edits.now < 2 ^ 32 }
-    ensures amendment { OnOk result (IsAmendment edits.now) }
-    ensures refused { IfErr result (IfRefused (RefusesEdits edits.now)) }
+    ensures amendment { OnOk result (IsPolicyAmendment edits.now) }
+    ensures refused { IfErr result (IfRefused (RefusesPolicyEdits edits.now)) }
 {
     let mut removed: BTreeSet<u32> = BTreeSet::new(alloc);
     let mut added: BTreeSet<u32> = BTreeSet::new(alloc);
@@ -193,11 +193,11 @@ fn is_policy_edit_new(
     edit: &Edit,
 ) -> Result<bool, AllocError>
     ensures new { IfOk result (λ new. (earlier : List Edit)
-        → AreEditsSeen (contains nat_cmp removed.old) (contains nat_cmp added.old) earlier
-        → new ≡ not (repeats earlier edit.now)) }
+        → ArePolicyEditsSeen (contains nat_cmp removed.old) (contains nat_cmp added.old) earlier
+        → new ≡ not (policy_edit_repeats earlier edit.now)) }
     ensures seen { OnOk result ((earlier : List Edit)
-        → AreEditsSeen (contains nat_cmp removed.old) (contains nat_cmp added.old) earlier
-        → AreEditsSeen (contains nat_cmp removed.new) (contains nat_cmp added.new)
+        → ArePolicyEditsSeen (contains nat_cmp removed.old) (contains nat_cmp added.old) earlier
+        → ArePolicyEditsSeen (contains nat_cmp removed.new) (contains nat_cmp added.new)
         (earlier ++ edit.now ∷ [])) }
 {
     match edit {
@@ -208,7 +208,7 @@ fn is_policy_edit_new(
 
 // Each field of an edit satisfies the invariant of its type.
 fn policy_edit_is_sound(edit: &Edit)
-    ensures { IsSoundEdit edit.now }
+    ensures { IsSoundPolicyEdit edit.now }
 {
     match edit {
         Edit::Remove(priority) => {

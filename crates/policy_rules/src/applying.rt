@@ -2,7 +2,7 @@ ghost use Rattle.std.specs.Prelude.{◌≡◌, ◌≤◌, ◌==◌, ℕ, Ok, IfO
 ghost use Rattle.std.specs.List.{list_any};
 ghost use Rattle.std.specs.BTreeSet.{contains};
 ghost use Rattle.std.specs.Ordering.{nat_cmp};
-ghost use Rattle.policy_rules.specs.Exports.{IsPolicy, applied};
+ghost use Rattle.policy_rules.specs.Exports.{IsPolicy, policy_change_applied};
 ghost use Rattle.base.specs.Refusals.{IsCallRefusal};
 
 use crate::amendment::Amendment;
@@ -40,10 +40,10 @@ pub type ApplyError = Failure<Inapplicable>;
 /// exactly if an added row has the priority of one that stays, `TooManyRows` exactly if there
 /// would be more than 2,000 rows. Otherwise only out of memory.
 pub fn apply(alloc: Global, policy: &Policy, change: &Amendment) -> Result<Policy, ApplyError>
-    ensures applied { IfOk result (λ amended. applied policy.now change.now ≡ Ok amended) }
+    ensures applied { IfOk result (λ amended. policy_change_applied policy.now change.now ≡ Ok amended) }
     ensures policy { IfOk result IsPolicy }
     ensures few { IfOk result (λ amended. length amended ≤ 2000) }
-    ensures refused { IfErr result (IsCallRefusal (applied policy.now change.now)) }
+    ensures refused { IfErr result (IsCallRefusal (policy_change_applied policy.now change.now)) }
 {
     let rows = policy.rows();
     let removed = change.removed();
@@ -54,7 +54,7 @@ pub fn apply(alloc: Global, policy: &Policy, change: &Amendment) -> Result<Polic
         return Err(ApplyError::Refused(Inapplicable::Absent));
     }
     let new = row_priorities_of(alloc, added)?;
-    if policy_rows_meet_priorities(&amended, &new) {
+    if some_policy_row_has_priority(&amended, &new) {
         return Err(ApplyError::Refused(Inapplicable::Taken));
     }
     amended.extend_from_slice(added)?;
@@ -85,7 +85,7 @@ fn row_priorities_of(alloc: Global, rows: &[Row]) -> Result<BTreeSet<u32>, Alloc
 }
 
 // Whether one of the rows has a priority of the set.
-fn policy_rows_meet_priorities(rows: &[Row], priorities: &BTreeSet<u32>) -> bool
+fn some_policy_row_has_priority(rows: &[Row], priorities: &BTreeSet<u32>) -> bool
     ensures { result ≡ list_any (λ row. contains nat_cmp priorities.now row.priority) rows.now }
 {
     rows.iter().any(|row| priorities.contains(&row.priority))

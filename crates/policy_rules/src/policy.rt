@@ -1,7 +1,7 @@
 ghost use Rattle.std.specs.Prelude.{◌≡◌, ◌<◌, ◌^◌, nat_lt, true, IfOk, IfErr, IsTrue, OnOk, vec_len, length, Some};
 ghost use Rattle.std.specs.Option.{option_map_or};
 ghost use Rattle.five_tuple.specs.SoundFields.{IsPortRange, IsProtocol};
-ghost use Rattle.policy_rules.specs.Exports.{IsFirstMatch, IsHighestPolicyMatch, IsPolicy, IsSoundPolicyRow, RefusesSamePriorityRows, hit_of, policy_row_matches, scan};
+ghost use Rattle.policy_rules.specs.Exports.{IsFirstPolicyMatch, IsHighestPolicyMatch, IsPolicy, IsSoundPolicyRow, RefusesSamePriorityPolicyRows, policy_hit_of, policy_row_matches, scan};
 ghost use Rattle.base.specs.Refusals.{IfRefused};
 
 use base::Failure;
@@ -88,7 +88,7 @@ impl Hit {
 
     /// The first match of a header that this row decides.
     pub fn of(row: &Row) -> Hit
-        ensures { result ≡ hit_of (Some row.now) }
+        ensures { result ≡ policy_hit_of (Some row.now) }
     {
         Hit {
             rule: Some(row.priority),
@@ -106,7 +106,7 @@ impl Policy {
         requires { vec_len rows < 2 ^ 32 }
         ensures rows { IfOk result (λ policy. policy ≡ rows.items) }
         ensures policy { OnOk result (IsPolicy rows.items) }
-        ensures refused { IfErr result (IfRefused (RefusesSamePriorityRows rows.items)) }
+        ensures refused { IfErr result (IfRefused (RefusesSamePriorityPolicyRows rows.items)) }
     {
         check_policy_row_priorities(alloc, &rows)?;
         Ok(Policy { rows })
@@ -132,7 +132,7 @@ impl Policy {
     /// The first match of the header: of the rows that match, the one of greatest priority decides.
     pub fn scan(&self, header: &Header) -> Hit
         ensures value { result ≡ scan self.now header.now }
-        ensures first_match { IsFirstMatch self.now header.now result }
+        ensures first_match { IsFirstPolicyMatch self.now header.now result }
     {
         match highest_match(self.rows(), &header.fields()) {
             None => Hit::DEFAULT,
@@ -178,7 +178,7 @@ fn exceeds(row: &Row, other: Option<&Row>) -> bool
 fn check_policy_row_priorities(alloc: Global, rows: &[Row]) -> Result<(), Failure<SamePriority>>
     requires { length rows.now < 2 ^ 32 }
     ensures policy { OnOk result (IsPolicy rows.now) }
-    ensures refused { IfErr result (IfRefused (RefusesSamePriorityRows rows.now)) }
+    ensures refused { IfErr result (IfRefused (RefusesSamePriorityPolicyRows rows.now)) }
 {
     // No priority needs to be remembered if each row has a lower one than the row before.
     let falling = are_priorities_falling(rows);

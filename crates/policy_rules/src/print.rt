@@ -1,12 +1,12 @@
 ghost use Rattle.std.specs.Prelude.{Some};
-ghost use Rattle.policy_rules.specs.Policy.{action_text, rule_text};
+ghost use Rattle.policy_rules.specs.Policy.{policy_action_text, policy_rule_text};
 
 use crate::policy::Action;
 use std::fmt;
 
 /// Printed as `drop`, or as `out:` and the port.
 impl fmt::Display for Action {
-    ghost output = { λ action. Some (action_text action) };
+    ghost output = { λ action. Some (policy_action_text action) };
 
     fn fmt<W: fmt::Write>(&self, f: &mut fmt::Formatter<W>) -> fmt::Result {
         match self {
@@ -21,7 +21,7 @@ impl fmt::Display for Action {
 pub struct RuleName(pub Option<u32>);
 
 impl fmt::Display for RuleName {
-    ghost output = { λ name. Some (rule_text name.0) };
+    ghost output = { λ name. Some (policy_rule_text name.0) };
 
     fn fmt<W: fmt::Write>(&self, f: &mut fmt::Formatter<W>) -> fmt::Result {
         match self.0 {

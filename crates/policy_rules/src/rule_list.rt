@@ -3,7 +3,7 @@ ghost use Rattle.base.specs.Refusals.{IfRefused};
 ghost use Rattle.base.specs.declared.error.Failure.TheVariants.{Refused};
 ghost use Rattle.five_tuple.specs.Exports.{IsHeader};
 ghost use Rattle.five_tuple.specs.declared.header.Header.{Header};
-ghost use Rattle.policy_rules.specs.Exports.{AppendsRankedPolicyRules, IsPolicy, IsRuleList, IsSoundPolicyRow, RefusesPolicyRuleList, by_falling_priority, policy_row_word_hits, first_rule, policy_hit_of_rule, rules_ranked_from, rules_of, scan, with_default, policy_row_word_total};
+ghost use Rattle.policy_rules.specs.Exports.{AppendsRankedPolicyRules, IsPolicy, IsPolicyRuleList, IsSoundPolicyRow, RefusesPolicyRuleList, policy_rows_by_falling_priority, policy_row_word_hits, first_policy_rule, policy_hit_of_rule, policy_rules_ranked_from, policy_rules_of, scan, policy_hits_with_default, policy_row_word_total};
 
 use crate::laws::rule_list_laws;
 use crate::policy::{Hit, Policy, Row};
@@ -34,10 +34,10 @@ pub struct TooManyWords {
 /// `TooManyWords` exactly if the rows have more than 4,096 words together; this is checked
 /// before anything is allocated. Otherwise only out of memory.
 pub fn to_rules(alloc: Global, policy: &Policy) -> Result<Vec<Rule>, Failure<TooManyWords>>
-    ensures rules { IfOk result (λ rules. rules.items ≡ rules_of policy.now) }
+    ensures rules { IfOk result (λ rules. rules.items ≡ policy_rules_of policy.now) }
     ensures first_match { IfOk result (λ rules. (header : Header) → IsHeader header →
-        option_map policy_hit_of_rule (first_rule rules.items header) ≡ Some (scan policy.now header)) }
-    ensures list { IfOk result (λ rules. IsRuleList rules.items) }
+        option_map policy_hit_of_rule (first_policy_rule rules.items header) ≡ Some (scan policy.now header)) }
+    ensures list { IfOk result (λ rules. IsPolicyRuleList rules.items) }
     ensures count { IfOk result (λ rules. length rules.items ≡ policy_row_word_total policy.now + 1) }
     ensures few { OnOk result (policy_row_word_total policy.now ≤ 4096) }
     ensures policy { OnOk result (IsPolicy policy.now) }
@@ -70,7 +70,7 @@ pub fn count_policy_match_words(policy: &Policy) -> u64
 
 fn by_falling_priority(alloc: Global, rows: &[Row]) -> Result<Vec<Row>, AllocError>
     requires { IsPolicy rows.now }
-    ensures { IfOk result (λ v. v.items ≡ by_falling_priority rows.now) }
+    ensures { IfOk result (λ v. v.items ≡ policy_rows_by_falling_priority rows.now) }
 {
     let mut sorted = Vec::from_slice(alloc, rows)?;
     // A stable sort is fast if only a few rows are out of order.
@@ -82,7 +82,7 @@ fn by_falling_priority(alloc: Global, rows: &[Row]) -> Result<Vec<Row>, AllocErr
 fn list_rules(alloc: Global, rows: &[Row], room: usize) -> Result<Vec<Rule>, AllocError>
     requires few { policy_row_word_total rows.now ≤ 4096 }
     requires sound { All IsSoundPolicyRow rows.now }
-    ensures { IfOk result (λ rules. rules.items ≡ rules_ranked_from 0 (with_default rows.now)) }
+    ensures { IfOk result (λ rules. rules.items ≡ policy_rules_ranked_from 0 (policy_hits_with_default rows.now)) }
 {
     let mut rules = Vec::with_capacity(alloc, room)?;
     let mut words = Vec::new(alloc);

@@ -1,7 +1,7 @@
 ghost use Rattle.std.specs.Prelude.{◌≡◌, ◌<◌, length, position, slice_get, IfSome};
 ghost use Rattle.std.specs.Option.{option_and_then};
-ghost use Rattle.five_tuple.specs.Header.{IsHeader, number_of};
-ghost use Rattle.policy_rules.specs.Rules.{is_held, first_rule};
+ghost use Rattle.five_tuple.specs.Header.{IsHeader, header_number_of};
+ghost use Rattle.policy_rules.specs.Rules.{is_held_by_policy_rule, first_policy_rule};
 
 use crate::policy::Action;
 use base::SharedList;
@@ -36,16 +36,16 @@ pub struct Partition {
 
 /// The place of the first rule whose word holds the header; `None` if no word does.
 pub fn first_hit(rules: &[Rule], header: &Header) -> Option<usize>
-    ensures place { result ≡ position (is_held (number_of header.now)) rules.now }
+    ensures place { result ≡ position (is_held_by_policy_rule (header_number_of header.now)) rules.now }
     ensures bound { IfSome result (λ place. place < length rules.now) }
-    ensures rule { option_and_then (slice_get rules.now) result ≡ first_rule rules.now header.now }
+    ensures rule { option_and_then (slice_get rules.now) result ≡ first_policy_rule rules.now header.now }
     ensures header { IsHeader header.now }
 {
     policy_rule_place(rules, header.number())
 }
 
 fn policy_rule_place(rules: &[Rule], number: u128) -> Option<usize>
-    ensures { result ≡ position (is_held number) rules.now }
+    ensures { result ≡ position (is_held_by_policy_rule number) rules.now }
 {
     rules.iter().position(|rule| rule.word.holds(number))
 }

@@ -1,8 +1,8 @@
 ghost use Rattle.std.specs.Prelude.{◌≡◌, ◌++◌, map, OnOk};
-ghost use Rattle.five_tuple.specs.Cover.{IsPortBlock, cover_of};
+ghost use Rattle.five_tuple.specs.Cover.{IsTuplePortBlock, port_range_cover_of};
 ghost use Rattle.five_tuple.specs.HeaderNumbers.{packed_header_number};
-ghost use Rattle.policy_rules.specs.Exports.{IsSoundPolicyRow, rule_prefix_mask, rule_proto_mask, rule_proto_value, word_of_row};
-ghost use Rattle.policy_rules.specs.Words.{words_of_row};
+ghost use Rattle.policy_rules.specs.Exports.{IsSoundPolicyRow, policy_rule_prefix_mask, policy_rule_proto_mask, policy_rule_proto_value, word_of_policy_row};
+ghost use Rattle.policy_rules.specs.Words.{words_of_policy_row};
 
 use crate::policy::Row;
 use five_tuple::{Fields, Header, PortBlock, Prefix, Proto};
@@ -16,7 +16,7 @@ use ternary::Word;
 /// Only out of memory; then some of the words may have been added.
 pub fn push_policy_row_words(words: &mut Vec<Word>, row: &Row) -> Result<(), AllocError>
     requires { IsSoundPolicyRow row.now }
-    ensures { OnOk result (words.new.items ≡ words.old.items ++ words_of_row row.now) }
+    ensures { OnOk result (words.new.items ≡ words.old.items ++ words_of_policy_row row.now) }
 {
     for source in row.sport.blocks() {
         push_policy_source_words(words, row, source)?;
@@ -31,9 +31,9 @@ fn push_policy_source_words(
     source: PortBlock,
 ) -> Result<(), AllocError>
     requires row { IsSoundPolicyRow row.now }
-    requires source { IsPortBlock source }
+    requires source { IsTuplePortBlock source }
     ensures { OnOk result (words.new.items
-        ≡ words.old.items ++ map (word_of_row row.now source) (cover_of row.now.dport)) }
+        ≡ words.old.items ++ map (word_of_policy_row row.now source) (port_range_cover_of row.now.dport)) }
 {
     for destination in row.dport.blocks() {
         words.push(word_of_row(row, source, destination))?;
@@ -45,9 +45,9 @@ fn push_policy_source_words(
 /// in the two blocks.
 pub fn word_of_row(row: &Row, source: PortBlock, destination: PortBlock) -> Word
     requires row { IsSoundPolicyRow row.now }
-    requires source { IsPortBlock source }
-    requires destination { IsPortBlock destination }
-    ensures { result ≡ word_of_row row.now source destination }
+    requires source { IsTuplePortBlock source }
+    requires destination { IsTuplePortBlock destination }
+    ensures { result ≡ word_of_policy_row row.now source destination }
 {
     let value = match_value_of_row(row, source.0, destination.0);
     let mask = match_mask_of_row(row, source.1, destination.1);
@@ -58,7 +58,7 @@ pub fn word_of_row(row: &Row, source: PortBlock, destination: PortBlock) -> Word
 fn match_value_of_row(row: &Row, sport: u16, dport: u16) -> u128
     ensures { result ≡
         packed_header_number row.now.src.address row.now.dst.address sport dport
-        (rule_proto_value row.now.proto) }
+        (policy_rule_proto_value row.now.proto) }
 {
     let fields = Fields {
         src: row.src.address,
@@ -73,8 +73,8 @@ fn match_value_of_row(row: &Row, sport: u16, dport: u16) -> u128
 // The mask of the row's word, with these bits for the ports.
 fn match_mask_of_row(row: &Row, sport: u16, dport: u16) -> u128
     ensures { result ≡
-        packed_header_number (rule_prefix_mask row.now.src) (rule_prefix_mask row.now.dst) sport dport
-        (rule_proto_mask row.now.proto) }
+        packed_header_number (policy_rule_prefix_mask row.now.src) (policy_rule_prefix_mask row.now.dst) sport dport
+        (policy_rule_proto_mask row.now.proto) }
 {
     let fields = Fields {
         src: rule_prefix_mask(&row.src),
@@ -88,7 +88,7 @@ fn match_mask_of_row(row: &Row, sport: u16, dport: u16) -> u128
 
 // The bits of an address that the block fixes: the first `len`.
 fn rule_prefix_mask(prefix: &Prefix) -> u32
-    ensures { result ≡ rule_prefix_mask prefix.now }
+    ensures { result ≡ policy_rule_prefix_mask prefix.now }
 {
     if prefix.len == 0 {
         0
@@ -98,7 +98,7 @@ fn rule_prefix_mask(prefix: &Prefix) -> u32
 }
 
 fn rule_proto_value(proto: Proto) -> u8
-    ensures { result ≡ rule_proto_value proto }
+    ensures { result ≡ policy_rule_proto_value proto }
 {
     match proto {
         Proto::Any => 0,
@@ -107,7 +107,7 @@ fn rule_proto_value(proto: Proto) -> u8
 }
 
 fn rule_proto_mask(proto: Proto) -> u8
-    ensures { result ≡ rule_proto_mask proto }
+    ensures { result ≡ policy_rule_proto_mask proto }
 {
     match proto {
         Proto::Any => 0,

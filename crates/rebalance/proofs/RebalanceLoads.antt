@@ -2,9 +2,9 @@
 -- sums come to the traffic.
 use Rattle.std.proofs.Common.{[], ◌*◌, ◌+◌, ◌<◌, ◌||◌, ◌∙◌, ◌∷◌, ◌≡◌, ◌≤◌, All, Bool, List, ap, arith, cond, eq-eqb, eqb, false, fold, get_or, length, map, max, ne_eqb, not, refl, suc, sum, sum_by, sym, take, true, true≢false, zero, zero-add, ℕ}
 use Rattle.base.proofs.Exports.{AllByRecursion, div_ceil, div_ceil_times, fun_ext, get_or-map-range_with_len, get_or_default, length-map-range_with_len, list_any, or_left, range_more, range_with_len, same_lists, sum_by-le-sum_by, sum_by_push}
-use Rattle.placement.specs.Placement.{is_placed_target, placed_targets_at}
+use Rattle.placement.specs.Placement.{is_placement_target, placement_targets_at}
 use Rattle.placement.proofs.PlacementCallerLemmas.{each_by_count, range-within, sum-filter, sum_none}
-use Rattle.rebalance.specs.Loads.{Fits, bound, greatest, greatest_traffic, is_rebalance_primary_target, traffic, rebalance_usable_rooms}
+use Rattle.rebalance.specs.Loads.{RebalanceFits, bound, rebalance_greatest, rebalance_greatest_traffic, is_rebalance_primary_target, rebalance_traffic, rebalance_usable_rooms}
 use Rattle.rebalance.proofs.RebalanceSums.{most-each, most-le, passing-le, places-le, share-le, shared-le, sum-le, sum-places, sum-scaled, term-le}
 
 -- ---- the traffic of a switch
@@ -14,14 +14,14 @@ abbrev pub carried : List ℕ → List (List ℕ) → ℕ → ℕ → ℕ
 carried weights P s p = cond (is_rebalance_primary_target P p s) (get_or weights p 0) 0
 
 pub traffic-sum : (weights : List ℕ) (P : List (List ℕ)) (s : ℕ)
-    → traffic weights P s ≡ sum_by (carried weights P s) (range_with_len 0 (length weights))
+    → rebalance_traffic weights P s ≡ sum_by (carried weights P s) (range_with_len 0 (length weights))
 traffic-sum weights P s = sum-filter (λ p. get_or weights p 0) (λ p. is_rebalance_primary_target P p s)
     (range_with_len 0 (length weights))
 
 traffic-le : (n : ℕ) (weights : List ℕ) (P : List (List ℕ)) (s : ℕ) → s < n
-    → traffic weights P s ≤ greatest_traffic n weights P
-unfolding greatest_traffic
-traffic-le n weights P s within = let of : ℕ → ℕ = traffic weights P in
+    → rebalance_traffic weights P s ≤ rebalance_greatest_traffic n weights P
+unfolding rebalance_greatest_traffic
+traffic-le n weights P s within = let of : ℕ → ℕ = rebalance_traffic weights P in
     omega (
       arith,
       most-each 0 (map of (range_with_len 0 n)) s
@@ -31,11 +31,11 @@ traffic-le n weights P s within = let of : ℕ → ℕ = traffic weights P in
 
 -- numbers that are the traffic of switches have its greatest
 pub greatest-is : (n : ℕ) (weights : List ℕ) (P : List (List ℕ)) (numbers : List ℕ)
-    → length numbers ≡ n → ((s : ℕ) → s < n → get_or numbers s 0 ≡ traffic weights P s)
-    → greatest numbers ≡ greatest_traffic n weights P
-unfolding greatest_traffic
+    → length numbers ≡ n → ((s : ℕ) → s < n → get_or numbers s 0 ≡ rebalance_traffic weights P s)
+    → rebalance_greatest numbers ≡ rebalance_greatest_traffic n weights P
+unfolding rebalance_greatest_traffic
 greatest-is n weights P numbers len each =
-    let of : ℕ → ℕ = traffic weights P in
+    let of : ℕ → ℕ = rebalance_traffic weights P in
     let all = length-map-range_with_len of 0 n in
     ap (fold max 0) (same_lists numbers (map of (range_with_len 0 n)) (omega (arith, len, all))
     (λ k d within. get_or_default numbers k d 0 within ∙ each k (omega (arith, within, len))
@@ -57,15 +57,15 @@ front-among test (x ∷ xs) among = by_case (test x) (list_any test xs) among wh
 
 -- the partition's first target
 abbrev first_of : List (List ℕ) → ℕ → ℕ
-first_of P p = get_or (placed_targets_at P p) 0 0
+first_of P p = get_or (placement_targets_at P p) 0 0
 
 is-first : (sizes rooms : List ℕ) (backups : ℕ) (P : List (List ℕ)) (p : ℕ)
-    → Fits sizes rooms backups P → p < length sizes → is_rebalance_primary_target P p (first_of P p) ≡ true
+    → RebalanceFits sizes rooms backups P → p < length sizes → is_rebalance_primary_target P p (first_of P p) ≡ true
 is-first sizes rooms backups P p fits within =
-    primary-among (placed_targets_at P p) (omega (arith, fits.targets p within))
+    primary-among (placement_targets_at P p) (omega (arith, fits.targets p within))
 
 first-there : (sizes rooms : List ℕ) (backups : ℕ) (P : List (List ℕ)) (p : ℕ)
-    → Fits sizes rooms backups P → p < length sizes → first_of P p < length rooms
+    → RebalanceFits sizes rooms backups P → p < length sizes → first_of P p < length rooms
 first-there sizes rooms backups P p fits within =
     fits.there p within 0 0 (omega (arith, fits.targets p within))
 
@@ -77,11 +77,11 @@ pub record IsSettled (n : ℕ) (sizes weights rooms : List ℕ) (backups : ℕ) 
   pub each : length sizes ≡ length weights
   pub some : All (λ size. 0 < size) sizes
   pub few : length rooms ≤ n
-  pub fits : Fits sizes rooms backups P
+  pub fits : RebalanceFits sizes rooms backups P
 
 weight-le : (n : ℕ) (sizes weights rooms : List ℕ) (backups : ℕ) (P : List (List ℕ))
     → IsSettled n sizes weights rooms backups P → (p : ℕ) → p < length weights
-    → get_or weights p 0 ≤ greatest_traffic n weights P
+    → get_or weights p 0 ≤ rebalance_greatest_traffic n weights P
 weight-le n sizes weights rooms backups P settled p within =
     let s = first_of P p in
     let here : p < length sizes = omega (arith, settled.each, within) in
@@ -97,7 +97,7 @@ weight-le n sizes weights rooms backups P settled p within =
 -- a switch without room carries nothing
 no-traffic : (n : ℕ) (sizes weights rooms : List ℕ) (backups : ℕ) (P : List (List ℕ))
     → IsSettled n sizes weights rooms backups P → (s : ℕ) → get_or rooms s 0 ≡ 0
-    → traffic weights P s ≡ 0
+    → rebalance_traffic weights P s ≡ 0
 no-traffic n sizes weights rooms backups P settled s none = traffic-sum weights P s
     ∙ sum_none (carried weights P s) (range_with_len 0 (length weights))
     (each_by_count (λ p. carried weights P s p ≡ 0) (range_with_len 0 (length weights))
@@ -109,7 +109,7 @@ no-traffic n sizes weights rooms backups P settled s none = traffic-sum weights 
     by_case p within true is = let here : p < length sizes = omega (arith, settled.each, within) in
         absurd (omega (
           arith,
-          passing-le sizes (λ o. is_placed_target P o s) p here (front-among (eqb s) (placed_targets_at P p) is),
+          passing-le sizes (λ o. is_placement_target P o s) p here (front-among (eqb s) (placement_targets_at P p) is),
           settled.fits.within s,
           settled.some p 0 here,
           none,
@@ -118,11 +118,11 @@ no-traffic n sizes weights rooms backups P settled s none = traffic-sum weights 
 -- what the switches carry is all that is asked, and only those with room carry it
 total-le : (n : ℕ) (sizes weights rooms : List ℕ) (backups : ℕ) (P : List (List ℕ))
     → IsSettled n sizes weights rooms backups P
-    → sum weights ≤ rebalance_usable_rooms rooms * greatest_traffic n weights P
+    → sum weights ≤ rebalance_usable_rooms rooms * rebalance_greatest_traffic n weights P
 total-le n sizes weights rooms backups P settled =
     let parts = range_with_len 0 (length weights) in
     let switches = range_with_len 0 n in
-    let most = greatest_traffic n weights P in
+    let most = rebalance_greatest_traffic n weights P in
     let weight : ℕ → ℕ = λ p. get_or weights p 0 in
     let share : ℕ → ℕ = λ room. cond (not (eqb room 0)) most 0 in
     let had : AllByRecursion
@@ -131,10 +131,10 @@ total-le n sizes weights rooms backups P settled =
     (λ p there. some_has p (range-within p (length weights) there)) in
     let spread = shared-le weight (is_rebalance_primary_target P) switches parts had in
     let same : sum_by (λ s. sum_by (carried weights P s) parts) switches
-    ≡ sum_by (traffic weights P) switches = ap (λ f. sum_by f switches)
+    ≡ sum_by (rebalance_traffic weights P) switches = ap (λ f. sum_by f switches)
     (fun_ext (λ s. sym (traffic-sum weights P s))) in
-    let within = sum-le (traffic weights P) (λ s. share (get_or rooms s 0)) switches
-    (each_by_count (λ s. traffic weights P s ≤ share (get_or rooms s 0)) switches
+    let within = sum-le (rebalance_traffic weights P) (λ s. share (get_or rooms s 0)) switches
+    (each_by_count (λ s. rebalance_traffic weights P s ≤ share (get_or rooms s 0)) switches
     (λ s there. by_case s (range-within s n there) (get_or rooms s 0) refl)) in
     omega (
       arith,
@@ -159,12 +159,12 @@ total-le n sizes weights rooms backups P settled =
         omega (arith, term-le (λ t. cond (is_rebalance_primary_target P p t) (get_or weights p 0) 0) n s below, all)
 
     by_case : (s : ℕ) → s < n → (room : ℕ) → get_or rooms s 0 ≡ room
-        → traffic weights P s ≤ cond (not (eqb (get_or rooms s 0) 0)) (greatest_traffic n weights P) 0
+        → rebalance_traffic weights P s ≤ cond (not (eqb (get_or rooms s 0) 0)) (rebalance_greatest_traffic n weights P) 0
     by_case s below zero is =
-        let none = ap (λ room. cond (not (eqb room 0)) (greatest_traffic n weights P) 0) is in
+        let none = ap (λ room. cond (not (eqb room 0)) (rebalance_greatest_traffic n weights P) 0) is in
         omega (arith, none, no-traffic n sizes weights rooms backups P settled s is)
     by_case s below (suc room) is =
-        let some = ap (λ b. cond (not b) (greatest_traffic n weights P) 0)
+        let some = ap (λ b. cond (not b) (rebalance_greatest_traffic n weights P) 0)
         (ne_eqb (get_or rooms s 0) 0 (λ same. absurd (omega (arith, same, is)))) in
         omega (arith, some, traffic-le n weights P s below)
 
@@ -176,21 +176,21 @@ max_le : (a b m : ℕ) → a ≤ m → b ≤ m → max a b ≤ m
 max_le a b m low high = omega arith
 
 pub bound-le : (n : ℕ) (sizes weights rooms : List ℕ) (backups : ℕ) (P : List (List ℕ))
-    → IsSettled n sizes weights rooms backups P → bound weights rooms ≤ greatest_traffic n weights P
+    → IsSettled n sizes weights rooms backups P → bound weights rooms ≤ rebalance_greatest_traffic n weights P
 unfolding bound
 bound-le n sizes weights rooms backups P settled = by_case (eqb (rebalance_usable_rooms rooms) 0) refl where
   by_case : (b : Bool) → eqb (rebalance_usable_rooms rooms) 0 ≡ b
-      → cond b 0 (max (greatest weights) (div_ceil (sum weights) (rebalance_usable_rooms rooms)))
-      ≤ greatest_traffic n weights P
+      → cond b 0 (max (rebalance_greatest weights) (div_ceil (sum weights) (rebalance_usable_rooms rooms)))
+      ≤ rebalance_greatest_traffic n weights P
   by_case true is = omega arith
   by_case false is =
       let some = some_of (rebalance_usable_rooms rooms) is in
-      let even : div_ceil (sum weights) (rebalance_usable_rooms rooms) ≤ greatest_traffic n weights P =
-      share-le (sum weights) (rebalance_usable_rooms rooms) (greatest_traffic n weights P)
+      let even : div_ceil (sum weights) (rebalance_usable_rooms rooms) ≤ rebalance_greatest_traffic n weights P =
+      share-le (sum weights) (rebalance_usable_rooms rooms) (rebalance_greatest_traffic n weights P)
       (div_ceil (sum weights) (rebalance_usable_rooms rooms)) (div_ceil_times (sum weights)
       (rebalance_usable_rooms rooms) some).1 (total-le n sizes weights rooms backups P settled) in
-      max_le (greatest weights) (div_ceil (sum weights) (rebalance_usable_rooms rooms))
-      (greatest_traffic n weights P) (most-le (greatest_traffic n weights P) 0 weights (omega arith)
+      max_le (rebalance_greatest weights) (div_ceil (sum weights) (rebalance_usable_rooms rooms))
+      (rebalance_greatest_traffic n weights P) (most-le (rebalance_greatest_traffic n weights P) 0 weights (omega arith)
       (weight-le n sizes weights rooms backups P settled)) even
 
 -- ---- running sums
@@ -220,7 +220,7 @@ carried-within weights P s k within =
 
 -- one more turn of the sums
 pub carried-step : (weights : List ℕ) (P : List (List ℕ)) (s k before after : ℕ) (xs : List ℕ)
-    → xs ≡ placed_targets_at P k → before ≡ sum_by (carried weights P s) (range_with_len 0 k)
+    → xs ≡ placement_targets_at P k → before ≡ sum_by (carried weights P s) (range_with_len 0 k)
     → after ≡ before + cond (list_any (eqb s) (take 1 xs)) (get_or weights k 0) 0
     → after ≡ sum_by (carried weights P s) (range_with_len 0 (k + 1))
 carried-step weights P s k before after xs same was is = omega (

@@ -1,9 +1,9 @@
 -- What one more item of a journal adds to the weights.
 use Rattle.std.proofs.Common.{[], ◌++◌, ◌+◌, ◌<◌, ◌∙◌, ◌∷◌, ◌≡◌, ◌≤◌, List, None, Option, Some, ap, arith, cond, count_by, eq-eqb, eqb, filter_map, get_or, inl, inr, length, map, ne_eqb, option_to_list, refl, suc, sum, sum_by, sym, take, unwrap_or, zero, zero-add, ℕ}
 use Rattle.base.proofs.Exports.{cases_eq, count_by-le-length, filter_map-append, get_or-map-range_with_len, get_or_default, length-map-range_with_len, option_or, range_with_len, same_lists, sum-map, sum_by-append, sum_by-cons, take_more}
-use Rattle.update_machine.specs.Exports.{Item, journal_current_mark, gives_current, journal_last_given}
+use Rattle.update_machine.specs.Exports.{Item, journal_current_mark, machine_item_gives_current, journal_last_given}
 use Rattle.update_machine.proofs.Exports.{last_given_append}
-use Rattle.rebalance.specs.Loads.{weighed_partitions, weighed_partition_in, weight, weights_of}
+use Rattle.rebalance.specs.Loads.{rebalance_weighed_partitions, rebalance_weighed_partition_in, weight, rebalance_weights_of}
 
 -- ---- the current version
 
@@ -13,11 +13,11 @@ current_start = refl
 
 pub current_goes_on : (before : List Item) (item : Item) (current : ℕ)
     → current ≡ journal_current_mark before
-    → unwrap_or (gives_current item) current ≡ journal_current_mark (before ++ item ∷ [])
+    → unwrap_or (machine_item_gives_current item) current ≡ journal_current_mark (before ++ item ∷ [])
 unfolding journal_current_mark
-current_goes_on before item current is = ap (unwrap_or (gives_current item)) is
-    ∙ sym (ap (λ o. unwrap_or o 1) (last_given_append gives_current before (item ∷ []))
-    ∙ go (gives_current item) (journal_last_given gives_current before))
+current_goes_on before item current is = ap (unwrap_or (machine_item_gives_current item)) is
+    ∙ sym (ap (λ o. unwrap_or o 1) (last_given_append machine_item_gives_current before (item ∷ []))
+    ∙ go (machine_item_gives_current item) (journal_last_given machine_item_gives_current before))
   where
     go : (told earlier : Option ℕ) → unwrap_or (option_or (option_or None told) earlier) 1
         ≡ unwrap_or told (unwrap_or earlier 1)
@@ -53,12 +53,12 @@ length-kept tells (item ∷ items) = by_case (tells item) refl (length-kept tell
 
 -- how often among these items, by this version
 abbrev pub asked_count : ℕ → ℕ → List Item → ℕ
-asked_count version partition items = count_by (eqb partition) (weighed_partitions version items)
+asked_count version partition items = count_by (eqb partition) (rebalance_weighed_partitions version items)
 
 pub asked_more : (version partition : ℕ) (before : List Item) (item : Item)
     → asked_count version partition (before ++ item ∷ []) ≡ asked_count version partition before
-    + count_by (eqb partition) (option_to_list (weighed_partition_in version item))
-asked_more version partition before item = kept_more (weighed_partition_in version) partition before item
+    + count_by (eqb partition) (option_to_list (rebalance_weighed_partition_in version item))
+asked_more version partition before item = kept_more (rebalance_weighed_partition_in version) partition before item
 
 pub asked-room : (version partition : ℕ) (items : List Item)
     → asked_count version partition items ≤ length items
@@ -67,7 +67,7 @@ asked-room version partition items = omega (arith, count_by-le-length, length-ke
 -- one more item, of which so much is told
 pub asked-step : (version p : ℕ) (items : List Item) (i : ℕ) (item : Item) (told : Option ℕ)
     (before after : ℕ) → i < length items → item ≡ get_or items i item
-    → told ≡ weighed_partition_in version item → before ≡ asked_count version p (take i items)
+    → told ≡ rebalance_weighed_partition_in version item → before ≡ asked_count version p (take i items)
     → after ≡ before + count_by (eqb p) (option_to_list told)
     → after ≡ asked_count version p (take (i + 1) items)
 asked-step version p items i item told before after within same tells was is = omega (
@@ -83,7 +83,7 @@ asked-step version p items i item told before after within same tells was is = o
 -- so many counts are the weights
 pub weights-are : (journal : List Item) (parts : ℕ) (numbers : List ℕ) → length numbers ≡ parts
     → ((p : ℕ) → p < parts → get_or numbers p 0 ≡ asked_count (journal_current_mark journal) p journal)
-    → numbers ≡ weights_of journal parts
+    → numbers ≡ rebalance_weights_of journal parts
 unfolding weight
 weights-are journal parts numbers len each = let of : ℕ → ℕ = weight journal in
     same_lists numbers (map of (range_with_len 0 parts))
@@ -142,12 +142,12 @@ counted_once (x ∷ xs) places once =
 
 -- no more than the items of the journal
 pub weights-few : (journal : List Item) (parts : ℕ)
-    → sum (weights_of journal parts) ≤ length journal
+    → sum (rebalance_weights_of journal parts) ≤ length journal
 unfolding weight
-weights-few journal parts = let asked = weighed_partitions (journal_current_mark journal) journal in
+weights-few journal parts = let asked = rebalance_weighed_partitions (journal_current_mark journal) journal in
     omega (
       arith,
       (sum-map (weight journal) (range_with_len 0 parts)),
       counted_once asked (range_with_len 0 parts) (one_place 0 parts),
-      length-kept (weighed_partition_in (journal_current_mark journal)) journal,
+      length-kept (rebalance_weighed_partition_in (journal_current_mark journal)) journal,
     )

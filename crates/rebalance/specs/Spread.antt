@@ -1,23 +1,23 @@
 -- The spread of partitions over switches by their weights, and the placement that is proposed.
 -- Partitions take their turns by falling weight, and then by number.
 use Rattle.std.specs.Prelude.{◌<◌, ◌≡◌, ◌≤◌, ◌⊎◌, All, List, length, ℕ}
-use Rattle.placement.specs.Placement.{AreHosted, IsPlacement, IsPlacementRefused, PlacementTurnRule, placement_turn_rule}
+use Rattle.placement.specs.Placement.{PlacementHasTargets, IsPlacement, IsPlacementRefused, PlacementTurnRule, placement_turn_rule}
 use Rattle.placement.specs.declared.turns.Load.TheVariants as load
-use Rattle.rebalance.specs.Loads.{Fits, bound, peak}
+use Rattle.rebalance.specs.Loads.{RebalanceFits, bound, peak}
 
 -- ---- the spread, and why there is none
 
 -- by falling weight; a partition loads its first target with its weight
-abbrev pub spreading : List ℕ → List ℕ → List ℕ → ℕ → PlacementTurnRule
-spreading sizes weights rooms backups = placement_turn_rule load.OnFirst weights sizes rooms backups
+abbrev pub rebalance_spreading : List ℕ → List ℕ → List ℕ → ℕ → PlacementTurnRule
+rebalance_spreading sizes weights rooms backups = placement_turn_rule load.OnFirst weights sizes rooms backups
 
 abbrev pub IsRebalanceSpread : List ℕ → List ℕ → List ℕ → ℕ → List (List ℕ) → Type 0
 IsRebalanceSpread sizes weights rooms backups placement =
-    AreHosted (spreading sizes weights rooms backups) placement
+    PlacementHasTargets (rebalance_spreading sizes weights rooms backups) placement
 
 abbrev pub RebalanceSpreadFindsFewer : List ℕ → List ℕ → List ℕ → ℕ → ℕ → Type 0
 RebalanceSpreadFindsFewer sizes weights rooms backups partition =
-    IsPlacementRefused (spreading sizes weights rooms backups) partition
+    IsPlacementRefused (rebalance_spreading sizes weights rooms backups) partition
 
 -- ---- what is proposed
 
@@ -49,9 +49,9 @@ pub record AreRebalancePartitionsWeighed (sizes weights rooms : List ℕ) : Type
 pub record RebalanceSpreadLaws (sizes weights rooms : List ℕ) (backups : ℕ) : Type 0 where
   -- a spread fits, and so does a placement by size, as plans have it
   pub fits : (placement : List (List ℕ)) → IsRebalanceSpread sizes weights rooms backups placement
-      → Fits sizes rooms backups placement
+      → RebalanceFits sizes rooms backups placement
   pub placed : (placement : List (List ℕ)) → IsPlacement sizes rooms backups placement
-      → Fits sizes rooms backups placement
+      → RebalanceFits sizes rooms backups placement
   -- there is at most one spread; if a partition is refused there is none, and only one is refused
   pub one : (placement other : List (List ℕ)) → IsRebalanceSpread sizes weights rooms backups placement
       → IsRebalanceSpread sizes weights rooms backups other → placement ≡ other
@@ -61,10 +61,10 @@ pub record RebalanceSpreadLaws (sizes weights rooms : List ℕ) (backups : ℕ) 
   pub first : (partition other : ℕ) → RebalanceSpreadFindsFewer sizes weights rooms backups partition
       → RebalanceSpreadFindsFewer sizes weights rooms backups other → partition ≡ other
   -- no placement that fits has a lower peak than the bound
-  pub bounded : (placement : List (List ℕ)) → Fits sizes rooms backups placement
+  pub bounded : (placement : List (List ℕ)) → RebalanceFits sizes rooms backups placement
       → bound weights rooms ≤ peak weights placement
   -- the proposal fits if the old placement does, and its peak isn't higher
-  pub proposed : (old new : List (List ℕ)) → Fits sizes rooms backups old
-      → IsRebalanceProposal sizes weights rooms backups old new → Fits sizes rooms backups new
+  pub proposed : (old new : List (List ℕ)) → RebalanceFits sizes rooms backups old
+      → IsRebalanceProposal sizes weights rooms backups old new → RebalanceFits sizes rooms backups new
   pub never_higher : (old new : List (List ℕ)) → IsRebalanceProposal sizes weights rooms backups old new
       → peak weights new ≤ peak weights old

@@ -1,6 +1,6 @@
 ghost use Rattle.std.specs.Prelude.{ℕ, ◌≡◌, ◌+◌, ◌<◌, ◌^◌, length, slice_index, sum, take, All, if◌then◌else◌, nat_eq};
 ghost use Rattle.std.specs.List.{list_any};
-ghost use Rattle.rebalance.specs.Loads.{bound, greatest, peak, traffic, rebalance_usable_rooms};
+ghost use Rattle.rebalance.specs.Loads.{bound, rebalance_greatest, peak, rebalance_traffic, rebalance_usable_rooms};
 
 use base::MAX_SWITCHES;
 use policy_rules::Targets;
@@ -38,7 +38,7 @@ fn carry(carried: &mut [u64], weights: &[u64], targets: &[Targets])
     requires each { length targets.now ≡ length weights.now }
     requires small { sum weights.now < 2 ^ 64 }
     ensures { (s : ℕ) → s < length carried.old
-        → slice_index carried.new s ≡ traffic weights.now targets.now s }
+        → slice_index carried.new s ≡ rebalance_traffic weights.now targets.now s }
 {
     for (partition, weight) in weights.iter().enumerate() {
         add_first_weight(carried, &targets[partition], *weight);
@@ -61,7 +61,7 @@ fn add_first_weight(carried: &mut [u64], targets: &Targets, weight: u64)
 
 // The greatest of numbers; 0 for none.
 fn greatest(numbers: &[u64]) -> u64
-    ensures { result ≡ greatest numbers.now }
+    ensures { result ≡ rebalance_greatest numbers.now }
 {
     numbers.iter().fold(0, |most, number| most.max(*number))
 }

@@ -1,7 +1,7 @@
 ghost use Rattle.std.specs.Prelude.{◌≡◌, ◌++◌, ◌<◌, ◌≤◌, ◌^◌, IfOk, length, sum};
 ghost use Rattle.net_file.specs.Net.{IsNet};
 ghost use Rattle.partition.specs.Plan.{IsPartitionPlan};
-ghost use Rattle.rebalance.specs.Proposals.{IsProposalFoundFor, RebalanceProposesFor, rebalance_peaks_text, rebalance_partition_targets};
+ghost use Rattle.rebalance.specs.Proposals.{IsRebalanceProposalFoundFor, RebalanceProposesFor, rebalance_peaks_text, rebalance_partition_targets};
 ghost use Rattle.rebalance.specs.Spread.{IsRebalanceProposal};
 
 use crate::laws::rebalance_spread_laws;
@@ -78,7 +78,7 @@ fn find_proposal(
 ) -> Result<Proposal, AllocError>
     requires net { IsNet net.now }
     requires plan { IsPartitionPlan plan.now.policy net.now plan.now.hosted }
-    ensures { IfOk result (IsProposalFoundFor plan.now.policy plan.now.hosted net.now journal.now) }
+    ensures { IfOk result (IsRebalanceProposalFoundFor plan.now.policy plan.now.hosted net.now journal.now) }
 {
     rebalance_spread_laws();
     let hosted = plan.hosted();

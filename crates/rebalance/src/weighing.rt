@@ -1,6 +1,6 @@
 ghost use Rattle.std.specs.Prelude.{ℕ, ◌≡◌, ◌+◌, ◌<◌, ◌^◌, length, slice_index, count_by, sum, IfOk, nat_eq, option_to_list, unwrap_or, All};
-ghost use Rattle.rebalance.specs.Loads.{weighed_partition_in, weighed_partition, weights_of};
-ghost use Rattle.update_machine.specs.Marks.{journal_current_mark, gives_current};
+ghost use Rattle.rebalance.specs.Loads.{rebalance_weighed_partition_in, rebalance_weighed_partition, rebalance_weights_of};
+ghost use Rattle.update_machine.specs.Marks.{journal_current_mark, machine_item_gives_current};
 
 use journal::{How, Item, Journal};
 use std::alloc::{AllocError, Global};
@@ -12,7 +12,7 @@ use std::alloc::{AllocError, Global};
 /// # Errors
 /// Only out of memory.
 pub fn weights(alloc: Global, journal: &Journal, parts: u32) -> Result<Vec<u64>, AllocError>
-    ensures weights { IfOk result (λ weights. weights.items ≡ weights_of journal.now parts) }
+    ensures weights { IfOk result (λ weights. weights.items ≡ rebalance_weights_of journal.now parts) }
     ensures small { IfOk result (λ weights. sum weights.items < 2 ^ 64) }
 {
     let items = journal.items();
@@ -37,7 +37,7 @@ fn rebalance_version_at_end(items: &[Item]) -> u32
 
 // The version that is current after the item.
 fn weighed_version_behind(item: &Item, current: u32) -> u32
-    ensures { result ≡ unwrap_or (gives_current item.now) current }
+    ensures { result ≡ unwrap_or (machine_item_gives_current item.now) current }
 {
     match item {
         Item::Current { version } => *version,
@@ -47,7 +47,7 @@ fn weighed_version_behind(item: &Item, current: u32) -> u32
 
 // The partition whose authority decided a packet by this version, if the item says so.
 fn weighed_partition_in(item: &Item, version: u32) -> Option<u32>
-    ensures { result ≡ weighed_partition_in version item.now }
+    ensures { result ≡ rebalance_weighed_partition_in version item.now }
 {
     match item {
         Item::Decided {
@@ -66,7 +66,7 @@ fn weighed_partition_in(item: &Item, version: u32) -> Option<u32>
 }
 
 fn weighed_partition(how: &How) -> Option<u32>
-    ensures { result ≡ weighed_partition how.now }
+    ensures { result ≡ rebalance_weighed_partition how.now }
 {
     match how {
         How::Authority { partition, .. } => Some(*partition),

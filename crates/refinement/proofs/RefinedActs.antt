@@ -4,18 +4,18 @@ use Rattle.std.proofs.Common.{[], ◌++◌, ◌+◌, ◌<◌, ◌∙◌, ◌∷�
 use Rattle.base.proofs.Exports.{All-from_recursion, AllByRecursion, length-map, sum_by-cons}
 use Rattle.controller.specs.declared.sends.Act.{Act}
 use Rattle.refinement.specs.Exports.{AreRefinedMessagesSpelled, RefineUpLinks, RefineUsableLinks, IsRefinedBagOf, IsRefinedController, RefinedNetworkState, RefineJournal, refined_switch_of, refined_acts_written}
-use Rattle.update_machine.specs.Exports.{Hello, IsJournalReached, Item, Message, NoneConcern, Setting, Step, item_concerns_calls, item_concerns_known, concerns_links, item_concerns_packets, count_of, machine_item_gives_message, is_packet, is_sending, journal_last_given, journal_message_of, journal_next_message, piece}
+use Rattle.update_machine.specs.Exports.{Hello, IsJournalReached, Item, Message, NoMachineItemConcerns, Setting, Step, machine_item_concerns_calls, machine_item_concerns_known, machine_item_concerns_links, machine_item_concerns_packets, machine_count_of, machine_item_gives_message, is_machine_packet_entry, is_machine_sending_item, journal_last_given, journal_message_of, journal_next_message, piece}
 use Rattle.update_machine.proofs.Exports.{count_of_append, have_append, last_given_append, messages_keep, near_stays, next_sent, packets_keep}
 use Rattle.world_log.specs.Exports.{IsLoggedActSpelled, LogMayNote, LogMaySend, log_act_item, log_act_items, log_act_posts, log_number_after_act}
 use Rattle.refinement.proofs.RefinedPacketFacts.{NoneName, none_more}
 use Rattle.refinement.proofs.RefinedPostedFrames.{SendFrom, bag_sends, posts_in}
-use Rattle.control_laws.specs.Exports.{StepsSendFew}
+use Rattle.control_laws.specs.Exports.{ControlStepsSendFew}
 use Rattle.switch_core.specs.Exports.{SwitchValue}
 use Rattle.refinement.proofs.RefinedSwitchLinks.{kept_is}
 use Rattle.steps.specs.Exports.{IsStep}
 use Rattle.refinement.proofs.RefinedSteps.{flight_stays, reached_known, reached_more, up_stays}
-use Rattle.message_bag.specs.Exports.{HasShortBagSpelling, Post, new_post}
-use Rattle.ctrl_msg.specs.Exports.{to_controller}
+use Rattle.message_bag.specs.Exports.{HasShortBagSpelling, Post, new_bag_post}
+use Rattle.ctrl_msg.specs.Exports.{message_to_controller}
 use Rattle.message_bag.proofs.BagSpellingLengths.{alone_short}
 use Rattle.refinement.proofs.RefinedTableSpellings.{reached_spelled}
 use Rattle.world_log.proofs.LogMessages.{messages_spelled, posts_as_acts}
@@ -32,7 +32,7 @@ pub record SparesActs (concerns : List Item → Item → Bool) : Type 0 where
 
 pub acts_apart : (concerns : List Item → Item → Bool) → SparesActs concerns
     → (before : List Item) (number : ℕ) (acts : List Act)
-    → NoneConcern concerns before (log_act_items number acts)
+    → NoMachineItemConcerns concerns before (log_act_items number acts)
 unfolding log_act_items
 acts_apart concerns spares before number [] = tt
 acts_apart concerns spares before number (Act.Current v ∷ acts) = (
@@ -66,17 +66,17 @@ acts_posted number (Act.Post message ∷ acts) = cc (acts_posted (number + 1) ac
 
 -- how many messages these items send
 pub acts_counted : (number : ℕ) (acts : List Act)
-    → count_of is_sending (log_act_items number acts) ≡ length (log_act_posts acts)
+    → machine_count_of is_machine_sending_item (log_act_items number acts) ≡ length (log_act_posts acts)
 unfolding log_act_items log_act_posts
 acts_counted number [] = refl
 acts_counted number (Act.Current v ∷ acts) =
-    let sum = sum_by-cons (λ x. cond (is_sending x) 1 0) (Item.Current v) (log_act_items number acts) in
+    let sum = sum_by-cons (λ x. cond (is_machine_sending_item x) 1 0) (Item.Current v) (log_act_items number acts) in
     omega (arith, sum, acts_counted number acts)
 acts_counted number (Act.Retired v ∷ acts) =
-    let sum = sum_by-cons (λ x. cond (is_sending x) 1 0) (Item.Retired v) (log_act_items number acts) in
+    let sum = sum_by-cons (λ x. cond (is_machine_sending_item x) 1 0) (Item.Retired v) (log_act_items number acts) in
     omega (arith, sum, acts_counted number acts)
 acts_counted number (Act.Post message ∷ acts) =
-    let sum = sum_by-cons (λ x. cond (is_sending x) 1 0) (Item.Sent number message)
+    let sum = sum_by-cons (λ x. cond (is_machine_sending_item x) 1 0) (Item.Sent number message)
     (log_act_items (number + 1) acts) in
     omega (arith, sum, acts_counted (number + 1) acts)
 
@@ -107,15 +107,15 @@ acts_unnamed i number (Act.Post message ∷ acts) = (refl, acts_unnamed i (numbe
 
 -- and no packet enters by it
 pub acts_bring_none : (number : ℕ) (acts : List Act)
-    → count_of is_packet (log_act_items number acts) ≡ 0
+    → machine_count_of is_machine_packet_entry (log_act_items number acts) ≡ 0
 unfolding log_act_items
 acts_bring_none number [] = refl
 acts_bring_none number (one ∷ acts) =
-    let sum = sum_by-cons (λ x. cond (is_packet x) 1 0) (log_act_item number one)
+    let sum = sum_by-cons (λ x. cond (is_machine_packet_entry x) 1 0) (log_act_item number one)
     (log_act_items (log_number_after_act number one) acts) in
     omega (arith, sum, none_comes one, acts_bring_none (log_number_after_act number one) acts)
   where
-    none_comes : (one : Act) → ◌≡◌ {A = ℕ} (cond (is_packet (log_act_item number one)) 1 0) 0
+    none_comes : (one : Act) → ◌≡◌ {A = ℕ} (cond (is_machine_packet_entry (log_act_item number one)) 1 0) 0
     none_comes (Act.Current version) = refl
     none_comes (Act.Retired version) = refl
     none_comes (Act.Post message) = refl
@@ -130,7 +130,7 @@ pub record IsTold (setting : Setting) (journal : List Item) (row : ℕ) (step : 
   pub piece_is : piece setting journal row step
       ≡ Item.Row row step ∷ first ++ log_act_items (length state.posts + 1) acts
   pub packet : (i : ℕ) → NoneName i (Item.Row row step ∷ first)
-  pub packets : NoneConcern item_concerns_packets journal (Item.Row row step ∷ first)
+  pub packets : NoMachineItemConcerns machine_item_concerns_packets journal (Item.Row row step ∷ first)
   pub as_many : length later.switches ≡ length state.switches
   pub each : (s : ℕ) (d : SwitchValue) → s < length state.switches
       → get_or later.switches s d ≡ refined_switch_of setting (journal ++ Item.Row row step ∷ first) s
@@ -142,28 +142,28 @@ pub record IsTold (setting : Setting) (journal : List Item) (row : ℕ) (step : 
   pub usable : RefineUsableLinks setting (journal ++ Item.Row row step ∷ first) later.near
 
 -- marks and messages concern no packet, no switch and no call of one
-pub spares_links : SparesActs concerns_links
+pub spares_links : SparesActs machine_item_concerns_links
 spares_links = record {
   current = λ before v. refl;
   retired = λ before v. refl;
   sent = λ before n message. refl;
 }
 
-spares_packets : SparesActs item_concerns_packets
+spares_packets : SparesActs machine_item_concerns_packets
 spares_packets = record {
   current = λ before v. refl;
   retired = λ before v. refl;
   sent = λ before n message. refl;
 }
 
-spares_known : (s : ℕ) → SparesActs (item_concerns_known s)
+spares_known : (s : ℕ) → SparesActs (machine_item_concerns_known s)
 spares_known s = record {
   current = λ before v. refl;
   retired = λ before v. refl;
   sent = λ before n message. refl;
 }
 
-spares_calls : (s : ℕ) → SparesActs (item_concerns_calls s)
+spares_calls : (s : ℕ) → SparesActs (machine_item_concerns_calls s)
 spares_calls s = record {
   current = λ before v. refl;
   retired = λ before v. refl;
@@ -174,12 +174,12 @@ spares_calls s = record {
 pub acts_leave : (setting : Setting) (journal : List Item) (number : ℕ) (acts : List Act) (s : ℕ)
     → refined_switch_of setting (journal ++ log_act_items number acts) s ≡ refined_switch_of setting journal s
 acts_leave setting journal number acts s = kept_is setting s journal (log_act_items number acts)
-    (acts_apart (item_concerns_known s) (spares_known s) journal number acts)
-    (acts_apart (item_concerns_calls s) (spares_calls s) journal number acts)
+    (acts_apart (machine_item_concerns_known s) (spares_known s) journal number acts)
+    (acts_apart (machine_item_concerns_calls s) (spares_calls s) journal number acts)
 
 all_apart : (concerns : List Item → Item → Bool) → SparesActs concerns → (journal first : List Item)
-    (number : ℕ) (acts : List Act) → NoneConcern concerns journal first
-    → NoneConcern concerns journal (first ++ log_act_items number acts)
+    (number : ℕ) (acts : List Act) → NoMachineItemConcerns concerns journal first
+    → NoMachineItemConcerns concerns journal (first ++ log_act_items number acts)
 all_apart concerns spares journal first number acts none =
     have_append (λ before item. IsFalse (concerns before item)) journal first
     (log_act_items number acts) none (acts_apart concerns spares (journal ++ first) number acts)
@@ -190,8 +190,8 @@ pub links_left : (setting : Setting) (journal : List Item) (number : ℕ) (acts 
     → RefineUpLinks setting (journal ++ log_act_items number acts) links
     × RefineUsableLinks setting (journal ++ log_act_items number acts) near
 links_left setting journal number acts links near up usable =
-    let none : NoneConcern concerns_links journal (log_act_items number acts) =
-    acts_apart concerns_links spares_links journal number acts in (
+    let none : NoMachineItemConcerns machine_item_concerns_links journal (log_act_items number acts) =
+    acts_apart machine_item_concerns_links spares_links journal number acts in (
       up_stays setting journal (log_act_items number acts) links none up,
       λ s below. usable s below ∙ sym (near_stays setting s journal (log_act_items number acts) none),
     )
@@ -236,7 +236,7 @@ module _ {setting : Setting} {journal : List Item} {state : RefinedNetworkState}
             (reached_known setting journal refines.sound refines.reached) (none_more i begun
             (log_act_items number acts) (told.packet i) (acts_unnamed i number acts)));
         counted = (packets_keep journal all
-            (all_apart item_concerns_packets spares_packets journal begun number acts
+            (all_apart machine_item_concerns_packets spares_packets journal begun number acts
             told.packets)).next ∙ refines.counted;
         controller = rw told.piece_is at told.controller;
         bag = rw split at (rw (acts_posted number acts) at (bag_sends number
@@ -248,12 +248,12 @@ module _ {setting : Setting} {journal : List Item} {state : RefinedNetworkState}
 
 -- what a step sends finds room behind a journal with room
 pub acts_fit : (setting : Setting) (journal : List Item) (row : ℕ) (step : Step)
-    (first : List Item) (number : ℕ) (acts : List Act) → StepsSendFew setting journal
+    (first : List Item) (number : ℕ) (acts : List Act) → ControlStepsSendFew setting journal
     → piece setting journal row step ≡ Item.Row row step ∷ first ++ log_act_items number acts
     → length (log_act_posts acts) ≤ 10_000
 acts_fit setting journal row step first number acts few is =
-    let all = subst (λ items. count_of is_sending items ≤ 10_000) is (few row step) in
-    let sum = count_of_append is_sending (Item.Row row step ∷ first) (log_act_items number acts) in
+    let all = subst (λ items. machine_count_of is_machine_sending_item items ≤ 10_000) is (few row step) in
+    let sum = count_of_append is_machine_sending_item (Item.Row row step ∷ first) (log_act_items number acts) in
     omega (arith, all, sum, acts_counted number acts)
 
 -- ---- what a step sends finds room in the bag, and has short spellings
@@ -329,12 +329,12 @@ module _ {setting : Setting} {journal : List Item} {state : RefinedNetworkState}
 pub may_send : (posts : List Post) (messages : List Message)
     → LogMayNote posts (map Act.Post messages) → LogMaySend posts messages
 may_send posts messages may = record {
-  few = omega (arith, may.few, ap length (posts_as_acts messages), length-map messages new_post);
+  few = omega (arith, may.few, ap length (posts_as_acts messages), length-map messages new_bag_post);
   spelled = messages_spelled messages [] (rw (append-nil (map Act.Post messages)) may.spelled);
 }
 
 -- a hello of a switch below 64
-pub hello_spelled : (s boot : ℕ) → s < 64 → HasShortBagSpelling (to_controller (Hello s boot))
+pub hello_spelled : (s boot : ℕ) → s < 64 → HasShortBagSpelling (message_to_controller (Hello s boot))
 hello_spelled s boot below = record {
   spelling = record { switch = tt; suits = refl; fields = below };
   short = alone_short _ refl;

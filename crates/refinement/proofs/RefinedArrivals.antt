@@ -2,19 +2,19 @@
 -- answer is what becomes of the packet.
 use Rattle.std.proofs.Common.{[], if◌then◌else◌, ◌++◌, ◌+◌, ◌==◌, ◌∙◌, ◌∷◌, ◌≡◌, Bool, IsTrue, List, None, Option, Some, ap, arith, eq-eqb, false, nat_eq, option_and_then, position, refl, slice_get, subst, sym, true, ℕ}
 use Rattle.base.proofs.Exports.{list_any, option_map, option_map_or, unwrap_or, ⊤}
-use Rattle.five_tuple.specs.Exports.{IsHeader, number_of}
-use Rattle.update_machine.specs.Exports.{Exit, Header, Item, Leg, NoneConcern, Ports, Seek, Setting, Tables, journal_leg_arrival_items, machine_arrive_items, machine_authority_items, journal_authority_rule, item_concerns_policies, journal_decision_of, first_place as first_place_in, journal_packet_header_at, holds_version, machine_lookup_items, journal_next_message, journal_plan_at, policy_at, journal_tables_at, journal_leg_targets}
+use Rattle.five_tuple.specs.Exports.{IsHeader, header_number_of}
+use Rattle.update_machine.specs.Exports.{Exit, Header, Item, Leg, NoMachineItemConcerns, Ports, Seek, Setting, Tables, journal_leg_arrival_items, machine_arrive_items, machine_authority_items, journal_authority_rule, machine_item_concerns_policies, journal_decision_of, machine_first_rule_place as first_place_in, journal_packet_header_at, holds_version, machine_lookup_items, journal_next_message, journal_plan_at, machine_policy_at, journal_tables_at, journal_leg_targets}
 use Rattle.net_file.specs.Exports.{net_port_owner}
-use Rattle.policy_rules.specs.Exports.{is_held}
-use Rattle.switch_core.specs.Exports.{SwitchArrival, SwitchValue, around, switch_arrival_on_leg, switch_answer_by_rule, switch_answer_in_partition, held_tables, looked_up, switch_core_partition_numbered, switch_own_rule_place}
+use Rattle.policy_rules.specs.Exports.{is_held_by_policy_rule}
+use Rattle.switch_core.specs.Exports.{SwitchArrival, SwitchValue, switch_site_around, switch_arrival_on_leg, switch_answer_by_rule, switch_answer_in_partition, switch_held_tables, switch_looked_up, switch_core_partition_numbered, switch_own_rule_place}
 use Rattle.switch_core.specs.Answers as arrived
 use Rattle.switch_core.specs.declared.tunnel_calls.Packet.{Packet}
-use Rattle.switch_table.specs.Exports.{Hosted}
+use Rattle.switch_table.specs.Exports.{HostedPolicyPartition}
 use Rattle.update_machine.proofs.Exports.{policies_keep}
 use Rattle.packet_laws.specs.Exports.{IsPacketOnLeg, PacketFacts, packet_facts_of}
 use Rattle.packet_laws.proofs.Exports.{Finds, current_planned, in_plan, last_here, one_target}
 use Rattle.world_log.specs.Exports.{log_arrived_flight, log_arrived_items}
-use Rattle.travelling.specs.Travelling.{Flight, Standing}
+use Rattle.travelling.specs.Travelling.{TravellingFlight, TravellingStanding}
 use Rattle.refinement.proofs.RefinedAuthorityDecisions.{IsAsked, IsOurs, header_is, looked_law, own_numbered, ruled_law}
 use Rattle.refinement.proofs.RefinedOnwardPackets.{AreOfFacts, IsComing, answer_goes, looked_goes, ruled_goes}
 use Rattle.refinement.proofs.RefinedSteps.{Known}
@@ -40,7 +40,7 @@ ours_of setting journal s facts header version partition knows sound seeks targe
     (omega (arith, seeks.not_retired)) seeks.current in record {
       planned = planned;
       hosted = seeks.hosted;
-      finds = in_plan setting (policy_at setting journal version)
+      finds = in_plan setting (machine_policy_at setting journal version)
           (journal_plan_at setting journal version) header seeks.hosted planned sound seeks.own.first;
       number = seeks.own.number;
       target = target;
@@ -61,7 +61,7 @@ end_of_route setting journal s facts header (Seek version partition) knows sound
 
 -- items by which no policy comes keep the plan
 pub at_end_on : (setting : Setting) (before items : List Item) (s : ℕ) (header : Header)
-    (leg : Leg) → NoneConcern item_concerns_policies before items
+    (leg : Leg) → NoMachineItemConcerns machine_item_concerns_policies before items
     → IsAtEnd setting before s header leg → IsAtEnd setting (before ++ items) s header leg
 at_end_on setting before items s header (Exit port) none end = end
 at_end_on setting before items s header (Seek version partition) none end =
@@ -78,13 +78,13 @@ at_end_on setting before items s header (Seek version partition) none end =
 -- ---- what the switch answers, and what the journal's definitions say
 
 -- what becomes of a packet that arrives
-abbrev pub GoesOut : Targets → Standing → SwitchArrival → Type 0
+abbrev pub GoesOut : Targets → TravellingStanding → SwitchArrival → Type 0
 GoesOut targets at (arrived.Out port) = ⊤
 GoesOut targets at (arrived.Answered what) = IsComing targets at what
 
 module _ (setting : Setting) (journal : List Item) (s : ℕ) (w : SwitchValue) (mask : ℕ)
     (ports : Ports) (packet : Packet) (asked : IsAsked setting journal s w mask ports packet) where
-  abbrev at : Standing
+  abbrev at : TravellingStanding
   at = at_switch s packet
 
   -- the place of the first rule that holds the header, in the plan
@@ -94,8 +94,8 @@ module _ (setting : Setting) (journal : List Item) (s : ℕ) (w : SwitchValue) (
       ≡ ours.finds.place
   place_in_plan version partition ours = ap (first_place_in setting journal version partition)
       (header_is journal packet.number packet.header asked.of_packet.entered)
-      ∙ ap (λ (o : Option Hosted). unwrap_or
-      (option_and_then (λ (p : Hosted). position (is_held (number_of packet.header)) p.0.rules) o)
+      ∙ ap (λ (o : Option HostedPolicyPartition). unwrap_or
+      (option_and_then (λ (p : HostedPolicyPartition). position (is_held_by_policy_rule (header_number_of packet.header)) p.0.rules) o)
       0) (ap (slice_get (journal_plan_at setting journal version)) (sym ours.number) ∙ ours.finds.at)
       ∙ ours.finds.position
 
@@ -110,7 +110,7 @@ module _ (setting : Setting) (journal : List Item) (s : ℕ) (w : SwitchValue) (
       (sym ours.number) ∙ ours.finds.at) ours.number ours.target) ∙ ours.finds.position
 
   -- at an authority that has the version, or not
-  sought_law : (t : Flight) (version partition : ℕ) (b : Bool) → holds_version journal s version ≡ b
+  sought_law : (t : TravellingFlight) (version partition : ℕ) (b : Bool) → holds_version journal s version ≡ b
       → IsOurs setting journal s packet.header version partition → elim b [
         | false ↦ machine_lookup_items setting packet.number s journal
         | true ↦ machine_authority_items setting packet.number s (journal_authority_rule setting journal version
@@ -118,7 +118,7 @@ module _ (setting : Setting) (journal : List Item) (s : ℕ) (w : SwitchValue) (
             (journal_packet_header_at journal packet.number))) journal
       ]
       ≡ log_arrived_items (journal_next_message journal) at t.version t.rule
-      (switch_arrival_on_leg w (around mask ports) packet (Seek version partition))
+      (switch_arrival_on_leg w (switch_site_around mask ports) packet (Seek version partition))
   unfolding switch_answer_in_partition
   sought_law t version partition false missing ours = cc
       (looked_law setting journal s w mask ports packet asked, asked.sees.tables version, missing)
@@ -127,20 +127,20 @@ module _ (setting : Setting) (journal : List Item) (s : ℕ) (w : SwitchValue) (
       (place_in_plan version partition ours)
       ∙ sym (ruled_law setting journal s w mask ports packet asked version partition ours)
       ∙ ap (λ place. log_arrived_items (journal_next_message journal) at t.version t.rule
-      (arrived.Answered (switch_answer_by_rule w (around mask ports) packet version
+      (arrived.Answered (switch_answer_by_rule w (switch_site_around mask ports) packet version
       (switch_core_partition_numbered (journal_tables_at setting journal version s) partition) place)))
       (sym (place_in_tables version partition ours))
       ∙ ap (λ (o : Option Tables). log_arrived_items (journal_next_message journal) at t.version t.rule
-      (arrived.Answered (option_map_or (switch_answer_in_partition w (around mask ports) packet partition) o
-      (looked_up w (around mask ports) packet)))) (sym (asked.sees.tables version
+      (arrived.Answered (option_map_or (switch_answer_in_partition w (switch_site_around mask ports) packet partition) o
+      (switch_looked_up w (switch_site_around mask ports) packet)))) (sym (asked.sees.tables version
       ∙ ap (λ b. if b then Some (journal_tables_at setting journal version s) else None) held))
 
-  pub arrive_law : (t : Flight) (leg : Leg)
+  pub arrive_law : (t : TravellingFlight) (leg : Leg)
       → AreOfFacts t.version t.rule (packet_facts_of journal packet.number)
       → (packet_facts_of journal packet.number).leg ≡ Some leg
       → IsAtEnd setting journal s packet.header leg
       → machine_arrive_items setting packet.number s journal ≡ log_arrived_items (journal_next_message journal)
-      (at_switch s packet) t.version t.rule (switch_arrival_on_leg w (around mask ports) packet leg)
+      (at_switch s packet) t.version t.rule (switch_arrival_on_leg w (switch_site_around mask ports) packet leg)
   unfolding machine_arrive_items packet_facts_of
   arrive_law t (Exit port) of takes end =
       let i : ℕ = packet.number in
@@ -159,12 +159,12 @@ module _ (setting : Setting) (journal : List Item) (s : ℕ) (w : SwitchValue) (
       cc (takes, sought_law t version partition (holds_version journal s version) refl end)
 
   pub arrive_comes : (leg : Leg) → GoesOut (journal_leg_targets setting journal) (at_switch s packet)
-      (switch_arrival_on_leg w (around mask ports) packet leg)
+      (switch_arrival_on_leg w (switch_site_around mask ports) packet leg)
   unfolding switch_answer_in_partition
   arrive_comes (Exit port) = tt
-  arrive_comes (Seek version partition) = by_tables (held_tables w version) where
+  arrive_comes (Seek version partition) = by_tables (switch_held_tables w version) where
     by_tables : (o : Option Tables) → IsComing (journal_leg_targets setting journal) at
-        (option_map_or (switch_answer_in_partition w (around mask ports) packet partition) o (looked_up w (around mask ports) packet))
+        (option_map_or (switch_answer_in_partition w (switch_site_around mask ports) packet partition) o (switch_looked_up w (switch_site_around mask ports) packet))
     by_tables None = looked_goes setting journal s w mask ports packet asked
     by_tables (Some tables) = ruled_goes setting journal s tables.version
         (switch_own_rule_place packet.header (switch_core_partition_numbered tables partition)) w mask ports packet
@@ -172,8 +172,8 @@ module _ (setting : Setting) (journal : List Item) (s : ℕ) (w : SwitchValue) (
 
 -- ---- what becomes of the packet
 
-pub arrival_goes : (targets : Targets) (before : List Item) (number : ℕ) (at : Standing)
-    (t : Flight) (what : SwitchArrival) (facts : PacketFacts) → IsSeen at at.ingress facts
+pub arrival_goes : (targets : Targets) (before : List Item) (number : ℕ) (at : TravellingStanding)
+    (t : TravellingFlight) (what : SwitchArrival) (facts : PacketFacts) → IsSeen at at.ingress facts
     → AreOfFacts t.version t.rule facts → GoesOut targets at what
     → log_arrived_flight t.version t.rule what ≡ flight_by targets at.packet
     (facts_along at.packet before (log_arrived_items number at t.version t.rule what) facts)

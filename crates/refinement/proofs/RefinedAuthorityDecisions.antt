@@ -1,9 +1,9 @@
 -- An authority rule decides a packet at a switch as the journal's definitions say.
 use Rattle.std.proofs.Common.{[], ◌++◌, ◌<◌, ◌==◌, ◌∙◌, ◌∷◌, ◌≡◌, Bool, Err, IsSomeAnd, IsTrue, List, None, Ok, Option, Result, Some, ap, append-nil, arith, eq-eqb, false, length, map, option_map, refl, slice_get, subst, sym, true, unwrap_or, ℕ}
 use Rattle.policy_rules.specs.Exports.{ArePolicyPartitionsNumbered}
-use Rattle.update_machine.specs.Exports.{AuthorityRule, CacheEntry, Cause, Found, JournalItemsHaveCauses, Header, IsSetting, Item, Leg, Message, Partition, Ports, Rule, Seek, Setting, Tables, machine_authority_items, journal_authority_rule, journal_cache_items, machine_end_items, journal_found_down, found_items, journal_packet_header_at, in_turn, is_at, is_sending, lookup_at, machine_lookup_items, journal_next_message, journal_plan_at, policy_at, cache_rule as rule_message, send_items, machine_sent_items_from, serves, journal_stamp_of, journal_tables_at, journal_leg_targets}
-use Rattle.switch_core.specs.Exports.{Decided, SwitchSite, SwitchValue, switch_answer_by_found, around, by_entry, by_rule, switch_answer_by_rule, looked_up, next_of, no_switch_core_partition, no_rule, own_part, switch_core_partition_numbered, switch_cache_rule_sent, switch_core_rule_in, switch_seek_by, set_out, stamp_tables}
-use Rattle.switch_table.specs.Exports.{Hosted, has_target, part_of, tables_of}
+use Rattle.update_machine.specs.Exports.{MachineAuthorityRule, CacheEntry, Cause, Found, JournalItemsHaveCauses, Header, IsMachineSetting, Item, Leg, Message, Partition, Ports, Rule, Seek, Setting, Tables, machine_authority_items, journal_authority_rule, journal_cache_items, machine_end_items, journal_found_down, machine_found_items, journal_packet_header_at, machine_blocks_in_turn, is_at_machine_switch, is_machine_sending_item, machine_lookup_at, machine_lookup_items, journal_next_message, journal_plan_at, machine_policy_at, machine_cache_rule as rule_message, machine_send_items, machine_sent_items_from, serves, journal_stamp_of, journal_tables_at, journal_leg_targets}
+use Rattle.switch_core.specs.Exports.{Decided, SwitchSite, SwitchValue, switch_answer_by_found, switch_site_around, switch_decision_by_entry, switch_decision_by_rule, switch_answer_by_rule, switch_looked_up, switch_next_of, no_switch_core_partition, no_switch_rule, switch_own_partition, switch_core_partition_numbered, switch_cache_rule_sent, switch_core_rule_in, switch_seek_by, switch_set_out, switch_stamp_tables}
+use Rattle.switch_table.specs.Exports.{HostedPolicyPartition, switch_table_part_has_target, switch_table_part_of, tables_of}
 use Rattle.refinement.proofs.RefinedSwitchKnowledge.{own_has}
 use Rattle.base.proofs.Exports.{get_or_from_slice_get}
 use Rattle.five_tuple.specs.Exports.{IsHeader, header_of}
@@ -18,7 +18,7 @@ use Rattle.refinement.proofs.RefinedTakenLegs.{IsDecided, Sees, at_switch, end_l
 use Rattle.refinement.proofs.RefinedPacketFacts.{facts_all, sends_unnamed, unnamed}
 use Rattle.tunnel.specs.Exports.{TunnelValue}
 use Rattle.control_laws.specs.Exports.{HasControlItemCause}
-use Rattle.travelling.specs.Travelling.{Standing}
+use Rattle.travelling.specs.Travelling.{TravellingStanding}
 
 -- ---- a switch's own partition of a number is that of the plan
 
@@ -27,13 +27,13 @@ unwrapped : (o : Option Partition) (this : Partition) → IsSomeAnd o (λ part. 
 unwrapped None this is = absurd is
 unwrapped (Some part) this is = is
 
-pub own_numbered : (plan : List Hosted) (s version partition : ℕ) (hosted : Hosted)
-    → ArePolicyPartitionsNumbered (map part_of plan) → slice_get plan partition ≡ Some hosted
-    → hosted.0.number ≡ partition → IsTrue (has_target s hosted)
-    → switch_core_partition_numbered (tables_of plan version s) partition ≡ part_of hosted
+pub own_numbered : (plan : List HostedPolicyPartition) (s version partition : ℕ) (hosted : HostedPolicyPartition)
+    → ArePolicyPartitionsNumbered (map switch_table_part_of plan) → slice_get plan partition ≡ Some hosted
+    → hosted.0.number ≡ partition → IsTrue (switch_table_part_has_target s hosted)
+    → switch_core_partition_numbered (tables_of plan version s) partition ≡ switch_table_part_of hosted
 own_numbered plan s version partition hosted numbers there number target =
-    unwrapped (own_part (tables_of plan version s) partition) (part_of hosted)
-    (own_has (λ part. part ≡ part_of hosted) plan s version partition hosted numbers there number
+    unwrapped (switch_own_partition (tables_of plan version s) partition) (switch_table_part_of hosted)
+    (own_has (λ part. part ≡ switch_table_part_of hosted) plan s version partition hosted numbers there number
     target refl)
 
 -- ---- authority decisions
@@ -63,20 +63,20 @@ found_of journal packet is = is.found
 -- ---- what is sent
 
 -- the rule is at its place of its partition
-abbrev pub IsOwnRule : AuthorityRule → Type 0
+abbrev pub IsOwnRule : MachineAuthorityRule → Type 0
 IsOwnRule found = slice_get found.part.rules found.place ≡ Some found.rule
 
 -- the message of the switch's answer
-abbrev pub told_by_rule : ℕ → Packet → AuthorityRule → Option Message
+abbrev pub told_by_rule : ℕ → Packet → MachineAuthorityRule → Option Message
 told_by_rule s packet found =
     log_cache_message packet.ingress (switch_cache_rule_sent s packet found.version found.part found.place)
 
 -- a rule of this place is what the switch finds there
-own_rule : (found : AuthorityRule) → IsOwnRule found → switch_core_rule_in found.part found.place ≡ found.rule
-own_rule found own = get_or_from_slice_get found.part.rules found.place found.rule no_rule own
+own_rule : (found : MachineAuthorityRule) → IsOwnRule found → switch_core_rule_in found.part found.place ≡ found.rule
+own_rule found own = get_or_from_slice_get found.part.rules found.place found.rule no_switch_rule own
 
 -- it tells the rule by which it decides
-pub told_is : (s : ℕ) (packet : Packet) (found : AuthorityRule) → IsOwnRule found → (b : Bool) → (packet.ingress == s) ≡ b
+pub told_is : (s : ℕ) (packet : Packet) (found : MachineAuthorityRule) → IsOwnRule found → (b : Bool) → (packet.ingress == s) ≡ b
     → told_by_rule s packet found ≡ elim b [
       | true ↦ None
       | false ↦ Some (rule_message found packet.ingress packet.header)
@@ -87,25 +87,25 @@ told_is s packet found own false other = rw (other, own_rule found own) refl
 
 -- which is what the journal's definitions say
 sends_law : (setting : Setting) (journal : List Item) (s : ℕ) (packet : Packet)
-    (found : AuthorityRule) → IsPacket journal packet → IsOwnRule found
+    (found : MachineAuthorityRule) → IsPacket journal packet → IsOwnRule found
     → journal_cache_items setting packet.number s found journal
     ≡ machine_sent_items_from (journal_next_message journal) (log_message_list (told_by_rule s packet found))
 unfolding journal_cache_items machine_sent_items_from packet_facts_of
 sends_law setting journal s packet found is own =
-    ap (λ (ingress : Option ℕ). elim (is_at s ingress) [
+    ap (λ (ingress : Option ℕ). elim (is_at_machine_switch s ingress) [
       | true ↦ []
-      | false ↦ send_items journal (rule_message found (unwrap_or ingress 0)
+      | false ↦ machine_send_items journal (rule_message found (unwrap_or ingress 0)
           (journal_packet_header_at journal packet.number) ∷ [])
     ]) is.came
     ∙ ap (λ header. elim (packet.ingress == s) [
       | true ↦ []
-      | false ↦ send_items journal (rule_message found packet.ingress header ∷ [])
+      | false ↦ machine_send_items journal (rule_message found packet.ingress header ∷ [])
     ]) (header_is journal packet.number packet.header is.entered)
     ∙ by_ingress (packet.ingress == s) refl
   where
     by_ingress : (b : Bool) → (packet.ingress == s) ≡ b → elim b [
       | true ↦ []
-      | false ↦ send_items journal (rule_message found packet.ingress packet.header ∷ [])
+      | false ↦ machine_send_items journal (rule_message found packet.ingress packet.header ∷ [])
     ]
         ≡ machine_sent_items_from (journal_next_message journal) (log_message_list (told_by_rule s packet found))
     by_ingress true here = cc (told_is s packet found own true here)
@@ -174,24 +174,24 @@ unfolding journal_next_message
 number_stays journal packet decision =
     let decided : Item = Item.Decided packet.number decision.version decision.rule
     decision.action decision.how in
-    omega (arith, count_of_append is_sending journal (decided ∷ []))
+    omega (arith, count_of_append is_machine_sending_item journal (decided ∷ []))
 
 both_blocks : (first second : List Item → List Item) (journal : List Item)
-    → in_turn (first ∷ second ∷ []) journal ≡ first journal ++ second (journal ++ first journal)
+    → machine_blocks_in_turn (first ∷ second ∷ []) journal ≡ first journal ++ second (journal ++ first journal)
 both_blocks first second journal = cc (append-nil (second (journal ++ first journal)))
 
 pub authority_law : (setting : Setting) (journal : List Item) (s : ℕ) (w : SwitchValue) (mask : ℕ)
     → Sees setting journal s w mask
     → s < 64 → (ports : Ports) → AreNetPortOwners setting.net.switches ports
-    → (packet : Packet) → IsPacket journal packet → (found : AuthorityRule) → IsOwnRule found
+    → (packet : Packet) → IsPacket journal packet → (found : MachineAuthorityRule) → IsOwnRule found
     → machine_authority_items setting packet.number s (Some found) journal
-    ≡ log_decided_items (at_switch s packet) (by_rule s found.version found.part.number found.rule)
+    ≡ log_decided_items (at_switch s packet) (switch_decision_by_rule s found.version found.part.number found.rule)
     (machine_sent_items_from (journal_next_message journal) (log_message_list (told_by_rule s packet found)))
-    (next_of w (around mask ports) packet found.rule.action)
+    (switch_next_of w (switch_site_around mask ports) packet found.rule.action)
 unfolding machine_authority_items
 authority_law setting journal s w mask sees there ports owners packet is found own =
     let i : ℕ = packet.number in
-    let decision : Decision = by_rule s found.version found.part.number found.rule in
+    let decision : Decision = switch_decision_by_rule s found.version found.part.number found.rule in
     let decided = Item.Decided i decision.version decision.rule decision.action decision.how in
     let after : List Item = journal ++ decided ∷ [] in
     let sent = machine_sent_items_from (journal_next_message journal) (log_message_list (told_by_rule s packet found)) in
@@ -213,7 +213,7 @@ authority_law setting journal s w mask sees there ports owners packet is found o
 -- the switch serves, is as the journal says, and is asked what becomes of this packet
 pub record IsAsked (setting : Setting) (journal : List Item) (s : ℕ) (w : SwitchValue) (mask : ℕ)
     (ports : Ports) (packet : Packet) : Type 0 where
-  pub is : IsSetting setting
+  pub is : IsMachineSetting setting
   pub caused : JournalItemsHaveCauses (HasControlItemCause setting) [] journal
   pub there : s < length setting.net.switches
   pub serving : IsTrue (serves journal s)
@@ -225,23 +225,23 @@ pub record IsAsked (setting : Setting) (journal : List Item) (s : ℕ) (w : Swit
 -- a partition of the version's plan that is the switch's own, and its rule for the header
 pub record IsOurs (setting : Setting) (journal : List Item) (s : ℕ) (header : Header)
     (version partition : ℕ) : Type 0 where
-  pub planned : IsPlanned setting (policy_at setting journal version)
+  pub planned : IsPlanned setting (machine_policy_at setting journal version)
       (journal_plan_at setting journal version)
-  pub hosted : Hosted
-  pub finds : Finds (policy_at setting journal version) (journal_plan_at setting journal version) header
+  pub hosted : HostedPolicyPartition
+  pub finds : Finds (machine_policy_at setting journal version) (journal_plan_at setting journal version) header
       hosted
   pub number : hosted.0.number ≡ partition
-  pub target : IsTrue (has_target s hosted)
+  pub target : IsTrue (switch_table_part_has_target s hosted)
 
 -- the switch sets out for the targets of a partition
-seek_answers : (number : ℕ) (at : Standing) (leg : Leg) (way : Result TunnelValue Cause)
+seek_answers : (number : ℕ) (at : TravellingStanding) (leg : Leg) (way : Result TunnelValue Cause)
     → log_answer_items number at (switch_seek_by leg way) ≡ log_set_item at leg way ∷ []
 seek_answers number at leg (Ok tunnel) = refl
 seek_answers number at leg (Err cause) = refl
 
 -- the targets of a partition of a plan
 pub targets_are : (setting : Setting) (journal : List Item) (version partition : ℕ)
-    (targets : List ℕ) (hosted : Hosted)
+    (targets : List ℕ) (hosted : HostedPolicyPartition)
     → slice_get (journal_plan_at setting journal version) hosted.0.number ≡ Some hosted
     → hosted.0.number ≡ partition → hosted.1 ≡ targets
     → journal_leg_targets setting journal (Seek version partition) ≡ targets
@@ -250,9 +250,9 @@ targets_are setting journal version partition targets hosted at number own = cc 
 module _ (setting : Setting) (journal : List Item) (s : ℕ) (w : SwitchValue) (mask : ℕ)
     (ports : Ports) (packet : Packet) (asked : IsAsked setting journal s w mask ports packet) where
   abbrev site : SwitchSite
-  site = around mask ports
+  site = switch_site_around mask ports
 
-  abbrev at : Standing
+  abbrev at : TravellingStanding
   at = at_switch s packet
 
   pub its_stamp : IsStamped setting journal s
@@ -264,10 +264,10 @@ module _ (setting : Setting) (journal : List Item) (s : ℕ) (w : SwitchValue) (
   -- a cached rule decides
   cached_law : (tables : Tables) (entry : CacheEntry)
       → log_answer_items (journal_next_message journal) at (switch_answer_by_found w site packet tables (Found.Cached entry))
-      ≡ found_items setting packet.number s (Found.Cached entry) journal
+      ≡ machine_found_items setting packet.number s (Found.Cached entry) journal
   unfolding switch_answer_by_found machine_sent_items_from
   cached_law tables entry =
-      let decision : Decision = by_entry entry in
+      let decision : Decision = switch_decision_by_entry entry in
       let decided = Item.Decided packet.number entry.version entry.rule entry.action decision.how in
       ap (λ items. decided ∷ items)
       (sym (end_law setting (journal ++ decided ∷ []) s w mask
@@ -278,24 +278,24 @@ module _ (setting : Setting) (journal : List Item) (s : ℕ) (w : SwitchValue) (
   -- a rule of a partition decides, and the cache rule is sent, if one is
   pub ruled_law : (version partition : ℕ) (ours : IsOurs setting journal s packet.header version
       partition) → log_answer_items (journal_next_message journal) (at_switch s packet)
-      (switch_answer_by_rule w (around mask ports) packet version
+      (switch_answer_by_rule w (switch_site_around mask ports) packet version
       (switch_core_partition_numbered (journal_tables_at setting journal version s) partition) ours.finds.place)
       ≡ machine_authority_items setting packet.number s
       (journal_authority_rule setting journal version partition ours.finds.place) journal
   unfolding switch_answer_by_rule
   ruled_law version partition ours =
       let place : ℕ = ours.finds.place in
-      let part : Partition = part_of ours.hosted in
+      let part : Partition = switch_table_part_of ours.hosted in
       let items_of : ℕ → Partition → Rule → List Item = λ number part rule.
-      log_answer_items (journal_next_message journal) at (Decided (by_rule number version part.number rule)
-      (switch_cache_rule_sent number packet version part place) (next_of w site packet rule.action)) in
+      log_answer_items (journal_next_message journal) at (Decided (switch_decision_by_rule number version part.number rule)
+      (switch_cache_rule_sent number packet version part place) (switch_next_of w site packet rule.action)) in
       let own = own_numbered (journal_plan_at setting journal version) s version partition ours.hosted
       ours.planned.parts.sound.numbers
       (ap (slice_get (journal_plan_at setting journal version)) (sym ours.number) ∙ ours.finds.at)
       ours.number ours.target in
       ap (λ part. items_of w.number part (switch_core_rule_in part place)) own
       ∙ ap (items_of w.number part)
-      (get_or_from_slice_get ours.hosted.0.rules place ours.finds.rule no_rule ours.finds.ruled)
+      (get_or_from_slice_get ours.hosted.0.rules place ours.finds.rule no_switch_rule ours.finds.ruled)
       ∙ ap (λ number. items_of number part ours.finds.rule) asked.sees.number
       ∙ sym (ap (λ r. machine_authority_items setting packet.number s r journal)
       (rule_there setting journal packet.header ours.hosted version partition ours.finds ours.number)
@@ -303,10 +303,10 @@ module _ (setting : Setting) (journal : List Item) (s : ℕ) (w : SwitchValue) (
       asked.of_packet (deciding version ours.finds) ours.finds.ruled)
 
   -- what was found under the stamp of the switch
-  answer_law : (what : Found) → lookup_at setting journal s packet.header ≡ what
+  answer_law : (what : Found) → machine_lookup_at setting journal s packet.header ≡ what
       → log_answer_items (journal_next_message journal) at
       (switch_answer_by_found w site packet (journal_tables_at setting journal (journal_stamp_of journal s) s) what)
-      ≡ found_items setting packet.number s what journal
+      ≡ machine_found_items setting packet.number s what journal
   unfolding switch_answer_by_found
   answer_law (Found.Cached entry) answer =
       cached_law (journal_tables_at setting journal (journal_stamp_of journal s) s) entry
@@ -332,21 +332,21 @@ module _ (setting : Setting) (journal : List Item) (s : ℕ) (w : SwitchValue) (
       redirect_found setting journal s packet.header partition targets its_stamp asked.sound answer in
       let are = targets_are setting journal version partition targets own.part.hosted
       own.part.finds.at own.part.number own.own in
-      seek_answers (journal_next_message journal) at leg (set_out w mask packet leg targets)
-      ∙ ap (λ these. log_set_item at leg (set_out w mask packet leg these) ∷ []) (sym are)
+      seek_answers (journal_next_message journal) at leg (switch_set_out w mask packet leg targets)
+      ∙ ap (λ these. log_set_item at leg (switch_set_out w mask packet leg these) ∷ []) (sym are)
       ∙ sym (leg_law setting journal s w mask asked.sees packet (found_of journal packet asked.of_packet)
       leg)
 
   pub looked_law : machine_lookup_items setting packet.number s journal
       ≡ log_answer_items (journal_next_message journal) (at_switch s packet)
-      (looked_up w (around mask ports) packet)
-  unfolding machine_lookup_items looked_up
-  looked_law = let what : Found = lookup_at setting journal s packet.header in
-      ap (λ header. found_items setting packet.number s (lookup_at setting journal s header)
+      (switch_looked_up w (switch_site_around mask ports) packet)
+  unfolding machine_lookup_items switch_looked_up
+  looked_law = let what : Found = machine_lookup_at setting journal s packet.header in
+      ap (λ header. machine_found_items setting packet.number s (machine_lookup_at setting journal s header)
       journal) (header_is journal packet.number packet.header asked.of_packet.entered)
       ∙ sym (answer_law what refl)
       ∙ ap (λ tables. log_answer_items (journal_next_message journal) at (switch_answer_by_found w site packet tables what))
       (sym (asked.sees.stamped asked.serving))
       ∙ ap (λ f. log_answer_items (journal_next_message journal) at
-      (switch_answer_by_found w site packet (stamp_tables w) f))
+      (switch_answer_by_found w site packet (switch_stamp_tables w) f))
       (sym (asked.sees.lookup packet.header asked.serving))

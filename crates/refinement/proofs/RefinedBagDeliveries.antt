@@ -1,14 +1,14 @@
 -- What the bag says of a message, and a message that is forgotten.
 use Rattle.std.proofs.Common.{[], ◌&&◌, ◌++◌, ◌<◌, ◌∙◌, ◌∷◌, ◌≡◌, Bool, IfSome, IsFalse, List, None, Option, Some, ap, append_assoc, arith, false, get_or, if◌then◌else◌, is_some, length, not, option_and_then, option_map, refl, rules, subst, sym, true, ℕ}
-use Rattle.message_bag.specs.Exports.{IsBagMessageOf, Post, is_post_deliverable, posted_frames, bag_frames_remembered, posts_with_forgotten}
+use Rattle.message_bag.specs.Exports.{IsBagMessageOf, Post, is_bag_post_deliverable, bag_posted_frames, bag_frames_remembered, bag_posts_with_forgotten}
 use Rattle.message_bag.proofs.BagFramedMessages.{known_by_frames}
-use Rattle.update_machine.specs.Exports.{Forget, Item, Message, Place, Setting, Step, item_concerns_calls, machine_forget_items, is_deliverable, is_forgotten_in_journal, journal_message_of, near, nothing, piece, machine_message_to_switch, was_delivered}
+use Rattle.update_machine.specs.Exports.{Forget, Item, Message, Place, Setting, Step, machine_item_concerns_calls, machine_forget_items, is_deliverable, is_forgotten_in_journal, journal_message_of, near, nothing, piece, machine_message_to_switch, was_delivered_in_journal}
 use Rattle.steps.specs.Exports.{IsStep}
 use Rattle.update_machine.proofs.Exports.{message_keeps}
 use Rattle.refinement.specs.Exports.{IsRefinedBagOf, RefinedNetworkState, RefineJournal, RefinementTablesAreKnown, refined_post_at}
 use Rattle.refinement.proofs.RefinedSteps.{Known, WroteOne, reached_known, refines_one, switches_stay}
 use Rattle.refinement.proofs.RefinedPostedFrames.{bag_forgotten, bag_on, some_within}
-use Rattle.control_laws.specs.Exports.{StepsSendFew}
+use Rattle.control_laws.specs.Exports.{ControlStepsSendFew}
 use Rattle.control_laws.proofs.Exports.{piece_few, versions_few}
 use Rattle.switch_core.specs.Exports.{IsSoundSwitchBody}
 use Rattle.refinement.proofs.RefinedSwitchKnowledge.{requirements_hold}
@@ -17,14 +17,14 @@ use Rattle.refinement.proofs.RefinedSwitchKnowledge.{requirements_hold}
 
 abbrev flagged : Bool → Bool → Option Message → Option Post
 flagged was gone o =
-    option_map (λ (m : Message). (posted_frames m, record { delivered = was; forgotten = gone })) o
+    option_map (λ (m : Message). (bag_posted_frames m, record { delivered = was; forgotten = gone })) o
 
 pub deliverable_as : (journal : List Item) (posts : List Post) (n : ℕ) → IsRefinedBagOf journal posts
-    → is_deliverable journal n ≡ is_post_deliverable posts n
+    → is_deliverable journal n ≡ is_bag_post_deliverable posts n
 unfolding is_deliverable refined_post_at
 deliverable_as journal posts n bag =
     sym (ap (λ o. is_some (option_and_then bag_frames_remembered o)) (bag.each n)
-    ∙ by_flag (journal_message_of journal n) (was_delivered journal n) (is_forgotten_in_journal journal n))
+    ∙ by_flag (journal_message_of journal n) (was_delivered_in_journal journal n) (is_forgotten_in_journal journal n))
   where
     by_flag : (o : Option Message) (was gone : Bool)
         → is_some (option_and_then bag_frames_remembered (flagged was gone o)) ≡ (is_some o && not gone)
@@ -36,11 +36,11 @@ pub sent_as : (journal : List Item) (posts : List Post) (n : ℕ) (message : Mes
     → IsRefinedBagOf journal posts → IsBagMessageOf posts n message → journal_message_of journal n ≡ Some message
 unfolding refined_post_at
 sent_as journal posts n message bag is =
-    by_flag (journal_message_of journal n) (was_delivered journal n) (is_forgotten_in_journal journal n)
+    by_flag (journal_message_of journal n) (was_delivered_in_journal journal n) (is_forgotten_in_journal journal n)
     (sym (ap (option_and_then bag_frames_remembered) (bag.each n)) ∙ is.frames_are)
   where
     by_flag : (o : Option Message) (was gone : Bool)
-        → option_and_then bag_frames_remembered (flagged was gone o) ≡ Some (posted_frames message)
+        → option_and_then bag_frames_remembered (flagged was gone o) ≡ Some (bag_posted_frames message)
         → o ≡ Some message
     by_flag None was gone none = absurd cc
     by_flag (Some m) was true none = absurd cc
@@ -73,7 +73,7 @@ forget_piece setting journal row n =
 module _ {setting : Setting} {journal : List Item} {state : RefinedNetworkState}
     (refines : RefineJournal setting journal state) where
   pub nothing_happens : (row : ℕ) (step : Step) → IsStep setting.net (length setting.files) step
-      → ((q : ℕ) → IsFalse (item_concerns_calls q journal (Item.Row row step)))
+      → ((q : ℕ) → IsFalse (machine_item_concerns_calls q journal (Item.Row row step)))
       → piece setting journal row step ≡ Item.Row row step ∷ nothing
       → WroteOne setting journal row step Item.Nothing state
   nothing_happens row step may uncalled is = (
@@ -94,33 +94,33 @@ module _ {setting : Setting} {journal : List Item} {state : RefinedNetworkState}
   one = Item.Forgotten n
 
   -- by whether the bag has it
-  piece_by : (b : Bool) → is_post_deliverable state.posts n ≡ b
+  piece_by : (b : Bool) → is_bag_post_deliverable state.posts n ≡ b
       → piece setting journal row (Forget n) ≡ first ∷ (if b then one ∷ [] else nothing)
   piece_by b is =
       cc (forget_piece setting journal row n, deliverable_as journal state.posts n refines.bag, is)
 
-  pub forgotten_refines : is_post_deliverable state.posts n ≡ true → WroteOne setting journal row
-      (Forget n) one (record state { posts = posts_with_forgotten state.posts n })
+  pub forgotten_refines : is_bag_post_deliverable state.posts n ≡ true → WroteOne setting journal row
+      (Forget n) one (record state { posts = bag_posts_with_forgotten state.posts n })
   forgotten_refines there =
       let is = piece_by true there in
-      let bag = subst (λ js. IsRefinedBagOf js (posts_with_forgotten state.posts n))
+      let bag = subst (λ js. IsRefinedBagOf js (bag_posts_with_forgotten state.posts n))
       (append_assoc journal (first ∷ []) (one ∷ []))
       (bag_forgotten (journal ++ first ∷ []) state.posts n (some_within state.posts n there)
       (bag_on journal (first ∷ []) state.posts (refl, tt) refines.bag)) in (
         is,
-        refines_one refines (posts_with_forgotten state.posts n) state.switches row (Forget n) one
+        refines_one refines (bag_posts_with_forgotten state.posts n) state.switches row (Forget n) one
             (search (rules, switches_stay)),
       )
 
   -- no such message may be forgotten
-  pub unforgotten : is_post_deliverable state.posts n ≡ false
+  pub unforgotten : is_bag_post_deliverable state.posts n ≡ false
       → WroteOne setting journal row (Forget n) Item.Nothing state
   unforgotten none = nothing_happens refines row (Forget n) may (λ q. refl) (piece_by false none)
 
 -- ---- what a delivered message finds: few messages are sent upon it, and its switch can hear it
 
 pub sends_few : (setting : Setting) (journal : List Item) → Known setting journal
-    → StepsSendFew setting journal
+    → ControlStepsSendFew setting journal
 sends_few setting journal knows = λ row step. piece_few setting knows.is.net journal
     (versions_few setting journal knows.caused) row step
 

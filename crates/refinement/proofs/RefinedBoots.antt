@@ -1,12 +1,12 @@
 -- A switch that was down begins its next boot: what is written, and the parts after it.
 use Rattle.std.proofs.Common.{[], if◌then◌else◌, ◌&&◌, ◌++◌, ◌+◌, ◌<◌, ◌==◌, ◌∙◌, ◌∷◌, ◌≡◌, Bool, List, ap, append_assoc, arith, cond, eq-eqb, eqb-true, false, filter, get_or, length, not, refl, set, subst, sym, true, ℕ}
 use Rattle.base.proofs.Exports.{None, Some, length-set, option_or, unwrap_or}
-use Rattle.update_machine.specs.Exports.{HasRoom, JournalItemsHaveCauses, Hello, Item, LinkRow, Message, Restart, Setting, journal_boot_of, machine_item_gives_boot, machine_item_gives_serving, journal_usable_links_changed, machine_hello_of, is_link_up_in_journal, is_up, is_usable_in_journal, journal_items_then, journal_last_given, near, journal_next_message, nothing, piece, restart_items, send_items, machine_sent_items_from, serves}
-use Rattle.message_bag.specs.Exports.{new_post}
+use Rattle.update_machine.specs.Exports.{MachineJournalHasRoom, JournalItemsHaveCauses, Hello, Item, LinkRow, Message, Restart, Setting, journal_boot_of, machine_item_gives_boot, machine_item_gives_serving, journal_usable_links_changed, machine_hello_of, is_link_up_in_journal, is_up, is_usable_in_journal, journal_items_then, journal_last_given, near, journal_next_message, nothing, piece, machine_restart_items, machine_send_items, machine_sent_items_from, serves}
+use Rattle.message_bag.specs.Exports.{new_bag_post}
 use Rattle.control_laws.proofs.Exports.{caused_known, fit_in_room, serving_known}
 use Rattle.refinement.proofs.RefinedControllerResends.{steps_leave}
 use Rattle.controller.specs.declared.sends.Act.TheVariants.{Post as PostAct}
-use Rattle.ctrl_msg.specs.Exports.{to_controller}
+use Rattle.ctrl_msg.specs.Exports.{message_to_controller}
 use Rattle.net_file.specs.Exports.{links_of}
 use Rattle.control_laws.specs.Exports.{HasControlItemCause, ControlNumbersFit}
 use Rattle.switch_core.specs.Exports.{SwitchValue, near_changed, restarted_switch}
@@ -49,12 +49,12 @@ module _ {setting : Setting} {journal : List Item} {state : RefinedNetworkState}
   rowed_up = (switch_keeps setting s journal (Item.Row row (Restart s) ∷ []) (refl, tt)).up ∙ own_up
 
   pub up_already : own.is_up ≡ true → WroteOne setting journal row (Restart s) Item.Nothing state
-  unfolding piece restart_items
+  unfolding piece machine_restart_items
   up_already up = nothing_happens refines row (Restart s) may (λ q. refl)
       (ap (λ b. Item.Row row (Restart s) ∷ elim b [
         | true ↦ nothing
         | false ↦ journal_items_then (Item.Booted s (journal_boot_of rowed s + 1) ∷ [])
-            (λ booted. send_items booted (machine_hello_of booted s ∷ [])) rowed
+            (λ booted. machine_send_items booted (machine_hello_of booted s ∷ [])) rowed
       ]) (rowed_up ∙ up))
 
   -- it has a next boot
@@ -62,7 +62,7 @@ module _ {setting : Setting} {journal : List Item} {state : RefinedNetworkState}
   boot_next down room =
       let fit : ControlNumbersFit setting journal = subst (ControlNumbersFit setting)
       (sym refines.reached.written) (fit_in_room setting refines.reached.steps refines.sound.net
-      (subst HasRoom refines.reached.written (omega (arith, refines.bag.many, room)))) in
+      (subst MachineJournalHasRoom refines.reached.written (omega (arith, refines.bag.many, room)))) in
       subst CanRefinedSwitchRestart (sym own_is)
       (requirements_hold.restart setting journal s fit (own_up ∙ down))
 
@@ -87,7 +87,7 @@ module _ {setting : Setting} {journal : List Item} {state : RefinedNetworkState}
   boot_now = cc (split, last_given_append (machine_item_gives_boot s) rowed (booted ∷ []), eq-eqb s s refl)
 
   abbrev hello : Message
-  hello = to_controller (Hello s boot)
+  hello = message_to_controller (Hello s boot)
 
   number_is : journal_next_message now ≡ length state.posts + 1
   number_is =
@@ -96,19 +96,19 @@ module _ {setting : Setting} {journal : List Item} {state : RefinedNetworkState}
 
   pub boot_piece : own.is_up ≡ false → piece setting journal row (Restart s)
       ≡ Item.Row row (Restart s) ∷ booted ∷ Item.Sent (length state.posts + 1) hello ∷ []
-  unfolding piece restart_items machine_sent_items_from
+  unfolding piece machine_restart_items machine_sent_items_from
   boot_piece down = ap (λ b. Item.Row row (Restart s) ∷ elim b [
     | true ↦ nothing
     | false ↦ journal_items_then (Item.Booted s (journal_boot_of rowed s + 1) ∷ [])
-        (λ later. send_items later (machine_hello_of later s ∷ [])) rowed
+        (λ later. machine_send_items later (machine_hello_of later s ∷ [])) rowed
   ]) (rowed_up ∙ down)
       ∙ ap (λ b. Item.Row row (Restart s) ∷ journal_items_then (Item.Booted s (b + 1) ∷ [])
-      (λ later. send_items later (machine_hello_of later s ∷ [])) rowed)
+      (λ later. machine_send_items later (machine_hello_of later s ∷ [])) rowed)
       ((switch_keeps setting s journal (Item.Row row (Restart s) ∷ []) (refl, tt)).boot ∙ own_boot)
-      ∙ ap (λ js. Item.Row row (Restart s) ∷ booted ∷ send_items js (machine_hello_of js s ∷ [])) split
+      ∙ ap (λ js. Item.Row row (Restart s) ∷ booted ∷ machine_send_items js (machine_hello_of js s ∷ [])) split
       ∙ ap (λ k. Item.Row row (Restart s) ∷ booted ∷ Item.Sent k (machine_hello_of now s) ∷ []) number_is
       ∙ ap (λ b. Item.Row row (Restart s) ∷ booted
-      ∷ Item.Sent (length state.posts + 1) (to_controller (Hello s b)) ∷ []) boot_now
+      ∷ Item.Sent (length state.posts + 1) (message_to_controller (Hello s b)) ∷ []) boot_now
 
   -- a switch that is down serves not, nor does one that just booted
   serves_now : (x : ℕ) (b : Bool) → own.is_up ≡ false → (s == x) ≡ b
@@ -183,7 +183,7 @@ module _ {setting : Setting} {journal : List Item} {state : RefinedNetworkState}
   pub boot_refines : (changed : SwitchValue) → own.is_up ≡ false → changed ≡ restarted_switch own
       → RefineJournal setting (journal ++ items) (record state {
         switches = set state.switches s changed;
-        posts = state.posts ++ new_post hello ∷ [];
+        posts = state.posts ++ new_bag_post hello ∷ [];
       })
   unfolding log_act_items log_act_posts
   boot_refines changed down changed_is = refines_told refines (record state {

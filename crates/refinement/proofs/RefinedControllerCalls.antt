@@ -1,16 +1,16 @@
 -- What the calls by which the controller begins, hears something and confirms write.
 use Rattle.std.proofs.Common.{[], if◌then◌else◌, ◌++◌, ◌+◌, ◌-◌, ◌<◌, ◌∙◌, ◌∷◌, ◌≡◌, Bool, IsFalse, IsTrue, List, None, Some, ap, append-nil, append_assoc, arith, false, get_or-set_same, length, length-set, map, nat_lt, refl, subst, sym, true, ℕ}
 use Rattle.base.proofs.Exports.{length-map, map_twice, range_with_len}
-use Rattle.update_machine.specs.Exports.{Body, Confirm, Deliver, Hello, Item, Setting, Step, machine_after_hello, journal_body_to_controller, confirm_items, controller_items, journal_current_mark, deliver_items, machine_delivery_items, journal_install_for, machine_installs_to, is_deliverable, is_new_boot_in_journal, is_to_controller, is_up, journal_items_then, journal_known_boot, journal_message_of, nothing, piece, machine_received_items, settling, journal_version_count, journal_versions_from_current}
-use Rattle.ctrl_msg.specs.Exports.{to_controller}
+use Rattle.update_machine.specs.Exports.{Body, Confirm, Deliver, Hello, Item, Setting, Step, machine_after_hello, journal_body_to_controller, machine_confirm_items, machine_controller_items, journal_current_mark, machine_deliver_items, machine_delivery_items, journal_install_for, machine_installs_to, is_deliverable, is_new_boot_in_journal, is_machine_receiver_controller, is_up, journal_items_then, journal_known_boot, journal_message_of, nothing, piece, machine_received_items, machine_settling, journal_version_count, journal_versions_from_current}
+use Rattle.ctrl_msg.specs.Exports.{message_to_controller}
 use Rattle.update_machine.proofs.Exports.{controller_keeps, first_touched, have_append, start_laws}
 use Rattle.control_laws.specs.Exports.{HasControlItemCause}
 use Rattle.control_laws.proofs.Exports.{count_more, current_more, in_two, installs_reopen, leaves_keep, message_more, sends_leave, up_more}
-use Rattle.version_update.specs.Exports.{MarksValue, mark_record_after_over, at_switch, record_of, update_takes_hello, unknown_switch_record}
+use Rattle.version_update.specs.Exports.{MarksValue, mark_record_after_over, version_marks_with_switch_changed, update_record_of, update_takes_hello, unknown_update_record}
 use Rattle.version_update.specs.Record as known
 use Rattle.version_update.specs.declared.record.Phase.TheVariants.{Joining}
 use Rattle.version_update.specs.declared.record.SwitchRecord.{SwitchRecord}
-use Rattle.controller.specs.Exports.{ControllerValue, KeptPlan, ControllerReplyNamesExist, PlanValue, ControllerSettlesWith, current_plan_touched, controller_at_start, controller_hear_acts, controller_install_act, controller_installs_after, controller_marks_after, kept_plans_from}
+use Rattle.controller.specs.Exports.{ControllerValue, ControllerKeptPlan, ControllerReplyNamesExist, ControllerPlanValue, ControllerSettlesWith, controller_current_plan_touched, controller_at_start, controller_hear_acts, controller_install_act, controller_installs_after, controller_marks_after, controller_kept_plans_from}
 use Rattle.controller.specs.Sends as acts
 use Rattle.controller.specs.declared.sends.Act.{Act}
 use Rattle.controller.specs.declared.sends.Act.TheVariants.{Post}
@@ -24,13 +24,13 @@ use Rattle.switch_table.specs.Exports.{cache_all_touched}
 
 -- ---- the start
 
-pub begins : (setting : Setting) (plan : PlanValue) → plan ≡ (refined_plan_to_keep setting [] 1).plan
+pub begins : (setting : Setting) (plan : ControllerPlanValue) → plan ≡ (refined_plan_to_keep setting [] 1).plan
     → IsRefinedController setting [] (controller_at_start (length setting.net.switches) plan)
 begins setting plan is = record {
   marks = marks_begun setting;
   plans = cc (is, first_touched setting [], start_laws.current, one);
 } where
-  kept : PlanValue → List WordValue → List KeptPlan
+  kept : ControllerPlanValue → List WordValue → List ControllerKeptPlan
   kept own touched = (record { version = 1; plan = own; touched = touched }) ∷ []
 
   one : 1 ≡ journal_version_count [] + 1 - journal_current_mark []
@@ -71,14 +71,14 @@ are_written setting before one two items acts new same after = record {
 
 -- a switch that told a new boot
 hello_boot_is : (setting : Setting) (now : List Item) (s boot : ℕ) (old new : ControllerValue)
-    → IsRefinedController setting (now ++ settling setting now) new
-    → ControllerSettlesWith (at_switch s (known.update_hello_recorded boot) old.marks) old.plans new
-    → s < length old.marks.switches → update_takes_hello boot (record_of old.marks s) ≡ true
-    → boot ≡ journal_known_boot (now ++ settling setting now) s
+    → IsRefinedController setting (now ++ machine_settling setting now) new
+    → ControllerSettlesWith (version_marks_with_switch_changed s (known.update_hello_recorded boot) old.marks) old.plans new
+    → s < length old.marks.switches → update_takes_hello boot (update_record_of old.marks s) ≡ true
+    → boot ≡ journal_known_boot (now ++ machine_settling setting now) s
 hello_boot_is setting now s boot old new after settles there taken =
-    let changed : MarksValue = at_switch s (known.update_hello_recorded boot) old.marks in
+    let changed : MarksValue = version_marks_with_switch_changed s (known.update_hello_recorded boot) old.marks in
     let long = length-set old.marks.switches s
-    (known.update_hello_recorded boot (record_of old.marks s)) in
+    (known.update_hello_recorded boot (update_record_of old.marks s)) in
     let is = settles.marks.1 in
     let below : s < length new.marks.switches = omega (
       arith,
@@ -88,8 +88,8 @@ hello_boot_is setting now s boot old new after settles there taken =
       length-map changed.switches (known.opened_update_record new.marks.current),
     ) in
     sym (ap (λ value. boot_in value) (get_or-set_same old.marks.switches s
-    (known.update_hello_recorded boot (record_of old.marks s)) unknown_switch_record there)
-    ∙ new_boot (record_of old.marks s) taken)
+    (known.update_hello_recorded boot (update_record_of old.marks s)) unknown_update_record there)
+    ∙ new_boot (update_record_of old.marks s) taken)
     ∙ sym (settled_boot changed new.marks settles.marks.0 s is (omega (arith, there, long)))
     ∙ (after.marks.each s below).boot
   where
@@ -106,18 +106,18 @@ hello_boot_is setting now s boot old new after settles there taken =
 hello_written : (setting : Setting) (before one : List Item)
     (body : Body) (old : MarksValue) (new : ControllerValue) → AreCaused setting one
     → IsRefinedController setting one new → ((s boot : ℕ) → body ≡ Hello s boot
-    → (update_takes_hello boot (record_of old s) ≡ is_new_boot_in_journal before s boot)
-    × (update_takes_hello boot (record_of old s) ≡ true → boot ≡ journal_known_boot one s))
+    → (update_takes_hello boot (update_record_of old s) ≡ is_new_boot_in_journal before s boot)
+    × (update_takes_hello boot (update_record_of old s) ≡ true → boot ≡ journal_known_boot one s))
     → refined_acts_written one (controller_installs_after body old new) ≡ machine_after_hello setting before body one
 unfolding machine_installs_to
 hello_written setting before one (Hello s boot) old new have is told =
-    cc (by_new (update_takes_hello boot (record_of old s)) refl, (told s boot refl).0)
+    cc (by_new (update_takes_hello boot (update_record_of old s)) refl, (told s boot refl).0)
   where
     versions : List ℕ
     versions = journal_versions_from_current one
 
-    by_new : (b : Bool) → update_takes_hello boot (record_of old s) ≡ b → refined_acts_written one
-        (if b then map (controller_install_act s boot) (kept_plans_from new.marks.current new.plans) else [])
+    by_new : (b : Bool) → update_takes_hello boot (update_record_of old s) ≡ b → refined_acts_written one
+        (if b then map (controller_install_act s boot) (controller_kept_plans_from new.marks.current new.plans) else [])
         ≡ elim b [ true ↦ machine_installs_to setting s one | false ↦ [] ]
     by_new true e = ap (refined_acts_written one) (ap (map (controller_install_act s boot))
         (plans_stay setting one new.plans new.marks.current have is.marks.current is.plans)
@@ -146,7 +146,7 @@ installs_leave setting before one body new have is = rw (append-nil one) is
 module _ (setting : Setting) (before : List Item) (row n : ℕ) (body : Body)
     (old new : ControllerValue) (have : AreCaused setting before)
     (is : IsRefinedController setting before old)
-    (sent : journal_message_of before n ≡ Some (to_controller body)) (there : ControllerReplyNamesExist body old.marks)
+    (sent : journal_message_of before n ≡ Some (message_to_controller body)) (there : ControllerReplyNamesExist body old.marks)
     (settles : ControllerSettlesWith (controller_marks_after body old.marks) old.plans new) where
   abbrev here : List Item
   here = before ++ Item.Row row (Deliver n) ∷ []
@@ -155,7 +155,7 @@ module _ (setting : Setting) (before : List Item) (row n : ℕ) (body : Body)
   now = here ++ Item.Delivered n ∷ []
 
   abbrev one : List Item
-  one = now ++ settling setting now
+  one = now ++ machine_settling setting now
 
   here_have : AreCaused setting here
   here_have = behind_row setting before row (Deliver n) have
@@ -169,11 +169,11 @@ module _ (setting : Setting) (before : List Item) (row n : ℕ) (body : Body)
   said : journal_body_to_controller here n ≡ Some body
   said = ap (λ o. elim o [
     | None ↦ None
-    | Some message ↦ if is_to_controller message.to then Some message.body else None
+    | Some message ↦ if is_machine_receiver_controller message.to then Some message.body else None
   ]) (message_more before (Item.Row row (Deliver n)) n ∙ sent)
 
-  heard_settles : (refined_acts_written now (acts.controller_settling_acts (current_plan_touched new) (controller_marks_after body old.marks) new.marks)
-      ≡ settling setting now) × IsRefinedController setting one new
+  heard_settles : (refined_acts_written now (acts.controller_settling_acts (controller_current_plan_touched new) (controller_marks_after body old.marks) new.marks)
+      ≡ machine_settling setting now) × IsRefinedController setting one new
   heard_settles = settles_with setting now (controller_marks_after body old.marks) old.plans new now_have
       (marks_told setting here n body old.marks here_have said there here_is.marks)
       (plans_on setting here (Item.Delivered n ∷ []) old.plans here_have
@@ -181,8 +181,8 @@ module _ (setting : Setting) (before : List Item) (row n : ℕ) (body : Body)
       settles
 
   hello_told : (s boot : ℕ) → body ≡ Hello s boot
-      → (update_takes_hello boot (record_of old.marks s) ≡ is_new_boot_in_journal before s boot)
-      × (update_takes_hello boot (record_of old.marks s) ≡ true → boot ≡ journal_known_boot one s)
+      → (update_takes_hello boot (update_record_of old.marks s) ≡ is_new_boot_in_journal before s boot)
+      × (update_takes_hello boot (update_record_of old.marks s) ≡ true → boot ≡ journal_known_boot one s)
   hello_told s boot e =
       let below : s < length old.marks.switches = subst (λ b. ControllerReplyNamesExist b old.marks) e there in (
         ap (λ known. nat_lt known boot) (is.marks.each s below).boot,
@@ -190,31 +190,31 @@ module _ (setting : Setting) (before : List Item) (row n : ℕ) (body : Body)
       )
 
   heard_so : (refined_acts_written now (controller_hear_acts body old.marks new)
-      ≡ controller_items setting before body now)
-      × IsRefinedController setting (now ++ controller_items setting before body now) new
-  unfolding controller_items
+      ≡ machine_controller_items setting before body now)
+      × IsRefinedController setting (now ++ machine_controller_items setting before body now) new
+  unfolding machine_controller_items
   heard_so = (
-    written_in_two now (settling setting) (machine_after_hello setting before body)
-        (acts.controller_settling_acts (current_plan_touched new) (controller_marks_after body old.marks) new.marks)
+    written_in_two now (machine_settling setting) (machine_after_hello setting before body)
+        (acts.controller_settling_acts (controller_current_plan_touched new) (controller_marks_after body old.marks) new.marks)
         (controller_installs_after body old.marks new) heard_settles.0 (hello_written setting before one body
         old.marks new (settling_caused setting now now_have) heard_settles.1 hello_told),
-    rw (in_two (settling setting) (machine_after_hello setting before body) now) (installs_leave setting
+    rw (in_two (machine_settling setting) (machine_after_hello setting before body) now) (installs_leave setting
         before one body new (settling_caused setting now now_have) heard_settles.1),
   )
 
 deliver_piece : (setting : Setting) (before : List Item) (row n : ℕ) (body : Body)
-    → IsTrue (is_deliverable before n) → journal_message_of before n ≡ Some (to_controller body)
+    → IsTrue (is_deliverable before n) → journal_message_of before n ≡ Some (message_to_controller body)
     → let now = (before ++ Item.Row row (Deliver n) ∷ []) ++ Item.Delivered n ∷ [] in
-    Item.Row row (Deliver n) ∷ Item.Delivered n ∷ controller_items setting before body now
+    Item.Row row (Deliver n) ∷ Item.Delivered n ∷ machine_controller_items setting before body now
     ≡ piece setting before row (Deliver n)
-unfolding piece deliver_items machine_delivery_items
+unfolding piece machine_deliver_items machine_delivery_items
 deliver_piece setting before row n body may sent =
     let here : List Item = before ++ Item.Row row (Deliver n) ∷ [] in
     let now : List Item = here ++ Item.Delivered n ∷ [] in
     let told : elim (journal_message_of before n) [
       | None ↦ []
       | Some message ↦ machine_received_items setting before n message now
-    ] ≡ controller_items setting before body now = ap (λ o. elim o [
+    ] ≡ machine_controller_items setting before body now = ap (λ o. elim o [
       | None ↦ []
       | Some message ↦ machine_received_items setting before n message now
     ]) sent in
@@ -226,7 +226,7 @@ deliver_piece setting before row n body may sent =
 
 pub hears : (setting : Setting) (before : List Item) (row n : ℕ) (body : Body)
     (old new : ControllerValue) → AreCaused setting before → IsRefinedController setting before old
-    → IsTrue (is_deliverable before n) → journal_message_of before n ≡ Some (to_controller body)
+    → IsTrue (is_deliverable before n) → journal_message_of before n ≡ Some (message_to_controller body)
     → ControllerReplyNamesExist body old.marks → ControllerSettlesWith (controller_marks_after body old.marks) old.plans new
     → AreRefinedActsWritten setting before (Item.Row row (Deliver n) ∷ Item.Delivered n ∷ [])
     (controller_hear_acts body old.marks new) new (piece setting before row (Deliver n))
@@ -241,20 +241,20 @@ hears setting before row n body old new have is may sent there settles =
 
 pub confirms : (setting : Setting) (before : List Item) (row s : ℕ) (old new : ControllerValue)
     → AreCaused setting before → IsRefinedController setting before old → IsFalse (is_up before s)
-    → s < length old.marks.switches → ControllerSettlesWith (at_switch s mark_record_after_over old.marks) old.plans new
+    → s < length old.marks.switches → ControllerSettlesWith (version_marks_with_switch_changed s mark_record_after_over old.marks) old.plans new
     → AreRefinedActsWritten setting before (Item.Row row (Confirm s) ∷ Item.OverNow s ∷ [])
-    (acts.controller_settling_acts (current_plan_touched new) (at_switch s mark_record_after_over old.marks) new.marks) new
+    (acts.controller_settling_acts (controller_current_plan_touched new) (version_marks_with_switch_changed s mark_record_after_over old.marks) new.marks) new
     (piece setting before row (Confirm s))
-unfolding piece confirm_items
+unfolding piece machine_confirm_items
 confirms setting before row s old new have is down there settles =
     subst (λ b. AreRefinedActsWritten setting before (Item.Row row (Confirm s) ∷ Item.OverNow s ∷ [])
-    (acts.controller_settling_acts (current_plan_touched new) (at_switch s mark_record_after_over old.marks) new.marks) new (Item.Row row (Confirm s)
+    (acts.controller_settling_acts (controller_current_plan_touched new) (version_marks_with_switch_changed s mark_record_after_over old.marks) new.marks) new (Item.Row row (Confirm s)
     ∷ elim b [
       | true ↦ nothing
-      | false ↦ journal_items_then (Item.OverNow s ∷ []) (settling setting) here
+      | false ↦ journal_items_then (Item.OverNow s ∷ []) (machine_settling setting) here
     ])) (sym still)
-    (are_written setting before (Item.Row row (Confirm s)) (Item.OverNow s) (settling setting now)
-    (acts.controller_settling_acts (current_plan_touched new) (at_switch s mark_record_after_over old.marks) new.marks) new so.0 so.1)
+    (are_written setting before (Item.Row row (Confirm s)) (Item.OverNow s) (machine_settling setting now)
+    (acts.controller_settling_acts (controller_current_plan_touched new) (version_marks_with_switch_changed s mark_record_after_over old.marks) new.marks) new so.0 so.1)
   where
     here : List Item
     here = before ++ Item.Row row (Confirm s) ∷ []
@@ -271,9 +271,9 @@ confirms setting before row s old new have is down there settles =
     here_is : IsRefinedController setting here old
     here_is = row_on setting before row (Confirm s) old have is
 
-    so : (refined_acts_written now (acts.controller_settling_acts (current_plan_touched new) (at_switch s mark_record_after_over old.marks) new.marks)
-        ≡ settling setting now) × IsRefinedController setting (now ++ settling setting now) new
-    so = settles_with setting now (at_switch s mark_record_after_over old.marks) old.plans new
+    so : (refined_acts_written now (acts.controller_settling_acts (controller_current_plan_touched new) (version_marks_with_switch_changed s mark_record_after_over old.marks) new.marks)
+        ≡ machine_settling setting now) × IsRefinedController setting (now ++ machine_settling setting now) new
+    so = settles_with setting now (version_marks_with_switch_changed s mark_record_after_over old.marks) old.plans new
         (have_append (HasControlItemCause setting) [] here (Item.OverNow s ∷ []) here_have (still, tt))
         (marks_over setting here s old.marks there here_is.marks)
         (plans_on setting here (Item.OverNow s ∷ []) old.plans here_have

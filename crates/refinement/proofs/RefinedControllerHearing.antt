@@ -7,7 +7,7 @@ use Rattle.update_machine.specs.Exports.{Body, JournalItemsHaveCauses, Hello, In
 use Rattle.update_machine.specs.Marks as machine
 use Rattle.control_laws.specs.Exports.{HasControlItemCause}
 use Rattle.control_laws.proofs.Exports.{StampsAreCurrent, acked_more, count_more, current_at_first, current_kept, current_more, fact_on, known_first, known_more, member_same, opened_in, opened_is, opened_more, opened_same, over_more, raised, retired_more, tells, told_by, told_by_more, told_more}
-use Rattle.version_update.specs.Exports.{MarksValue, mark_record_after_installed, mark_record_after_over, update_after_stamped, at_switch, has_acked, update_hello_recorded, is_member, is_over, record_of, update_takes_hello, mark_takes_installed, takes_stamped}
+use Rattle.version_update.specs.Exports.{MarksValue, mark_record_after_installed, mark_record_after_over, update_after_stamped, version_marks_with_switch_changed, has_acked, update_hello_recorded, is_member, is_over, update_record_of, update_takes_hello, mark_takes_installed, update_takes_stamped}
 use Rattle.version_update.specs.declared.record.Phase.TheVariants.{Joining}
 use Rattle.version_update.specs.declared.record.SwitchRecord.{SwitchRecord}
 use Rattle.version_update.proofs.VersionAcknowledgements.{installed_acked}
@@ -260,7 +260,7 @@ installed_known here n s boot v known there said is = by_taken (mark_takes_insta
 stamped_known : (here : List Item) (n s boot v : ℕ) (known : SwitchRecord)
     → journal_body_to_controller here n ≡ Some (Stamped s boot v) → IsKnownRefined here s known
     → IsKnownRefined (here ++ delivered n ∷ []) s (update_after_stamped boot v known)
-stamped_known here n s boot v known said is = by_taken (takes_stamped boot known) refl where
+stamped_known here n s boot v known said is = by_taken (update_takes_stamped boot known) refl where
   stays : AckStays here (behind_delivery here n) s
   stays = ack_stays here n s (Stamped s boot v) said refl
 
@@ -274,18 +274,18 @@ stamped_known here n s boot v known said is = by_taken (takes_stamped boot known
   by_own true a = refl
   by_own false a = refl
 
-  stamp : (b : Bool) → takes_stamped boot known ≡ b → IsTrue (machine.is_member (behind_delivery here n) s)
+  stamp : (b : Bool) → update_takes_stamped boot known ≡ b → IsTrue (machine.is_member (behind_delivery here n) s)
       → (if b then max known.acked_stamp v else known.acked_stamp) ≡ acked_stamp (behind_delivery here n) s
   stamp b e now = let here_member : machine.is_member here s ≡ true = sym stays.member ∙ now in
       subst (λ c. (if c then max known.acked_stamp v else known.acked_stamp)
       ≡ acked_stamp (behind_delivery here n) s) e
-      (ap (λ a. if takes_stamped boot known then max a v else a) (is.stamp here_member)
+      (ap (λ a. if update_takes_stamped boot known then max a v else a) (is.stamp here_member)
       ∙ ap (λ c. if c then max (acked_stamp here s) v else acked_stamp here s)
       (own_boot here s boot known (is_member known.phase) is.boot (is.member ∙ here_member))
       ∙ by_own (s == s && boot == journal_known_boot here s) (acked_stamp here s)
       ∙ sym (stamp_told here n s (Stamped s boot v) said stays.boot))
 
-  by_taken : (b : Bool) → takes_stamped boot known ≡ b → IsKnownRefined (behind_delivery here n) s
+  by_taken : (b : Bool) → update_takes_stamped boot known ≡ b → IsKnownRefined (behind_delivery here n) s
       (if b then record known { acked_stamp = max known.acked_stamp v } else known)
   by_taken true e =
       known_as here (behind_delivery here n) s known (record known { acked_stamp = max known.acked_stamp v })
@@ -299,9 +299,9 @@ stamped_known here n s boot v known said is = by_taken (takes_stamped boot known
 told_on : (setting : Setting) (here : List Item)
     (n s : ℕ) (marks : MarksValue) (change : SwitchRecord → SwitchRecord)
     → ((t : ℕ) → t ≢ s → StaysKnown here (here ++ delivered n ∷ []) t) → s < length marks.switches
-    → IsKnownRefined (here ++ delivered n ∷ []) s (change (record_of marks s))
+    → IsKnownRefined (here ++ delivered n ∷ []) s (change (update_record_of marks s))
     → AreMarksRefined setting here marks
-    → AreMarksRefined setting (here ++ delivered n ∷ []) (at_switch s change marks)
+    → AreMarksRefined setting (here ++ delivered n ∷ []) (version_marks_with_switch_changed s change marks)
 told_on setting here n s marks change others there own are =
     switch_on setting here (delivered n) marks s change (count_more here (delivered n))
     (current_more here (delivered n)) (retired_more here (delivered n)) others there own are
@@ -313,17 +313,17 @@ pub marks_told : (setting : Setting) (here : List Item) (n : ℕ) (body : Body) 
 marks_told setting here n (Hello s boot) marks have said there are = told_on setting here n s marks
     (update_hello_recorded boot) (λ t other. untold here n t (Hello s boot) said
     (ap (λ b. if b then Some boot else None) (other_number s t other)) refl refl) there
-    (hello_known setting here n s boot (record_of marks s) have said (are.each s there)) are
+    (hello_known setting here n s boot (update_record_of marks s) have said (are.each s there)) are
 marks_told setting here n (Installed s boot v) marks have said there are = told_on setting here n s
     marks (mark_record_after_installed boot v) (λ t other. untold here n t (Installed s boot v) said refl
     (ap (λ b. if b && boot == journal_known_boot here t then Some v else None) (other_number s t other))
-    refl) there.switch_is (installed_known here n s boot v (record_of marks s) there.first said
+    refl) there.switch_is (installed_known here n s boot v (update_record_of marks s) there.first said
     (are.each s there.switch_is)) are
 marks_told setting here n (Stamped s boot v) marks have said there are = told_on setting here n s
     marks (update_after_stamped boot v) (λ t other. untold here n t (Stamped s boot v) said refl refl
     (ap (λ b. if b && boot == journal_known_boot here t then Some v else None) (other_number s t other)))
     there.switch_is
-    (stamped_known here n s boot v (record_of marks s) said (are.each s there.switch_is)) are
+    (stamped_known here n s boot v (update_record_of marks s) said (are.each s there.switch_is)) are
 marks_told setting here n body marks have said there are =
     stay_on setting here (here ++ delivered n ∷ []) marks marks.count marks.current marks.retired
     (λ t. untold here n t body said refl refl refl)
@@ -351,11 +351,11 @@ over_known here s known is =
 
 pub marks_over : (setting : Setting) (here : List Item) (s : ℕ) (marks : MarksValue)
     → s < length marks.switches → AreMarksRefined setting here marks
-    → AreMarksRefined setting (here ++ Item.OverNow s ∷ []) (at_switch s mark_record_after_over marks)
+    → AreMarksRefined setting (here ++ Item.OverNow s ∷ []) (version_marks_with_switch_changed s mark_record_after_over marks)
 marks_over setting here s marks there are = let next : Item = Item.OverNow s in
     switch_on setting here next marks s mark_record_after_over (count_more here next)
     (current_more here next) (retired_more here next)
     (λ t other. quiet_stays here next t (told_more here next) (known_more here next t)
     (over_more here next t
     ∙ ap (λ b. if b then true else machine.is_over here t) (other_number s t other)) refl) there
-    (over_known here s (record_of marks s) (are.each s there)) are
+    (over_known here s (update_record_of marks s) (are.each s there)) are

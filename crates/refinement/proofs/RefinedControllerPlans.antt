@@ -1,8 +1,8 @@
 -- The plans that a controller keeps are those of the versions from the current one to the last.
 use Rattle.std.proofs.Common.{[], ◌++◌, ◌+◌, ◌-◌, ◌<◌, ◌==◌, ◌∙◌, ◌∷◌, ◌≡◌, ◌≤◌, Bool, List, None, Option, Some, ap, append-nil, arith, eq-eqb, false, find, inl, inr, map, max, nat_le, ne_eqb, option_and_then, option_map, option_to_list, refl, subst, suc, sym, true, zero, ℕ}
 use Rattle.base.proofs.Exports.{cases_eq, filter_made, later_same, map-range_same, map-range_with_len_more, option_map_or, range_with_len}
-use Rattle.controller.specs.Exports.{ControllerValue, KeptPlan, ControllerSettlesWith, current_plan_touched, controller_newest_policy, kept_plans_from}
-use Rattle.update_machine.specs.Exports.{JournalControllerKeeps, SettingHasPlan, Installed, IsSetting, Item, Setting, JournalVersionsAreNumbered, journal_body_to_controller, journal_controller_heard, journal_current_mark, machine_installed_version, journal_known_boot, journal_message_of, policy_in, settling, machine_touched_by, journal_version_count, journal_versions_from_current}
+use Rattle.controller.specs.Exports.{ControllerValue, ControllerKeptPlan, ControllerSettlesWith, controller_current_plan_touched, controller_newest_policy, controller_kept_plans_from}
+use Rattle.update_machine.specs.Exports.{JournalControllerKeeps, MachineVersionHasPlan, Installed, IsMachineSetting, Item, Setting, JournalVersionsAreNumbered, journal_body_to_controller, journal_controller_heard, journal_current_mark, machine_installed_version, journal_known_boot, journal_message_of, machine_policy_in, machine_settling, machine_touched_by, journal_version_count, journal_versions_from_current}
 use Rattle.update_machine.proofs.Exports.{begins_planned, plan_stays, policy_stays, start_laws, touched_stays}
 use Rattle.control_laws.specs.Exports.{HasControlItemCause, ControlMarksAreBounded}
 use Rattle.control_laws.proofs.Exports.{AreKept, FromCauses, HeardAreKnown, IsKnown, bounded, by_number, caused_numbered, from_causes, heard_known, installed_is, known_at_first, known_kept, known_rises, tells, told_by, told_by_more, told_sent, versions_planned}
@@ -13,11 +13,11 @@ use Rattle.controller.specs.Sends as acts
 use Rattle.controller.proofs.ControllerNewestPolicy.{still_found}
 use Rattle.refinement.proofs.RefinedKeptController.{marks_on}
 use Rattle.switch_table.specs.Exports.{cache_all_touched}
-use Rattle.ctrl_msg.specs.Exports.{to_controller}
+use Rattle.ctrl_msg.specs.Exports.{message_to_controller}
 
 -- ---- the policy of the newest version, which the controller keeps
 
-abbrev pub is_of : ℕ → KeptPlan → Bool
+abbrev pub is_of : ℕ → ControllerKeptPlan → Bool
 is_of version kept = kept.version == version
 
 -- of the plans of a stretch of versions each is found by its version
@@ -34,10 +34,10 @@ find_kept setting journal low (suc many) version above below = elim (cases_eq lo
 
 -- the newest version has a plan, so its policy is there
 pub newest_in : (setting : Setting) (journal : List Item) (controller : ControllerValue)
-    → IsSetting setting → AreCaused setting journal → IsRefinedController setting journal controller
-    → controller_newest_policy controller ≡ policy_in setting journal (journal_version_count journal)
+    → IsMachineSetting setting → AreCaused setting journal → IsRefinedController setting journal controller
+    → controller_newest_policy controller ≡ machine_policy_in setting journal (journal_version_count journal)
 newest_in setting journal controller is have refines =
-    ap (option_map (λ (kept : KeptPlan). kept.plan.policy))
+    ap (option_map (λ (kept : ControllerKeptPlan). kept.plan.policy))
     (ap (λ n. find (is_of n) controller.plans) refines.marks.count
     ∙ ap (find (is_of (journal_version_count journal))) refines.plans ∙ find_kept setting journal
     (journal_current_mark journal) (journal_version_count journal + 1 - journal_current_mark journal)
@@ -46,7 +46,7 @@ newest_in setting journal controller is have refines =
     marks : ControlMarksAreBounded setting journal
     marks = bounded setting journal have
 
-    planned : SettingHasPlan setting journal (journal_version_count journal)
+    planned : MachineVersionHasPlan setting journal (journal_version_count journal)
     planned = (versions_planned setting journal have).planned (begins_planned setting is)
         (journal_version_count journal) (omega (arith, marks.first, marks.there)) (omega arith)
 
@@ -72,7 +72,7 @@ planned_on setting before items v have above below = rw (
     last = let marks = bounded setting before have in omega (arith, above, below, marks.there)
 
 -- the plans stay, where neither a version nor a rise of the current mark came
-pub plans_on : (setting : Setting) (before items : List Item) (plans : List KeptPlan)
+pub plans_on : (setting : Setting) (before items : List Item) (plans : List ControllerKeptPlan)
     → AreCaused setting before → journal_version_count (before ++ items) ≡ journal_version_count before
     → journal_current_mark (before ++ items) ≡ journal_current_mark before
     → plans ≡ map (refined_plan_to_keep setting before) (journal_versions_from_current before)
@@ -89,8 +89,8 @@ plans_on setting before items plans have count current are =
     (sym current)
 
 -- one more version
-pub plans_pushed : (setting : Setting) (before items : List Item) (plans : List KeptPlan)
-    (kept : KeptPlan) → AreCaused setting before
+pub plans_pushed : (setting : Setting) (before items : List Item) (plans : List ControllerKeptPlan)
+    (kept : ControllerKeptPlan) → AreCaused setting before
     → journal_version_count (before ++ items) ≡ journal_version_count before + 1
     → journal_current_mark (before ++ items) ≡ journal_current_mark before
     → kept ≡ refined_plan_to_keep setting (before ++ items) (journal_version_count before + 1)
@@ -113,12 +113,12 @@ plans_pushed setting before items plans kept have count current new are =
     (sym current)
 
 -- those of the versions before a later current one are let go
-later_plans : (setting : Setting) (before items : List Item) (plans : List KeptPlan)
+later_plans : (setting : Setting) (before items : List Item) (plans : List ControllerKeptPlan)
     → AreCaused setting before → journal_version_count (before ++ items) ≡ journal_version_count before
     → journal_current_mark before ≤ journal_current_mark (before ++ items)
     → journal_current_mark (before ++ items) ≤ journal_version_count before
     → plans ≡ map (refined_plan_to_keep setting before) (journal_versions_from_current before)
-    → kept_plans_from (journal_current_mark (before ++ items)) plans
+    → controller_kept_plans_from (journal_current_mark (before ++ items)) plans
     ≡ map (refined_plan_to_keep setting (before ++ items)) (journal_versions_from_current (before ++ items))
 later_plans setting before items plans have count rises bound are =
     let after : List Item = before ++ items in
@@ -127,7 +127,7 @@ later_plans setting before items plans have count rises bound are =
     let n : ℕ = journal_version_count before + 1 - low in
     let own : max to low ≡ to = omega (arith, rises) in
     let many : low + n - to ≡ journal_version_count after + 1 - to = omega (arith, count, rises, bound) in
-    ap (kept_plans_from to) are
+    ap (controller_kept_plans_from to) are
     ∙ filter_made (refined_plan_to_keep setting before) (λ kept. nat_le to kept.version)
     (range_with_len low n)
     ∙ later_same (refined_plan_to_keep setting before) (refined_plan_to_keep setting after) to low n
@@ -136,14 +136,14 @@ later_plans setting before items plans have count rises bound are =
     ∙ ap (λ k. map (refined_plan_to_keep setting after) (range_with_len to k)) many
 
 -- none is let go twice
-pub plans_stay : (setting : Setting) (journal : List Item) (plans : List KeptPlan) (current : ℕ)
+pub plans_stay : (setting : Setting) (journal : List Item) (plans : List ControllerKeptPlan) (current : ℕ)
     → AreCaused setting journal → current ≡ journal_current_mark journal
     → plans ≡ map (refined_plan_to_keep setting journal) (journal_versions_from_current journal)
-    → kept_plans_from current plans ≡ map (refined_plan_to_keep setting journal) (journal_versions_from_current journal)
+    → controller_kept_plans_from current plans ≡ map (refined_plan_to_keep setting journal) (journal_versions_from_current journal)
 plans_stay setting journal plans current have now are =
     let marks = bounded setting journal have in
     let same : journal ++ [] ≡ journal = append-nil journal in
-    ap (λ c. kept_plans_from c plans) (now ∙ sym (ap journal_current_mark same))
+    ap (λ c. controller_kept_plans_from c plans) (now ∙ sym (ap journal_current_mark same))
     ∙ later_plans setting journal [] plans have (ap journal_version_count same)
     (omega (arith, ap journal_current_mark same)) (omega (arith, ap journal_current_mark same, marks.there)) are
     ∙ ap (λ js. map (refined_plan_to_keep setting js) (journal_versions_from_current js)) same
@@ -162,14 +162,14 @@ controller_on setting before items controller have keeps is = record {
 
 -- what the controller keeps for the version that is current then is what its change touches
 settled_touched : (setting : Setting) (now : List Item) (before : MarksValue)
-    (plans : List KeptPlan) (new : ControllerValue) → AreMarksRefined setting now before
+    (plans : List ControllerKeptPlan) (new : ControllerValue) → AreMarksRefined setting now before
     → plans ≡ map (refined_plan_to_keep setting now) (journal_versions_from_current now)
-    → ControllerSettlesWith before plans new → current_plan_touched new ≡ machine_touched_by setting now new.marks.current
+    → ControllerSettlesWith before plans new → controller_current_plan_touched new ≡ machine_touched_by setting now new.marks.current
 settled_touched setting now before plans new marks are settles =
     let c = new.marks.current in
     let is = settles.marks.1 in
     let low = marks.current in
-    ap (λ o. option_map_or (λ (kept : KeptPlan). kept.touched) o cache_all_touched)
+    ap (λ o. option_map_or (λ (kept : ControllerKeptPlan). kept.touched) o cache_all_touched)
     (ap (find (is_of c)) settles.plans ∙ still_found c c plans (omega arith)
     ∙ ap (find (is_of c)) are ∙ find_kept setting now (journal_current_mark now)
     (journal_version_count now + 1 - journal_current_mark now) c (omega (arith, low, is.current.rises))
@@ -177,25 +177,25 @@ settled_touched setting now before plans new marks are settles =
 
 -- the marks settle, and the plans are let go that no later call names
 pub settles_with : (setting : Setting) (now : List Item)
-    (before : MarksValue) (plans : List KeptPlan) (new : ControllerValue) → AreCaused setting now
+    (before : MarksValue) (plans : List ControllerKeptPlan) (new : ControllerValue) → AreCaused setting now
     → AreMarksRefined setting now before
     → plans ≡ map (refined_plan_to_keep setting now) (journal_versions_from_current now)
     → ControllerSettlesWith before plans new
-    → (refined_acts_written now (acts.controller_settling_acts (current_plan_touched new) before new.marks)
-    ≡ settling setting now) × IsRefinedController setting (now ++ settling setting now) new
+    → (refined_acts_written now (acts.controller_settling_acts (controller_current_plan_touched new) before new.marks)
+    ≡ machine_settling setting now) × IsRefinedController setting (now ++ machine_settling setting now) new
 settles_with setting now before plans new have marks are settles =
     let is = settles.marks.1 in
-    let so = settles_so setting now before new.marks settles.marks.0 (current_plan_touched new)
+    let so = settles_so setting now before new.marks settles.marks.0 (controller_current_plan_touched new)
     (settled_touched setting now before plans new marks are settles) have marks is in
     let after = so.1 in
     let current = after.current in
-    let count : journal_version_count (now ++ settling setting now) ≡ journal_version_count now =
+    let count : journal_version_count (now ++ machine_settling setting now) ≡ journal_version_count now =
     sym after.count ∙ is.count ∙ marks.count in (
       so.0,
       record {
         marks = after;
-        plans = settles.plans ∙ ap (λ c. kept_plans_from c plans) after.current
-            ∙ later_plans setting now (settling setting now) plans have count
+        plans = settles.plans ∙ ap (λ c. controller_kept_plans_from c plans) after.current
+            ∙ later_plans setting now (machine_settling setting now) plans have count
             (omega (arith, marks.current, current, is.current.rises))
             (omega (arith, marks.count, current, is.current.bound)) are;
       },
@@ -209,7 +209,7 @@ settles_with setting now before plans new have marks are settles =
 pub record AcksArePast (journal : List Item) : Type 0 where
   pub boots : IsKnown journal
   pub heard : HeardAreKnown journal
-  pub sent : (s boot v n : ℕ) → journal_message_of journal n ≡ Some (to_controller (Installed s boot v))
+  pub sent : (s boot v n : ℕ) → journal_message_of journal n ≡ Some (message_to_controller (Installed s boot v))
       → boot ≤ journal_known_boot journal s
   pub told : (s boot : ℕ) → journal_known_boot journal s < boot → told_by (machine_installed_version s boot) journal ≡ []
 
@@ -217,10 +217,10 @@ pub record AcksArePast (journal : List Item) : Type 0 where
 
 sent_on : (setting : Setting) (before : List Item) (next : Item) (s boot v n : ℕ)
     → HasControlItemCause setting before next → AcksArePast before
-    → journal_message_of (before ++ next ∷ []) n ≡ Some (to_controller (Installed s boot v))
+    → journal_message_of (before ++ next ∷ []) n ≡ Some (message_to_controller (Installed s boot v))
     → boot ≤ journal_known_boot (before ++ next ∷ []) s
 sent_on setting before next s boot v n cause past is = let rises = known_rises before next s in
-    elim (by_number before next n (to_controller (Installed s boot v)) is) [
+    elim (by_number before next n (message_to_controller (Installed s boot v)) is) [
       | inl new ↦ let right = subst (HasControlItemCause setting before) new cause in
           omega (arith, past.heard s v right.heard, right.present.own, rises)
       | inr old ↦ omega (arith, past.sent s boot v n old, rises)

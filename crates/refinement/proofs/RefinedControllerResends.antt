@@ -1,16 +1,16 @@
 -- What the controller sends again, and what it is told of is there.
 use Rattle.std.proofs.Common.{[], ◌&&◌, ◌++◌, ◌+◌, ◌-◌, ◌<◌, ◌==◌, ◌∙◌, ◌∷◌, ◌≡◌, ◌≢◌, ◌≤◌, Bool, IsFalse, IsTrue, List, Some, ap, arith, false, filter, find, if◌then◌else◌, length, map, nat_le, nat_lt, not, refl, suc, sym, true, ℕ}
 use Rattle.base.proofs.Exports.{filter_made, map-append, map_twice, nat_tests, option_map_or, picked_same, range_with_len}
-use Rattle.update_machine.specs.Exports.{Body, Collect, Hello, Installed, Item, Message, NoneConcern, OpenAt, Resend, Setting, Stamp, Stamped, Step, acked_stamp, machine_collect_for, concerns_controller, journal_current_mark, journal_install_for, journal_message_of, journal_open_for, open_version, piece, machine_resend_items, journal_resent_by_controller, journal_resent_by_switch, journal_resent_to_member, journal_retired_mark, machine_sends_or_nothing, journal_stamp_for, machine_message_to_switch, machine_touched_by, journal_unacked_installs, journal_version_count, journal_versions_from_current}
-use Rattle.ctrl_msg.specs.Exports.{to_controller}
+use Rattle.update_machine.specs.Exports.{Body, Collect, Hello, Installed, Item, Message, NoMachineItemConcerns, OpenAt, Resend, Setting, Stamp, Stamped, Step, acked_stamp, machine_collect_for, machine_item_concerns_controller, journal_current_mark, journal_install_for, journal_message_of, journal_open_for, open_version, piece, machine_resend_items, journal_resent_by_controller, journal_resent_by_switch, journal_resent_to_member, journal_retired_mark, machine_sends_or_nothing, journal_stamp_for, machine_message_to_switch, machine_touched_by, journal_unacked_installs, journal_version_count, journal_versions_from_current}
+use Rattle.ctrl_msg.specs.Exports.{message_to_controller}
 use Rattle.update_machine.specs.Marks as machine
 use Rattle.control_laws.proofs.Exports.{bounded, others_keep}
 use Rattle.control_laws.specs.Exports.{ControlBodiesNameThere, control_asks_controller}
-use Rattle.version_update.specs.Exports.{MarksValue, has_acked, is_member, is_over, record_of}
+use Rattle.version_update.specs.Exports.{MarksValue, has_acked, is_member, is_over, update_record_of}
 use Rattle.version_update.specs.declared.record.Phase.{Phase}
 use Rattle.version_update.specs.declared.record.Phase.TheVariants.{Joining, Member, Over}
 use Rattle.version_update.specs.declared.record.SwitchRecord.{SwitchRecord}
-use Rattle.controller.specs.Exports.{ControllerValue, KeptPlan, NamesWithinControllerMarks, ControllerReplyNamesExist, current_plan_touched, controller_install_act, is_missing, controller_missing_installs, resend_acts, resend_acts_to}
+use Rattle.controller.specs.Exports.{ControllerValue, ControllerKeptPlan, NamesWithinControllerMarks, ControllerReplyNamesExist, controller_current_plan_touched, controller_install_act, is_missing_controller_install, controller_missing_installs, controller_resend_acts, controller_resend_acts_to}
 use Rattle.controller.specs.Sends as acts
 use Rattle.controller.specs.declared.sends.Act.{Act}
 use Rattle.controller.specs.declared.sends.Act.TheVariants.{Post}
@@ -36,14 +36,14 @@ names_both setting journal s v marks are there version = let last = are.count in
 
 pub names_there : (setting : Setting) (journal : List Item) (n : ℕ) (body : Body)
     (marks : MarksValue) → ControlBodiesNameThere setting journal → AreMarksRefined setting journal marks
-    → journal_message_of journal n ≡ Some (to_controller body) → ControllerReplyNamesExist body marks
+    → journal_message_of journal n ≡ Some (message_to_controller body) → ControllerReplyNamesExist body marks
 names_there setting journal n (Hello s boot) marks names are sent =
-    omega (arith, (names.sent n (to_controller (Hello s boot)) sent).addressed, are.many)
+    omega (arith, (names.sent n (message_to_controller (Hello s boot)) sent).addressed, are.many)
 names_there setting journal n (Installed s boot v) marks names are sent =
-    let named = names.sent n (to_controller (Installed s boot v)) sent in
+    let named = names.sent n (message_to_controller (Installed s boot v)) sent in
     names_both setting journal s v marks are named.addressed named.version
 names_there setting journal n (Stamped s boot v) marks names are sent =
-    let named = names.sent n (to_controller (Stamped s boot v)) sent in
+    let named = names.sent n (message_to_controller (Stamped s boot v)) sent in
     names_both setting journal s v marks are named.addressed named.version
 names_there setting journal n body marks names are sent = tt
 
@@ -66,15 +66,15 @@ if_retired mark message =
 
 module _ (setting : Setting) (journal : List Item) (s : ℕ) (controller : ControllerValue)
     (have : AreCaused setting journal) (is : IsRefinedController setting journal controller)
-    (own : IsKnownRefined journal s (record_of controller.marks s)) where
+    (own : IsKnownRefined journal s (update_record_of controller.marks s)) where
   abbrev known : SwitchRecord
-  known = record_of controller.marks s
+  known = update_record_of controller.marks s
 
   abbrev low : ℕ
   low = journal_current_mark journal
 
   abbrev lacks : ℕ → ℕ → Bool
-  lacks first v = is_missing known first v
+  lacks first v = is_missing_controller_install known first v
 
   abbrev again : ℕ → Act
   again v = controller_install_act s known.boot (refined_plan_to_keep setting journal v)
@@ -120,14 +120,14 @@ module _ (setting : Setting) (journal : List Item) (s : ℕ) (controller : Contr
       ∙ ap (λ b. map again (if b && not (has_acked known low) then low ∷ rest else rest)) fails
 
   -- what it keeps for the current version is what that version's change touches
-  kept_says : current_plan_touched controller ≡ machine_touched_by setting journal low
-  kept_says = ap (λ o. option_map_or (λ (kept : KeptPlan). kept.touched) o cache_all_touched)
+  kept_says : controller_current_plan_touched controller ≡ machine_touched_by setting journal low
+  kept_says = ap (λ o. option_map_or (λ (kept : ControllerKeptPlan). kept.touched) o cache_all_touched)
       (ap (λ c. find (is_of c) controller.plans) is.marks.current ∙ ap (find (is_of low)) is.plans
       ∙ find_kept setting journal low (journal_version_count journal + 1 - low) low (omega arith)
       (omega (arith, (bounded setting journal have).there)))
 
   to_member : IsTrue (machine.is_member journal s) → IsFalse (machine.is_over journal s)
-      → resend_acts_to Member controller s ≡ map Post (journal_resent_to_member setting journal s)
+      → controller_resend_acts_to Member controller s ≡ map Post (journal_resent_to_member setting journal s)
   to_member member none =
       let first : List Message = journal_unacked_installs setting journal s
       (range_with_len (low + 1) (journal_version_count journal - low)) in
@@ -152,11 +152,11 @@ module _ (setting : Setting) (journal : List Item) (s : ℕ) (controller : Contr
       then Post (machine_message_to_switch s (Collect b (journal_retired_mark journal))) ∷ [] else []) own.boot
       ∙ if_retired (journal_retired_mark journal) (machine_collect_for journal (journal_retired_mark journal) s) in
       ap (λ act. act ∷ controller_missing_installs controller s (controller.marks.current + 1)
-      ++ acts.controller_stamp_again (current_plan_touched controller) controller.marks s ++ acts.controller_resend_collects controller.marks s)
+      ++ acts.controller_stamp_again (controller_current_plan_touched controller) controller.marks s ++ acts.controller_resend_collects controller.marks s)
       (ap (λ b. Post (machine_message_to_switch s (OpenAt b known.open_version))) own.boot
       ∙ ap (λ v. Post (journal_open_for journal v s)) (own.opened member))
       ∙ ap (λ xs. Post (journal_open_for journal (open_version journal s) s) ∷ xs
-      ++ acts.controller_stamp_again (current_plan_touched controller) controller.marks s ++ acts.controller_resend_collects controller.marks s) lacking
+      ++ acts.controller_stamp_again (controller_current_plan_touched controller) controller.marks s ++ acts.controller_resend_collects controller.marks s) lacking
       ∙ ap (λ xs. Post (journal_open_for journal (open_version journal s) s) ∷ map Post first ++ xs
       ++ acts.controller_resend_collects controller.marks s) stamped
       ∙ ap (λ xs. Post (journal_open_for journal (open_version journal s) s) ∷ map Post first
@@ -182,7 +182,7 @@ module _ (setting : Setting) (journal : List Item) (s : ℕ) (controller : Contr
   unfolding journal_resent_by_controller
   sent_in phase e = cc (e, own.over, own.member)
 
-  by_phase : (phase : Phase) → known.phase ≡ phase → resend_acts_to phase controller s
+  by_phase : (phase : Phase) → known.phase ≡ phase → controller_resend_acts_to phase controller s
       ≡ map Post (journal_resent_by_controller setting journal s)
   by_phase Over e = sent_in Over e
   by_phase Joining e = ap (controller_missing_installs controller s) is.marks.current ∙ of_versions low
@@ -195,16 +195,16 @@ module _ (setting : Setting) (journal : List Item) (s : ℕ) (controller : Contr
 pub resends : (setting : Setting) (journal : List Item) (s : ℕ) (controller : ControllerValue)
     → AreCaused setting journal → IsRefinedController setting journal controller
     → s < length controller.marks.switches
-    → resend_acts controller s ≡ map Post (journal_resent_by_controller setting journal s)
+    → controller_resend_acts controller s ≡ map Post (journal_resent_by_controller setting journal s)
 resends setting journal s controller have is there = by_phase setting journal s controller have is
-    (is.marks.each s there) (record_of controller.marks s).phase refl
+    (is.marks.each s there) (update_record_of controller.marks s).phase refl
 
 -- ---- what a resend writes, and the steps that leave the controller as it was
 
 -- ---- what leaves the controller
 
 pub items_leave : (setting : Setting) (before items : List Item) (controller : ControllerValue)
-    → AreCaused setting before → NoneConcern concerns_controller before items
+    → AreCaused setting before → NoMachineItemConcerns machine_item_concerns_controller before items
     → IsRefinedController setting before controller → IsRefinedController setting (before ++ items) controller
 items_leave setting before items controller have none is =
     controller_on setting before items controller have (controller_keeps before items none) is

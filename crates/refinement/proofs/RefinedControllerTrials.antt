@@ -1,14 +1,14 @@
 -- The definitions, computed on two switches: what acts write, and what a controller is or isn't.
 use Rattle.std.proofs.Common.{[], ◌++◌, ◌∙◌, ◌∷◌, ◌≡◌, Bool, List, None, Result, Some, ap, false, map, refl, sym, true, ℕ}
 use Rattle.base.proofs.Exports.{option_map_or, result_ok}
-use Rattle.update_machine.specs.Exports.{Drop, Hello, Inapplicable, Install, Item, Out, Row, Stamp, machine_after_hello, journal_controller_heard, journal_current_mark, file_of, machine_installs_to_all, journal_known_boot, journal_message_of, journal_next_message, journal_next_policy, policy_at, journal_retired_mark, machine_sent_items_from, machine_touched_by, machine_update_code, journal_version_count, journal_versions_from_current}
-use Rattle.ctrl_msg.specs.Exports.{to_controller}
-use Rattle.partition.specs.Plan.{Hosted}
+use Rattle.update_machine.specs.Exports.{Drop, Hello, Inapplicable, Install, Item, Out, Row, Stamp, machine_after_hello, journal_controller_heard, journal_current_mark, journal_version_file, machine_installs_to_all, journal_known_boot, journal_message_of, journal_next_message, journal_next_policy, machine_policy_at, journal_retired_mark, machine_sent_items_from, machine_touched_by, machine_update_code, journal_version_count, journal_versions_from_current}
+use Rattle.ctrl_msg.specs.Exports.{message_to_controller}
+use Rattle.partition.specs.Plan.{HostedPolicyPartition}
 use Rattle.switch_table.specs.Exports.{cache_all_touched, tables_of}
 use Rattle.update_machine.specs.Marks as machine
 use Rattle.update_machine.proofs.Exports.{all_to, first_plan, first_policy, first_touched, open_net, plan_p, plan_q, second_plan, second_policy, to, versions}
-use Rattle.version_update.specs.Exports.{first_record}
-use Rattle.controller.specs.Exports.{KeptPlan, PlanValue, controller_at_start, controller_install_act}
+use Rattle.version_update.specs.Exports.{first_update_record}
+use Rattle.controller.specs.Exports.{ControllerKeptPlan, ControllerPlanValue, controller_at_start, controller_install_act}
 use Rattle.controller.specs.declared.sends.Act.TheVariants.{Current, Post, Retired}
 use Rattle.ternary.specs.Exports.{WordValue}
 use Rattle.refinement.specs.Exports.{IsRefinedController, IsKnownRefined, IsNextPlanRefined, refined_plan_to_keep, refined_acts_written}
@@ -26,13 +26,13 @@ numbered = refl
 -- ---- plans
 
 -- the first policy lets out, that of the second file drops
-abbrev outs : PlanValue
+abbrev outs : ControllerPlanValue
 outs = record { policy = all_to (Out 2) ∷ []; hosted = plan_p }
 
-abbrev drops : PlanValue
+abbrev drops : ControllerPlanValue
 drops = record { policy = all_to Drop ∷ []; hosted = plan_q }
 
-abbrev plan_by : List Row → List Hosted → PlanValue
+abbrev plan_by : List Row → List HostedPolicyPartition → ControllerPlanValue
 plan_by policy hosted = record { policy = policy; hosted = hosted }
 
 of_first : (journal : List Item) → outs ≡ (refined_plan_to_keep open_net journal 1).plan
@@ -63,7 +63,7 @@ not_next_of_third touched of = cc of.policy
 begun : IsRefinedController open_net [] (controller_at_start 2 outs)
 begun = begins open_net outs (of_first [])
 
-first_lets_out : List KeptPlan → Bool
+first_lets_out : List ControllerKeptPlan → Bool
 first_lets_out [] = false
 first_lets_out (kept ∷ plans) = lets_out kept.plan.policy
 
@@ -80,13 +80,13 @@ submitted = Item.Submitted 2 2 ∷ []
 -- each file is a policy of its own, which touches everything
 second_touches : (items : List Item)
     → machine_touched_by open_net (Item.Submitted 2 2 ∷ items) 2 ≡ cache_all_touched
-unfolding machine_touched_by file_of
+unfolding machine_touched_by journal_version_file
 second_touches items = refl
 
-abbrev second_kept : PlanValue → List WordValue → KeptPlan
+abbrev second_kept : ControllerPlanValue → List WordValue → ControllerKeptPlan
 second_kept plan touched = record { version = 2; plan = plan; touched = touched }
 
-abbrev both : PlanValue → List WordValue → KeptPlan → List KeptPlan
+abbrev both : ControllerPlanValue → List WordValue → ControllerKeptPlan → List ControllerKeptPlan
 both plan touched second = (record { version = 1; plan = plan; touched = touched }) ∷ second ∷ []
 
 second_is : (items : List Item) → second_kept drops cache_all_touched
@@ -120,14 +120,14 @@ is_over : machine.is_over over 0 ≡ true
 unfolding machine.is_over journal_known_boot journal_controller_heard journal_message_of
 is_over = refl
 
-not_as_first : IsKnownRefined over 0 first_record → ⊥
+not_as_first : IsKnownRefined over 0 first_update_record → ⊥
 not_as_first is = let no : false ≡ true = is.over ∙ is_over in absurd cc
 
 -- ---- acts that the definition doesn't write
 
 -- a hello of a boot that is known brings no tables
 abbrev late : List Item
-late = Item.Sent 1 (to_controller (Hello 0 1)) ∷ []
+late = Item.Sent 1 (message_to_controller (Hello 0 1)) ∷ []
 
 nothing_late : machine_after_hello open_net late (Hello 0 1) late ≡ []
 unfolding journal_known_boot journal_controller_heard journal_message_of

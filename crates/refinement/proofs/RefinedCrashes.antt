@@ -2,9 +2,9 @@
 -- the parts are behind it.
 use Rattle.std.proofs.Common.{[], ◌&&◌, ◌++◌, ◌+◌, ◌-◌, ◌<◌, ◌==◌, ◌^◌, ◌||◌, ◌∙◌, ◌∷◌, ◌≡◌, All, List, None, Option, Some, ap, append_assoc, arith, false, get_or, if◌then◌else◌, length, length-set, map, option_map, refl, rules, set, slice_get, subst, sym, true, ℕ}
 use Rattle.base.proofs.Exports.{get_or_default, none_removed, not, sum_by-cons}
-use Rattle.update_machine.specs.Exports.{CacheEntry, Crash, Expire, Item, LinkRow, Message, Setting, item_concerns_calls, item_concerns_known, concerns_links, concerns_messages, item_concerns_policies, concerns_switch, count_of, journal_crash_items, journal_usable_links_changed, is_link_up_in_journal, is_packet, is_up, journal_items_then, journal_link_changes, near, nothing, journal_packets_at, piece, machine_sent_items_from, journal_leg_targets}
+use Rattle.update_machine.specs.Exports.{CacheEntry, Crash, Expire, Item, LinkRow, Message, Setting, machine_item_concerns_calls, machine_item_concerns_known, machine_item_concerns_links, machine_item_concerns_messages, machine_item_concerns_policies, machine_item_concerns_switch, machine_count_of, journal_crash_items, journal_usable_links_changed, is_link_up_in_journal, is_machine_packet_entry, is_up, journal_items_then, journal_link_changes, near, nothing, journal_packets_at, piece, machine_sent_items_from, journal_leg_targets}
 use Rattle.switch_core.specs.Exports.{SwitchValue, crashed_switch, switch_entry_expired, near_changed}
-use Rattle.switch_table.specs.Exports.{CacheValue, after_expire}
+use Rattle.switch_table.specs.Exports.{CacheValue, cache_after_expire}
 use Rattle.refinement.specs.Exports.{IsRefinedBagOf, RefinementLeavesSwitch, RefinedNetworkState, RefineJournal, refined_expired_by, refined_flight_in, is_refined_up_link, refined_message_at, refined_switch_of, refined_up_links}
 use Rattle.refinement.proofs.RefinedSwitchLinks.{crash_is, expiry_is, kept_is, lives_refine}
 use Rattle.steps.specs.Exports.{IsStep}
@@ -15,8 +15,8 @@ use Rattle.controller.specs.declared.sends.Act.{Act}
 use Rattle.controller.specs.declared.sends.Act.TheVariants.{Post as PostAct}
 use Rattle.net_file.specs.Exports.{links_of}
 use Rattle.update_machine.proofs.Exports.{have_append, last_given_append, links_keep}
-use Rattle.world_log.specs.Exports.{AreLogSwitchesRelinked, LogMaySend, log_act_items, all_adverts_sent, logged_near_all}
-use Rattle.travelling.specs.Travelling.{Flights, TravellingWithoutAt, flight, numbers_at}
+use Rattle.world_log.specs.Exports.{AreLogSwitchesRelinked, LogMaySend, log_act_items, log_all_adverts_sent, logged_near_all}
+use Rattle.travelling.specs.Travelling.{TravellingFlights, TravellingWithoutAt, flight, travelling_numbers_at}
 use Rattle.refinement.proofs.RefinedActs.{SparesActs, acts_apart, acts_unnamed}
 use Rattle.refinement.proofs.RefinedBagDeliveries.{nothing_happens}
 use Rattle.refinement.proofs.RefinedPacketTable.{among, among_numbers, flight_lost, losts_apart, losts_bring_none, losts_no_rows, numbers_are}
@@ -57,7 +57,7 @@ expire_piece setting journal row s place = let first : Item = Item.Row row (Expi
 -- ---- caches
 
 none_expired : (cache : CacheValue) (place : ℕ) → option_map entry_message
-    (slice_get cache.entries place) ≡ None → after_expire place cache ≡ cache
+    (slice_get cache.entries place) ≡ None → cache_after_expire place cache ≡ cache
 none_expired cache place none = ap (λ entries. record cache { entries = entries })
     (none_removed cache.entries place (by_entry (slice_get cache.entries place) none))
   where
@@ -165,7 +165,7 @@ up_piece setting journal row s up =
     (append_assoc journal (Item.Row row (Crash s) ∷ []) first)
 
 -- no policy comes by marks and messages
-spares_policies : SparesActs item_concerns_policies
+spares_policies : SparesActs machine_item_concerns_policies
 spares_policies = record {
   current = λ before v. refl;
   retired = λ before v. refl;
@@ -240,8 +240,8 @@ module _ {setting : Setting} {journal : List Item} {state : RefinedNetworkState}
       ∙ ap crashed_switch (sym (kept_is setting s journal (Item.Row row (Crash s) ∷ []) (refl, tt)
       (refl, tt)))
       ∙ sym (crash_is setting begun s)
-      ∙ sym (kept_is setting s down losts (losts_apart (item_concerns_known s) (λ before k. refl) down
-      packets) (losts_apart (item_concerns_calls s) (λ before k. refl) down packets))
+      ∙ sym (kept_is setting s down losts (losts_apart (machine_item_concerns_known s) (λ before k. refl) down
+      packets) (losts_apart (machine_item_concerns_calls s) (λ before k. refl) down packets))
       ∙ ap (λ js. refined_switch_of setting js s) (append_assoc begun (Item.Down s ∷ []) losts
       ∙ append_assoc journal (Item.Row row (Crash s) ∷ []) told)
 
@@ -258,12 +258,12 @@ module _ {setting : Setting} {journal : List Item} {state : RefinedNetworkState}
       refl,
       (
         other,
-        losts_apart (concerns_switch q) (λ before k. refl) (begun ++ Item.Down s ∷ []) packets,
+        losts_apart (machine_item_concerns_switch q) (λ before k. refl) (begun ++ Item.Down s ∷ []) packets,
       ),
     );
     calls = (
       refl,
-      (refl, losts_apart (item_concerns_calls q) (λ before k. refl) (begun ++ Item.Down s ∷ []) packets),
+      (refl, losts_apart (machine_item_concerns_calls q) (λ before k. refl) (begun ++ Item.Down s ∷ []) packets),
     );
   }
 
@@ -273,13 +273,13 @@ module _ {setting : Setting} {journal : List Item} {state : RefinedNetworkState}
   same_up : refined_up_links setting now ≡ refined_up_links setting journal
   same_up = same_links now journal setting.net.links
       (λ link. ap (λ js. is_refined_up_link js link) (sym split) ∙ (links_keep setting fallen losts
-      (losts_apart concerns_links (λ before k. refl) fallen packets)).up link.one link.two
+      (losts_apart machine_item_concerns_links (λ before k. refl) fallen packets)).up link.one link.two
       ∙ fallen_up journal row s link)
 
-  none_come : count_of is_packet (Item.Row row (Crash s) ∷ told) ≡ 0
+  none_come : machine_count_of is_machine_packet_entry (Item.Row row (Crash s) ∷ told) ≡ 0
   none_come =
-      let row_sum = sum_by-cons (λ x. if is_packet x then 1 else 0) (Item.Row row (Crash s)) told in
-      let down_sum = sum_by-cons (λ x. if is_packet x then 1 else 0) (Item.Down s) losts in
+      let row_sum = sum_by-cons (λ x. if is_machine_packet_entry x then 1 else 0) (Item.Row row (Crash s)) told in
+      let down_sum = sum_by-cons (λ x. if is_machine_packet_entry x then 1 else 0) (Item.Down s) losts in
       omega (arith, row_sum, down_sum, losts_bring_none packets)
 
   changes : LinksChange setting journal row (Crash s) told state others state.links state.posts
@@ -292,7 +292,7 @@ module _ {setting : Setting} {journal : List Item} {state : RefinedNetworkState}
     number = refl;
     bag = bag_on journal (Item.Row row (Crash s) ∷ told) state.posts (
       refl,
-      (refl, losts_apart concerns_messages (λ before k. refl) (begun ++ Item.Down s ∷ []) packets),
+      (refl, losts_apart machine_item_concerns_messages (λ before k. refl) (begun ++ Item.Down s ∷ []) packets),
     ) refines.bag;
     up = λ q below. refines.up q below ∙ ap (λ rows. links_of rows q) (sym same_up);
     relinks = one_relinks refines row (Crash s) told s changed within leaves (sym crashed_is ∙ sym
@@ -302,16 +302,16 @@ module _ {setting : Setting} {journal : List Item} {state : RefinedNetworkState}
   }
 
   abbrev messages : List Message
-  messages = all_adverts_sent state.near (logged_near_all state.links others) others
+  messages = log_all_adverts_sent state.near (logged_near_all state.links others) others
 
   abbrev number : ℕ
   number = length state.posts + 1
 
-  numbers : numbers_at state.travelling s ≡ packets
+  numbers : travelling_numbers_at state.travelling s ≡ packets
   numbers = numbers_are refines s
 
   pub crash_piece : piece setting journal row (Crash s) ≡ Item.Row row (Crash s) ∷ Item.Down s
-      ∷ map Item.Lost (numbers_at state.travelling s) ++ machine_sent_items_from number messages
+      ∷ map Item.Lost (travelling_numbers_at state.travelling s) ++ machine_sent_items_from number messages
   crash_piece = cc (change_piece refines changes, numbers)
 
   pub crash_may : length state.posts < 990_000 → LogMaySend state.posts messages
@@ -332,27 +332,27 @@ module _ {setting : Setting} {journal : List Item} {state : RefinedNetworkState}
   all = Item.Row row (Crash s) ∷ told ++ log_act_items number acts
 
   -- the packets on their way
-  left : (after : Flights) → TravellingWithoutAt state.travelling s after → (i : ℕ)
+  left : (after : TravellingFlights) → TravellingWithoutAt state.travelling s after → (i : ℕ)
       → flight after i ≡ refined_flight_in setting (journal ++ all) i
   left after without i = without i ∙ ap (λ b. if b then None else flight state.travelling i)
       (sym (among_numbers state.travelling s i) ∙ ap (among i) numbers) ∙ ap
       (λ o. if among i packets then None else o) (refines.packet i ∙ flight_now setting journal i)
-      ∙ sym (flight_along setting journal all i (have_append (λ js one. item_concerns_policies js one
+      ∙ sym (flight_along setting journal all i (have_append (λ js one. machine_item_concerns_policies js one
       ≡ false) journal (Item.Row row (Crash s) ∷ told) (log_act_items number acts) (
         refl,
         (
           refl,
-          losts_apart item_concerns_policies (λ before k. refl) (begun ++ Item.Down s ∷ []) packets,
+          losts_apart machine_item_concerns_policies (λ before k. refl) (begun ++ Item.Down s ∷ []) packets,
         ),
-      ) (acts_apart item_concerns_policies spares_policies now number acts))
+      ) (acts_apart machine_item_concerns_policies spares_policies now number acts))
       ∙ flight_lost (journal_leg_targets setting journal) i journal
       (Item.Row row (Crash s) ∷ Item.Down s ∷ []) packets (log_act_items number acts) _
       (refl, (refl, tt)) (acts_unnamed i number acts))
 
-  pub crash_refines : (others_now : List SwitchValue) (after : Flights) → AreLogSwitchesRelinked state.near
+  pub crash_refines : (others_now : List SwitchValue) (after : TravellingFlights) → AreLogSwitchesRelinked state.near
       (logged_near_all state.links others) others others_now → TravellingWithoutAt state.travelling s after
       → RefineJournal setting (journal ++ (Item.Row row (Crash s) ∷ Item.Down s
-      ∷ map Item.Lost (numbers_at state.travelling s) ++ machine_sent_items_from number messages))
+      ∷ map Item.Lost (travelling_numbers_at state.travelling s) ++ machine_sent_items_from number messages))
       (relinked_state state others state.links state.posts others_now after)
   crash_refines others_now after are without = rw numbers
       (change_refines refines changes others_now after are (left after without))

@@ -1,10 +1,10 @@
 -- A message is delivered: the record of its switch, whether it opens, and what it sends.
 use Rattle.std.proofs.Common.{[], if◌then◌else◌, ◌&&◌, ◌++◌, ◌+◌, ◌-◌, ◌<◌, ◌==◌, ◌||◌, ◌∙◌, ◌∷◌, ◌≡◌, ◌≤◌, ◌⊎◌, Bool, IsTrue, List, None, Option, Some, ap, append-nil, append_assoc, arith, cond, eqb-true, false, filter, inl, inr, length, map, max, refl, subst, suc, sym, true, unwrap_or, zero, ℕ}
 use Rattle.base.proofs.Exports.{AllByRecursion, and_parts, filter_more, or-false, range_with_len, recursion_from_All}
-use Rattle.update_machine.specs.Exports.{Advert, Advertise, Body, Deliver, Install, Item, LinkRow, MachineLinksKeep, Message, OpenAt, Setting, Stamp, machine_advert_to, journal_boot_of, machine_delivery_items, machine_item_gives_boot, machine_item_gives_switch_up, journal_usable_links_changed, heard, is_journal_body_for_boot, is_journal_message_to, is_journal_news_to, is_up, journal_items_then, journal_link_changes, journal_message_of, near, own_advert, journal_own_seq, machine_advert_passed_on, machine_received_items, send_items, machine_sent_items_from, serves, journal_stamp_of, journal_switch_items, setting_switches_of, machine_message_to_switch, machine_touched_by}
+use Rattle.update_machine.specs.Exports.{Advert, Advertise, Body, Deliver, Install, Item, LinkRow, MachineLinksKeep, Message, OpenAt, Setting, Stamp, machine_advert_to, journal_boot_of, machine_delivery_items, machine_item_gives_boot, machine_item_gives_switch_up, journal_usable_links_changed, heard, is_journal_body_for_boot, is_journal_message_to, is_journal_news_to, is_up, journal_items_then, journal_link_changes, journal_message_of, near, own_advert, journal_own_seq, machine_advert_passed_on, machine_received_items, machine_send_items, machine_sent_items_from, serves, journal_stamp_of, journal_switch_items, machine_switches_of, machine_message_to_switch, machine_touched_by}
 use Rattle.base.specs.Exports.{has, switches}
 use Rattle.net_file.specs.Exports.{IsNetLink, IsNet, are_linked_in_net}
-use Rattle.switch_core.specs.Exports.{SwitchValue, switch_flood, is_news_to_switch as is_news_at, switch_next_advert, opened_by, switch_opening_stamp, replies, replies_to, switch_with_message}
+use Rattle.switch_core.specs.Exports.{SwitchValue, switch_flood, is_news_to_switch as is_news_at, switch_next_advert, switch_opened_by, switch_opening_stamp, replies, switch_replies_to, switch_with_message}
 use Rattle.switch_core.proofs.SwitchLaws.{heard_keeps}
 use Rattle.update_machine.proofs.Exports.{last_given_append, links_keep, policies_keep}
 use Rattle.control_laws.proofs.Exports.{each_weaker, heard_more, message_more, near_linked}
@@ -254,7 +254,7 @@ filter_first p n (suc more) none = ap (λ k. filter p (range_with_len 0 k)) (one
 
 neighbours_are : (setting : Setting) (journal : List Item) (s : ℕ) → IsNet setting.net
     → filter (has (near setting journal s)) switches
-    ≡ filter (has (near setting journal s)) (setting_switches_of setting)
+    ≡ filter (has (near setting journal s)) (machine_switches_of setting)
 unfolding switches
 neighbours_are setting journal s net =
     let count : ℕ = length setting.net.switches in
@@ -270,15 +270,15 @@ unfolding switch_flood
 passed_as setting before now s advert net same = cc (same, neighbours_are setting before s net)
 
 -- by its body, which the switch obeys
-sends_nothing : (journal : List Item) → [] ≡ send_items journal []
+sends_nothing : (journal : List Item) → [] ≡ machine_send_items journal []
 unfolding machine_sent_items_from
 sends_nothing journal = refl
 
 obeyed_items : (setting : Setting) (before now : List Item) (s : ℕ) (body : Body)
     → IsNet setting.net → near setting now s ≡ near setting before s
-    → is_journal_body_for_boot (journal_boot_of before s) body ≡ true → opened_by (refined_switch_of setting before s) body
+    → is_journal_body_for_boot (journal_boot_of before s) body ≡ true → switch_opened_by (refined_switch_of setting before s) body
     ≡ None → journal_switch_items setting before s body now
-    ≡ send_items now (replies_to (refined_switch_of setting before s) (near setting before s) body)
+    ≡ machine_send_items now (switch_replies_to (refined_switch_of setting before s) (near setting before s) body)
 unfolding journal_switch_items refined_switch_of is_news_at
 obeyed_items setting before now s (Install boot tables) net same own shut =
     cc (eqb-true boot (journal_boot_of before s) own)
@@ -292,22 +292,22 @@ obeyed_items setting before now s (OpenAt boot version) net same own shut =
           | true ↦ []
           | false ↦ journal_items_then (Item.Opened s (journal_stamp_of now s) ∷ []) (journal_link_changes setting before)
               now
-        ] ≡ send_items now []
+        ] ≡ machine_send_items now []
     by_open true shut = sends_nothing now
     by_open false shut = absurd cc
 obeyed_items setting before now s (Advertise advert) net same own shut =
     by_news (is_journal_news_to setting before s advert)
   where
     by_news : (b : Bool) → elim b [
-      | true ↦ send_items now (machine_advert_passed_on setting now s advert)
+      | true ↦ machine_send_items now (machine_advert_passed_on setting now s advert)
       | false ↦ []
-    ] ≡ send_items now (if b then switch_flood (near setting before s) (Advertise advert) else [])
-    by_news true = ap (send_items now) (passed_as setting before now s advert net same)
+    ] ≡ machine_send_items now (if b then switch_flood (near setting before s) (Advertise advert) else [])
+    by_news true = ap (machine_send_items now) (passed_as setting before now s advert net same)
     by_news false = sends_nothing now
 obeyed_items setting before now s _ net same own shut = sends_nothing now
 
 obeyed_opens : (setting : Setting) (before now : List Item) (s stamp : ℕ) (body : Body)
-    → stamp ≡ journal_stamp_of now s → opened_by (refined_switch_of setting before s) body ≡ Some stamp
+    → stamp ≡ journal_stamp_of now s → switch_opened_by (refined_switch_of setting before s) body ≡ Some stamp
     → journal_switch_items setting before s body now
     ≡ journal_items_then (Item.Opened s stamp ∷ []) (journal_link_changes setting before) now
 unfolding journal_switch_items refined_switch_of
@@ -349,28 +349,28 @@ items_are setting before now n s body sent = ap (λ (o : Option Message). elim o
 
 opened_as : (setting : Setting) (before : List Item) (s : ℕ) (body : Body)
     → switch_opening_stamp (refined_switch_of setting before s) body
-    ≡ (if is_meant before s body then opened_by (refined_switch_of setting before s) body else None)
+    ≡ (if is_meant before s body then switch_opened_by (refined_switch_of setting before s) body else None)
 unfolding switch_opening_stamp refined_switch_of
 opened_as setting before s body = let switch : SwitchValue = refined_switch_of setting before s in
     by_obeying switch body (is_up before s) (is_journal_body_for_boot (journal_boot_of before s) body)
-    (opened_by switch body) None refl refl (controller_shut switch body)
+    (switch_opened_by switch body) None refl refl (controller_shut switch body)
 
 replies_as : (setting : Setting) (before : List Item) (s mask : ℕ) (body : Body)
     → replies (refined_switch_of setting before s) mask body
-    ≡ (if is_meant before s body then replies_to (refined_switch_of setting before s) mask body else [])
+    ≡ (if is_meant before s body then switch_replies_to (refined_switch_of setting before s) mask body else [])
 unfolding replies refined_switch_of
 replies_as setting before s mask body = let switch : SwitchValue = refined_switch_of setting before s in
     by_obeying switch body (is_up before s) (is_journal_body_for_boot (journal_boot_of before s) body)
-    (replies_to switch mask body) [] refl refl (controller_silent switch mask body)
+    (switch_replies_to switch mask body) [] refl refl (controller_silent switch mask body)
 
 shut_items : (setting : Setting) (before : List Item) (row n s : ℕ) (body : Body)
     → IsNet setting.net → IsRefinedSentTo setting before n s body
     → switch_opening_stamp (refined_switch_of setting before s) body ≡ None → machine_delivery_items setting before n
-    (refined_journal_within_delivery before row n []) ≡ send_items (refined_journal_within_delivery before row n [])
+    (refined_journal_within_delivery before row n []) ≡ machine_send_items (refined_journal_within_delivery before row n [])
     (replies (refined_switch_of setting before s) (near setting before s) body)
 shut_items setting before row n s body net is shut = items_are setting before now n s body is.sent
     ∙ by_meant (is_up before s) (is_journal_body_for_boot (journal_boot_of before s) body) refl
-    (sym (opened_as setting before s body) ∙ shut) ∙ ap (send_items now)
+    (sym (opened_as setting before s body) ∙ shut) ∙ ap (machine_send_items now)
     (sym (replies_as setting before s (near setting before s) body))
   where
     now : List Item
@@ -380,9 +380,9 @@ shut_items setting before row n s body net is shut = items_are setting before no
     switch = refined_switch_of setting before s
 
     by_meant : (up own : Bool) → is_journal_body_for_boot (journal_boot_of before s) body ≡ own
-        → (if up && own then opened_by switch body else None) ≡ None
+        → (if up && own then switch_opened_by switch body else None) ≡ None
         → (if up && own then journal_switch_items setting before s body now else [])
-        ≡ send_items now (if up && own then replies_to switch (near setting before s) body else [])
+        ≡ machine_send_items now (if up && own then switch_replies_to switch (near setting before s) body else [])
     by_meant true true own shut = obeyed_items setting before now s body net
         ((kept_until setting before row n).near s) own shut
     by_meant true false own shut = sends_nothing now
@@ -401,7 +401,7 @@ opening_items setting before row n s stamp body is opens =
     now = refined_journal_within_delivery before row n []
 
     by_meant : (b : Bool)
-        → (if b then opened_by (refined_switch_of setting before s) body else None) ≡ Some stamp
+        → (if b then switch_opened_by (refined_switch_of setting before s) body else None) ≡ Some stamp
         → (if b then journal_switch_items setting before s body now else [])
         ≡ journal_items_then (Item.Opened s stamp ∷ []) (journal_link_changes setting before) now
     by_meant true mine = obeyed_opens setting before now s stamp body

@@ -1,7 +1,7 @@
 -- A message that is delivered is heard: what is written then, and what the parts are behind it.
 use Rattle.std.proofs.Common.{[], ◌++◌, ◌+◌, ◌<◌, ◌==◌, ◌||◌, ◌∙◌, ◌∷◌, ◌≡◌, Bool, List, None, Some, ap, append_assoc, false, get_or, is_some, length, length-set, map, refl, rules, set, subst, sym, true, ℕ}
 use Rattle.base.proofs.Exports.{option_map_or}
-use Rattle.message_bag.specs.Exports.{IsBagMessageOf, Post, bag_delivered_status, is_post_deliverable, new_post, posts_with_delivered, post_with_status}
+use Rattle.message_bag.specs.Exports.{IsBagMessageOf, Post, bag_delivered_status, is_bag_post_deliverable, new_bag_post, bag_posts_with_delivered, bag_post_with_status}
 use Rattle.message_bag.proofs.BagNumberedPosts.{length_changed}
 use Rattle.refinement.specs.Exports.{AreRefinedActsWritten, RefinementHearsShut, IsRefinedBagOf, RefinedNetworkState, RefineJournal, refined_switch_of}
 use Rattle.refinement.proofs.RefinedControllerCalls.{hears}
@@ -9,8 +9,8 @@ use Rattle.refinement.proofs.RefinedControllerResends.{names_there, steps_leave}
 use Rattle.controller.specs.Exports.{ControllerValue, ControllerReplyNamesExist, ControllerSettlesWith, controller_hear_acts, controller_marks_after}
 use Rattle.controller.specs.declared.sends.Act.{Act}
 use Rattle.controller.specs.declared.sends.Act.TheVariants.{Post as PostAct}
-use Rattle.update_machine.specs.Exports.{Deliver, Item, Message, Place, Setting, deliver_items, machine_delivery_items, is_deliverable, is_journal_message_to, is_journal_controller_message, is_to_controller, is_journal_receiver_switch, journal_message_of, near, journal_next_message, nothing, piece, machine_sent_items_from, machine_message_to_switch}
-use Rattle.ctrl_msg.specs.Exports.{to_controller}
+use Rattle.update_machine.specs.Exports.{Deliver, Item, Message, Place, Setting, machine_deliver_items, machine_delivery_items, is_deliverable, is_journal_message_to, is_journal_controller_message, is_machine_receiver_controller, is_journal_receiver_switch, journal_message_of, near, journal_next_message, nothing, piece, machine_sent_items_from, machine_message_to_switch}
+use Rattle.ctrl_msg.specs.Exports.{message_to_controller}
 use Rattle.switch_core.specs.Exports.{SwitchValue, switch_opening_stamp, replies, switch_with_message}
 use Rattle.refinement.proofs.RefinedDeliveredRecords.{hearing_refines}
 use Rattle.refinement.proofs.RefinedSwitchLinks.{kept_is}
@@ -36,20 +36,20 @@ delivered_if setting journal row n may = Item.Row row (Deliver n) ∷ elim may [
 pub deliver_piece : (setting : Setting) (journal : List Item) (row n : ℕ) → is_deliverable journal n
     ≡ true → piece setting journal row (Deliver n) ≡ Item.Row row (Deliver n) ∷ Item.Delivered n
     ∷ machine_delivery_items setting journal n (grown journal row (Deliver n) (Item.Delivered n))
-unfolding piece deliver_items
+unfolding piece machine_deliver_items
 deliver_piece setting journal row n may =
     cc (may, append_assoc journal (Item.Row row (Deliver n) ∷ []) (Item.Delivered n ∷ []))
 
 none_piece : (setting : Setting) (journal : List Item) (row n : ℕ) → is_deliverable journal n
     ≡ false → piece setting journal row (Deliver n) ≡ Item.Row row (Deliver n) ∷ nothing
-unfolding piece deliver_items
+unfolding piece machine_deliver_items
 none_piece setting journal row n may = ap (delivered_if setting journal row n) may
 
 module _ {setting : Setting} {journal : List Item} {state : RefinedNetworkState}
     (refines : RefineJournal setting journal state) where
   -- no such message may be delivered
   pub undelivered : (row n : ℕ) → IsStep setting.net (length setting.files) (Deliver n)
-      → is_post_deliverable state.posts n ≡ false
+      → is_bag_post_deliverable state.posts n ≡ false
       → WroteOne setting journal row (Deliver n) Item.Nothing state
   undelivered row n may none = nothing_happens refines row (Deliver n) may (λ q. refl)
       (none_piece setting journal row n (deliverable_as journal state.posts n refines.bag ∙ none))
@@ -61,8 +61,8 @@ pub record IsThere (setting : Setting) (journal : List Item) (posts : List Post)
     (message : Message) : Type 0 where
   pub sent : journal_message_of journal n ≡ Some message
   pub deliverable : is_deliverable journal n ≡ true
-  pub bag : IsRefinedBagOf (grown journal row (Deliver n) (Item.Delivered n)) (posts_with_delivered posts n)
-  pub as_many : length (posts_with_delivered posts n) ≡ length posts
+  pub bag : IsRefinedBagOf (grown journal row (Deliver n) (Item.Delivered n)) (bag_posts_with_delivered posts n)
+  pub as_many : length (bag_posts_with_delivered posts n) ≡ length posts
 
 module _ {setting : Setting} {journal : List Item} {state : RefinedNetworkState}
     (refines : RefineJournal setting journal state) where
@@ -75,7 +75,7 @@ module _ {setting : Setting} {journal : List Item} {state : RefinedNetworkState}
         (bag_delivered (journal ++ Item.Row row (Deliver n) ∷ []) state.posts n
         (within_posts state.posts n _ there.frames_are)
         (bag_on journal (Item.Row row (Deliver n) ∷ []) state.posts (refl, tt) refines.bag));
-    as_many = length_changed (post_with_status bag_delivered_status) state.posts n;
+    as_many = length_changed (bag_post_with_status bag_delivered_status) state.posts n;
   }
 
   -- it is delivered, and then more is written
@@ -103,7 +103,7 @@ not_to setting journal row n q message sent other =
 
 -- ---- at the controller
 
-as_told : (message : Message) → message.to ≡ Place.Controller → message ≡ to_controller message.body
+as_told : (message : Message) → message.to ≡ Place.Controller → message ≡ message_to_controller message.body
 as_told message to = ap (λ p. record { to = p; body = message.body }) to
 
 module _ {setting : Setting} {journal : List Item} {state : RefinedNetworkState}
@@ -142,7 +142,7 @@ module _ {setting : Setting} {journal : List Item} {state : RefinedNetworkState}
   control_piece = cc (heard_so.same, written_is (journal ++ first) acts, its.bag.many, its.as_many)
 
   control_told : IsTold setting journal row (Deliver n) (Item.Delivered n ∷ []) acts state
-      (record state { controller = new; posts = posts_with_delivered state.posts n })
+      (record state { controller = new; posts = bag_posts_with_delivered state.posts n })
   control_told =
       let each : (s : ℕ) (d : SwitchValue) → s < length state.switches → get_or state.switches s d
       ≡ refined_switch_of setting (grown journal row (Deliver n) (Item.Delivered n)) s =
@@ -152,16 +152,16 @@ module _ {setting : Setting} {journal : List Item} {state : RefinedNetworkState}
 
   pub control_refines : RefineJournal setting (journal ++ Item.Row row (Deliver n)
       ∷ Item.Delivered n ∷ log_act_items (length state.posts + 1) acts)
-      (record state { controller = new; posts = posts_with_delivered state.posts n ++ log_act_posts acts })
+      (record state { controller = new; posts = bag_posts_with_delivered state.posts n ++ log_act_posts acts })
   control_refines = refines_told refines (record state {
     controller = new;
-    posts = posts_with_delivered state.posts n;
+    posts = bag_posts_with_delivered state.posts n;
   }) row (Deliver n) (Item.Delivered n ∷ []) acts control_told
 
   -- and it may be written
-  pub control_may : length state.posts < 990_000 → LogMayNote (posts_with_delivered state.posts n) acts
+  pub control_may : length state.posts < 990_000 → LogMayNote (bag_posts_with_delivered state.posts n) acts
   control_may = may_note refines row (Deliver n) (Item.Delivered n ∷ [])
-      (posts_with_delivered state.posts n) acts may control_piece its.as_many
+      (bag_posts_with_delivered state.posts n) acts may control_piece its.as_many
 
 -- ---- at a switch that doesn't open
 
@@ -220,7 +220,7 @@ module _ {setting : Setting} {journal : List Item} {state : RefinedNetworkState}
   shut_told : IsTold setting journal row (Deliver n) (Item.Delivered n ∷ []) reply_acts state
       (record state {
         switches = set state.switches s changed;
-        posts = posts_with_delivered state.posts n;
+        posts = bag_posts_with_delivered state.posts n;
       })
   shut_told =
       let each : (q : ℕ) (d : SwitchValue) → q < length state.switches
@@ -242,21 +242,21 @@ module _ {setting : Setting} {journal : List Item} {state : RefinedNetworkState}
   pub shut_refines : RefineJournal setting (journal ++ Item.Row row (Deliver n) ∷ Item.Delivered n
       ∷ machine_sent_items_from (length state.posts + 1) messages) (record state {
         switches = set state.switches s changed;
-        posts = posts_with_delivered state.posts n ++ map new_post messages;
+        posts = bag_posts_with_delivered state.posts n ++ map new_bag_post messages;
       })
   shut_refines =
       let with : List Post → RefinedNetworkState = λ posts. record state {
         switches = set state.switches s changed;
         posts = posts;
       } in
-      let posts : List Post = posts_with_delivered state.posts n in
+      let posts : List Post = bag_posts_with_delivered state.posts n in
       subst (λ items. RefineJournal setting (journal ++ Item.Row row (Deliver n)
-      ∷ Item.Delivered n ∷ items) (with (posts ++ map new_post messages)))
+      ∷ Item.Delivered n ∷ items) (with (posts ++ map new_bag_post messages)))
       (sent_as_acts (length state.posts + 1) messages)
       (rw (posts_as_acts messages) at (refines_told refines (with posts) row (Deliver n)
       (Item.Delivered n ∷ []) reply_acts shut_told))
 
-  pub shut_may : length state.posts < 990_000 → LogMaySend (posts_with_delivered state.posts n) messages
-  shut_may room = may_send (posts_with_delivered state.posts n) messages
-      (may_note refines row (Deliver n) (Item.Delivered n ∷ []) (posts_with_delivered state.posts n)
+  pub shut_may : length state.posts < 990_000 → LogMaySend (bag_posts_with_delivered state.posts n) messages
+  shut_may room = may_send (bag_posts_with_delivered state.posts n) messages
+      (may_note refines row (Deliver n) (Item.Delivered n ∷ []) (bag_posts_with_delivered state.posts n)
       reply_acts may shut_piece_acts mine.as_many room)

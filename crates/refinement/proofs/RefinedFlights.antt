@@ -5,7 +5,7 @@ use Rattle.five_tuple.specs.Exports.{IsHeader}
 use Rattle.update_machine.specs.Exports.{Header, Item, Leg, Setting, serves, journal_leg_targets}
 use Rattle.tunnel.specs.Exports.{TunnelValue}
 use Rattle.packet_laws.specs.Exports.{IsPacketOnLeg, IsPacketOnWay, IsPacketServed, PacketFacts, packet_facts_of}
-use Rattle.travelling.specs.Travelling.{Flight}
+use Rattle.travelling.specs.Travelling.{TravellingFlight}
 use Rattle.refinement.proofs.RefinedSteps.{Known, Travels, travels_known}
 use Rattle.refinement.proofs.RefinedPacketFacts.{Targets, flight_by}
 
@@ -23,14 +23,14 @@ tunnel_on targets i header ingress leg route place down = record {
 }
 
 -- what is known of it with these facts, wherever it is
-abbrev pub on_route_of : Targets → ℕ → PacketFacts → Header → ℕ → Leg → List ℕ → ℕ → List ℕ → Flight
+abbrev pub on_route_of : Targets → ℕ → PacketFacts → Header → ℕ → Leg → List ℕ → ℕ → List ℕ → TravellingFlight
 on_route_of targets i facts header ingress leg route place down = record {
   tunnel = tunnel_on targets i header ingress leg route place down;
   version = unwrap_or (option_map (λ decision. decision.version) facts.decision) 0;
   rule = unwrap_or (option_map (λ decision. decision.rule) facts.decision) None;
 }
 
-abbrev pub on_leg : Targets → ℕ → PacketFacts → Header → ℕ → Leg → Flight
+abbrev pub on_leg : Targets → ℕ → PacketFacts → Header → ℕ → Leg → TravellingFlight
 on_leg targets i facts header ingress leg =
     on_route_of targets i facts header ingress leg facts.route facts.hops facts.found
 
@@ -40,10 +40,10 @@ pub known_by : (targets : Targets) (i : ℕ) (facts : PacketFacts) (header : Hea
     → flight_by targets i facts ≡ Some (on_leg targets i facts header ingress leg)
 known_by targets i facts header ingress leg on its came takes = rw (on, its, came, takes) refl
 
-travels_by : (targets : Targets) (i : ℕ) (facts : PacketFacts) (t : Flight)
+travels_by : (targets : Targets) (i : ℕ) (facts : PacketFacts) (t : TravellingFlight)
     → flight_by targets i facts ≡ Some t → facts.travels ≡ true
 travels_by targets i facts t is = by_case facts.travels _ t is where
-  by_case : (b : Bool) (x t : Flight) → (if b then Some x else None) ≡ Some t → b ≡ true
+  by_case : (b : Bool) (x t : TravellingFlight) → (if b then Some x else None) ≡ Some t → b ≡ true
   by_case true x t is = refl
   by_case false x t is = absurd cc
 
@@ -68,7 +68,7 @@ pub record Stands (setting : Setting) (journal : List Item) (i s : ℕ) (header 
   pub here : slice_get (packet_facts_of journal i).route (packet_facts_of journal i).hops ≡ Some s
 
 -- a packet of the table, as the journal says
-pub record IsStanding (setting : Setting) (journal : List Item) (i : ℕ) (t : Flight) : Type 0
+pub record IsStanding (setting : Setting) (journal : List Item) (i : ℕ) (t : TravellingFlight) : Type 0
   where
     pub switch : ℕ
     pub header : Header
@@ -84,7 +84,7 @@ serves_here setting journal i s served stands =
     rw (sym (some_same (packet_facts_of journal i).stands served.switch s served.stands stands))
     served.serving
 
-pub standing_by : (setting : Setting) (journal : List Item) (i : ℕ) (t : Flight)
+pub standing_by : (setting : Setting) (journal : List Item) (i : ℕ) (t : TravellingFlight)
     → Known setting journal
     → flight_by (journal_leg_targets setting journal) i (packet_facts_of journal i) ≡ Some t
     → IsStanding setting journal i t

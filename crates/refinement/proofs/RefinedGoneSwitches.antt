@@ -2,14 +2,14 @@
 use Rattle.std.proofs.Common.{[], ◌++◌, ◌+◌, ◌<◌, ◌∙◌, ◌∷◌, ◌≡◌, List, ap, false, get_or, length, refl, rules, sym, true, ℕ}
 use Rattle.refinement.specs.Exports.{AreRefinedActsWritten, IsRefinedBagOf, RefinedNetworkState, RefineJournal, refined_switch_of}
 use Rattle.refinement.proofs.RefinedControllerCalls.{confirms}
-use Rattle.controller.specs.Exports.{ControllerValue, ControllerSettlesWith, current_plan_touched, controller_settling_acts}
+use Rattle.controller.specs.Exports.{ControllerValue, ControllerSettlesWith, controller_current_plan_touched, controller_settling_acts}
 use Rattle.controller.specs.declared.sends.Act.{Act}
-use Rattle.update_machine.specs.Exports.{Confirm, Item, Setting, confirm_items, is_up, journal_items_then, nothing, piece}
+use Rattle.update_machine.specs.Exports.{Confirm, Item, Setting, machine_confirm_items, is_up, journal_items_then, nothing, piece}
 use Rattle.switch_core.specs.Exports.{SwitchValue}
 use Rattle.steps.specs.Exports.{IsStep}
 use Rattle.update_machine.specs.Settling as machine
 use Rattle.update_machine.proofs.Exports.{switch_keeps}
-use Rattle.version_update.specs.Exports.{mark_record_after_over, at_switch}
+use Rattle.version_update.specs.Exports.{mark_record_after_over, version_marks_with_switch_changed}
 use Rattle.world_log.specs.Exports.{LogMayNote, log_act_items, log_act_posts}
 use Rattle.refinement.proofs.RefinedActs.{may_note, refines_told, written_is}
 use Rattle.refinement.proofs.RefinedBagDeliveries.{nothing_happens}
@@ -31,7 +31,7 @@ module _ {setting : Setting} {journal : List Item} {state : RefinedNetworkState}
   own_up = cc (up_as setting journal s, switch_is refines s own may own_at)
 
   pub still_up : own.is_up ≡ true → WroteOne setting journal row (Confirm s) Item.Nothing state
-  unfolding piece confirm_items
+  unfolding piece machine_confirm_items
   still_up up =
       let rowed : List Item = journal ++ Item.Row row (Confirm s) ∷ [] in
       let here : is_up rowed s ≡ true =
@@ -40,14 +40,14 @@ module _ {setting : Setting} {journal : List Item} {state : RefinedNetworkState}
       nothing_happens refines row (Confirm s) may
       (λ q. refl) (ap (λ b. Item.Row row (Confirm s) ∷ elim b [
         | true ↦ nothing
-        | false ↦ journal_items_then (Item.OverNow s ∷ []) (machine.settling setting) rowed
+        | false ↦ journal_items_then (Item.OverNow s ∷ []) (machine.machine_settling setting) rowed
       ]) here)
 
-  module _ (new : ControllerValue) (down : own.is_up ≡ false) (settles : ControllerSettlesWith (at_switch s
+  module _ (new : ControllerValue) (down : own.is_up ≡ false) (settles : ControllerSettlesWith (version_marks_with_switch_changed s
       mark_record_after_over state.controller.marks) state.controller.plans new) where
     abbrev acts : List Act
-    acts = controller_settling_acts (current_plan_touched new)
-        (at_switch s mark_record_after_over state.controller.marks) new.marks
+    acts = controller_settling_acts (controller_current_plan_touched new)
+        (version_marks_with_switch_changed s mark_record_after_over state.controller.marks) new.marks
 
     abbrev first : List Item
     first = Item.Row row (Confirm s) ∷ Item.OverNow s ∷ []

@@ -1,15 +1,15 @@
 -- What a delivered message makes of the record of its switch.
 use Rattle.std.proofs.Common.{[], ◌&&◌, ◌++◌, ◌==◌, ◌||◌, ◌∙◌, ◌∷◌, ◌≡◌, Bool, List, None, Option, Some, ap, arith, eq-eqb, false, if◌then◌else◌, max, nat_le, nat_lt, not, refl, sym, true, unwrap_or, ℕ}
 use Rattle.base.proofs.Exports.{nat_tests, option_map_or, or_parts}
-use Rattle.update_machine.specs.Exports.{Advertise, Body, Hello, Install, Installed, Item, NoneConcern, OpenAt, Setting, Stamp, Stamped, Tables, journal_body_to_switch, journal_boot_of, machine_cache_after, journal_cache_of, changes_journal_cache, changes_journal_heard, item_concerns_known, concerns_links, concerns_switch, machine_item_gives_boot, machine_item_gives_serving, machine_item_gives_switch_up, journal_handled_count, heard, is_journal_body_for_boot, is_up, journal_message_of, near, journal_own_seq, serves, journal_stamp_of, machine_message_to_switch, machine_touched_by}
-use Rattle.switch_table.specs.Exports.{cache_after_carry, after_expire, cache_after_raise}
+use Rattle.update_machine.specs.Exports.{Advertise, Body, Hello, Install, Installed, Item, NoMachineItemConcerns, OpenAt, Setting, Stamp, Stamped, Tables, journal_body_to_switch, journal_boot_of, machine_cache_after, journal_cache_of, changes_journal_cache, changes_journal_heard, machine_item_concerns_known, machine_item_concerns_links, machine_item_concerns_switch, machine_item_gives_boot, machine_item_gives_serving, machine_item_gives_switch_up, journal_handled_count, heard, is_journal_body_for_boot, is_up, journal_message_of, near, journal_own_seq, serves, journal_stamp_of, machine_message_to_switch, machine_touched_by}
+use Rattle.switch_table.specs.Exports.{cache_after_carry, cache_after_expire, cache_after_raise}
 use Rattle.update_machine.proofs.Exports.{calls_stay, fewer, folded_append, links_keep, switch_keeps}
 use Rattle.control_laws.proofs.Exports.{boot_more, heard_more, serving_more, up_more}
 use Rattle.refinement.proofs.RefinedSwitchHearing.{SaysTouched, heard_facts, hears_facts}
 use Rattle.refinement.proofs.RefinedSwitchFacts.{AreVersioned, IsVersioned, SwitchFacts, by_facts, facts_of, stamp_by, switch_by, switch_is}
-use Rattle.ctrl_msg.specs.Exports.{body_boot, is_for_controller}
+use Rattle.ctrl_msg.specs.Exports.{body_boot, is_body_for_controller}
 use Rattle.failover.specs.Exports.{adverts_after_hearing}
-use Rattle.switch_core.specs.Exports.{SwitchValue, switch_after_body, switch_collected_to, holds_version, is_news_to_switch, obeys, opened_by, switch_opening_stamp, switch_stamp_raised_to, replies_to, switch_stamped_with, switch_after_advert, switch_with_installed, switch_with_message}
+use Rattle.switch_core.specs.Exports.{SwitchValue, switch_after_body, switch_collected_to, holds_version, is_news_to_switch, switch_obeys, switch_opened_by, switch_opening_stamp, switch_stamp_raised_to, switch_replies_to, switch_stamped_with, switch_after_advert, switch_with_installed, switch_with_message}
 use Rattle.refinement.specs.Exports.{refined_switch_of}
 
 -- ---- what one item makes of the facts of a switch
@@ -18,14 +18,14 @@ use Rattle.refinement.specs.Exports.{refined_switch_of}
 
 -- they leave its facts as they are, except for the count of its calls
 pub facts_kept : (setting : Setting) (s : ℕ) (before items : List Item)
-    → NoneConcern (item_concerns_known s) before items → facts_of setting (before ++ items) s
+    → NoMachineItemConcerns (machine_item_concerns_known s) before items → facts_of setting (before ++ items) s
     ≡ record (facts_of setting before s) { handled = journal_handled_count (before ++ items) s }
 facts_kept setting s before items none =
-    let own = switch_keeps setting s before items (fewer (concerns_switch s) (item_concerns_known s)
-    (λ js item none. (or_parts (concerns_switch s js item) (concerns_links js item) none).0) before
+    let own = switch_keeps setting s before items (fewer (machine_item_concerns_switch s) (machine_item_concerns_known s)
+    (λ js item none. (or_parts (machine_item_concerns_switch s js item) (machine_item_concerns_links js item) none).0) before
     items none) in
-    let links = links_keep setting before items (fewer concerns_links (item_concerns_known s)
-    (λ js item none. (or_parts (concerns_switch s js item) (concerns_links js item) none).1) before
+    let links = links_keep setting before items (fewer machine_item_concerns_links (machine_item_concerns_known s)
+    (λ js item none. (or_parts (machine_item_concerns_switch s js item) (machine_item_concerns_links js item) none).1) before
     items none) in
     let up = own.up in
     let serving = own.serving in
@@ -132,7 +132,7 @@ facts_opened setting before s v = let next : Item = Item.Opened s v in
 
 pub facts_expired : (setting : Setting) (before : List Item) (s place message : ℕ)
     → facts_of setting (before ++ Item.Expired s place message ∷ []) s
-    ≡ record (facts_of setting before s) { cache = after_expire place (journal_cache_of setting before s) }
+    ≡ record (facts_of setting before s) { cache = cache_after_expire place (journal_cache_of setting before s) }
 facts_expired setting before s place message =
     let next : Item = Item.Expired s place message in
     let keep = links_keep setting before (next ∷ []) (refl, tt) in
@@ -151,11 +151,11 @@ is_meant before s body = is_up before s && is_journal_body_for_boot (journal_boo
 pub by_obeying : {X : Type 0} (switch : SwitchValue) (body : Body) (up own : Bool)
     (obeyed left_so : X)
     → switch.is_up ≡ up → option_map_or (λ boot. boot == switch.boot) (body_boot body) true ≡ own
-    → (is_for_controller body ≡ true → obeyed ≡ left_so)
-    → (if obeys switch body then obeyed else left_so) ≡ (if up && own then obeyed else left_so)
-unfolding obeys
+    → (is_body_for_controller body ≡ true → obeyed ≡ left_so)
+    → (if switch_obeys switch body then obeyed else left_so) ≡ (if up && own then obeyed else left_so)
+unfolding switch_obeys
 by_obeying {X = X} switch body up own obeyed left_so is mine same =
-    rw (is, mine) (by_kind up own (is_for_controller body) same)
+    rw (is, mine) (by_kind up own (is_body_for_controller body) same)
   where
     by_kind : (up own kind : Bool) → (kind ≡ true → obeyed ≡ left_so) → (if (up && not kind)
         && own then obeyed else left_so) ≡ (if up && own then obeyed else left_so)
@@ -165,7 +165,7 @@ by_obeying {X = X} switch body up own obeyed left_so is mine same =
     by_kind true false false same = refl
     by_kind false own kind same = refl
 
-pub controller_kept : (switch : SwitchValue) (n : ℕ) (body : Body) → is_for_controller body ≡ true
+pub controller_kept : (switch : SwitchValue) (n : ℕ) (body : Body) → is_body_for_controller body ≡ true
     → switch_after_body switch n body ≡ switch
 controller_kept switch n (Hello s boot) is = refl
 controller_kept switch n (Installed s boot version) is = refl
@@ -173,14 +173,14 @@ controller_kept switch n (Stamped s boot version) is = refl
 controller_kept switch n _ is = absurd cc
 
 pub controller_silent : (switch : SwitchValue) (near : ℕ) (body : Body)
-    → is_for_controller body ≡ true → replies_to switch near body ≡ []
+    → is_body_for_controller body ≡ true → switch_replies_to switch near body ≡ []
 controller_silent switch near (Hello s boot) is = refl
 controller_silent switch near (Installed s boot version) is = refl
 controller_silent switch near (Stamped s boot version) is = refl
 controller_silent switch near _ is = absurd cc
 
-pub controller_shut : (switch : SwitchValue) (body : Body) → is_for_controller body ≡ true
-    → opened_by switch body ≡ None
+pub controller_shut : (switch : SwitchValue) (body : Body) → is_body_for_controller body ≡ true
+    → switch_opened_by switch body ≡ None
 controller_shut switch (OpenAt boot version) is = absurd cc
 controller_shut switch _ is = refl
 
@@ -247,7 +247,7 @@ or_kept : (b : Bool) (switch : SwitchValue) (tables : Tables)
 or_kept true switch tables = refl
 or_kept false switch tables = refl
 
-kept_by : (switch : SwitchValue) (n : ℕ) (body : Body) → opened_by switch body ≡ None
+kept_by : (switch : SwitchValue) (n : ℕ) (body : Body) → switch_opened_by switch body ≡ None
     → (switch_after_body switch n body).is_open ≡ switch.is_open
 unfolding switch_with_installed switch_stamp_raised_to switch_stamped_with switch_collected_to switch_after_advert
 kept_by switch n (Install boot tables) shut =
@@ -276,13 +276,13 @@ kept_by switch n _ shut = refl
 pub open_kept : (switch : SwitchValue) (n : ℕ) (body : Body) → switch_opening_stamp switch body ≡ None
     → (switch_with_message switch n body).is_open ≡ switch.is_open
 unfolding switch_with_message switch_opening_stamp
-open_kept switch n body shut = by_test (obeys switch body) shut where
-  by_test : (b : Bool) → (if b then opened_by switch body else None) ≡ None
+open_kept switch n body shut = by_test (switch_obeys switch body) shut where
+  by_test : (b : Bool) → (if b then switch_opened_by switch body else None) ≡ None
       → (if b then switch_after_body switch n body else switch).is_open ≡ switch.is_open
   by_test true shut = kept_by switch n body shut
   by_test false shut = refl
 
-opens_by : (switch : SwitchValue) (n stamp : ℕ) (body : Body) → opened_by switch body ≡ Some stamp
+opens_by : (switch : SwitchValue) (n stamp : ℕ) (body : Body) → switch_opened_by switch body ≡ Some stamp
     → ((switch_after_body switch n body).is_open ≡ true) × (stamp ≡ (switch_after_body switch n body).stamp)
 unfolding switch_stamp_raised_to
 opens_by switch n stamp (OpenAt boot version) opens = (refl, by_open switch.is_open opens) where
@@ -309,8 +309,8 @@ pub opens_as : (switch : SwitchValue) (n stamp : ℕ) (body : Body) → switch_o
     ≡ Some stamp
     → ((switch_with_message switch n body).is_open ≡ true) × (stamp ≡ (switch_with_message switch n body).stamp)
 unfolding switch_with_message switch_opening_stamp
-opens_as switch n stamp body opens = by_test (obeys switch body) opens where
-  by_test : (b : Bool) → (if b then opened_by switch body else None) ≡ Some stamp
+opens_as switch n stamp body opens = by_test (switch_obeys switch body) opens where
+  by_test : (b : Bool) → (if b then switch_opened_by switch body else None) ≡ Some stamp
       → ((if b then switch_after_body switch n body else switch).is_open ≡ true)
       × (stamp ≡ (if b then switch_after_body switch n body else switch).stamp)
   by_test true opens = opens_by switch n stamp body opens

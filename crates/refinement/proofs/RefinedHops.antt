@@ -1,12 +1,12 @@
 -- A hop of a packet on its way keeps the tie of a world to its journal.
 use Rattle.std.proofs.Common.{[], ◌&&◌, ◌++◌, ◌+◌, ◌<◌, ◌==◌, ◌∙◌, ◌∷◌, ◌≡◌, Bool, List, None, Some, ap, arith, eq-eqb, eqb-true, false, get_or, if◌then◌else◌, is_some, length, length-set, refl, set, subst, sym, true, ℕ}
 use Rattle.base.proofs.Exports.{nat_tests}
-use Rattle.update_machine.specs.Exports.{Hop, Item, Lose, Ports, Setting, Step, is_at, lose_items, journal_next_message, nothing, piece, standing, travels}
+use Rattle.update_machine.specs.Exports.{Hop, Item, Lose, Ports, Setting, Step, is_at_machine_switch, machine_lose_items, journal_next_message, nothing, piece, journal_standing_of, travels_in_journal}
 use Rattle.steps.specs.Exports.{IsStep}
 use Rattle.packet_laws.specs.Exports.{packet_facts_of}
 use Rattle.packet_laws.proofs.Exports.{facts_grow}
 use Rattle.refinement.specs.Exports.{RefinedNetworkState, RefineJournal, refined_flight_in, refined_switch_of}
-use Rattle.travelling.specs.Travelling.{Flight, Flights, TravellingWithOne, flight}
+use Rattle.travelling.specs.Travelling.{TravellingFlight, TravellingFlights, TravellingWithOne, flight}
 use Rattle.refinement.proofs.RefinedSteps.{Known, Steps, WroteOne, flight_stays, numbered, one_changes, packets_are, reached_known, refines_more, refines_silent, switches_are, switches_stay}
 use Rattle.refinement.proofs.RefinedBagDeliveries.{nothing_happens}
 use Rattle.refinement.proofs.RefinedPacketFacts.{flight_along, hop_sends}
@@ -20,15 +20,15 @@ use Rattle.refinement.proofs.RefinedPostedFrames.{SendFrom, posts_in}
 
 -- a row tells nothing of a packet
 pub travels_on : (journal : List Item) (row i : ℕ) (step : Step)
-    → travels (journal ++ Item.Row row step ∷ []) i ≡ travels journal i
+    → travels_in_journal (journal ++ Item.Row row step ∷ []) i ≡ travels_in_journal journal i
 unfolding packet_facts_of
 travels_on journal row i step = ap (λ facts. facts.travels)
     (facts_grow i journal (Item.Row row step))
 
 pub travels_as : (setting : Setting) (journal : List Item) (i : ℕ)
-    → is_some (refined_flight_in setting journal i) ≡ travels journal i
+    → is_some (refined_flight_in setting journal i) ≡ travels_in_journal journal i
 unfolding refined_flight_in
-travels_as setting journal i = by_case (travels journal i) _ where
+travels_as setting journal i = by_case (travels_in_journal journal i) _ where
   by_case : {X : Type 0} (b : Bool) (x : X) → is_some (if b then Some x else None) ≡ b
   by_case true x = refl
   by_case false x = refl
@@ -36,10 +36,10 @@ travels_as setting journal i = by_case (travels journal i) _ where
 -- what losing a packet writes
 pub lose_piece : (setting : Setting) (journal : List Item) (row i : ℕ)
     → piece setting journal row (Lose i)
-    ≡ Item.Row row (Lose i) ∷ (if travels journal i then Item.Lost i ∷ [] else nothing)
-unfolding piece lose_items
+    ≡ Item.Row row (Lose i) ∷ (if travels_in_journal journal i then Item.Lost i ∷ [] else nothing)
+unfolding piece machine_lose_items
 lose_piece setting journal row i =
-    cc (travels_on journal row i (Lose i), by_case (travels journal i))
+    cc (travels_on journal row i (Lose i), by_case (travels_in_journal journal i))
   where
     by_case : (b : Bool) → Item.Row row (Lose i) ∷ elim b
         [ false ↦ nothing | true ↦ Item.Lost i ∷ [] ]
@@ -48,7 +48,7 @@ lose_piece setting journal row i =
     by_case false = refl
 
 -- of the packets, it is gone
-gone : (setting : Setting) (journal : List Item) (row i : ℕ) (before : Flights) (q : ℕ)
+gone : (setting : Setting) (journal : List Item) (row i : ℕ) (before : TravellingFlights) (q : ℕ)
     (b : Bool) → Known setting journal → (q == i) ≡ b
     → flight before q ≡ refined_flight_in setting journal q → (if b then None else flight before q)
     ≡ refined_flight_in setting (journal ++ Item.Row row (Lose i) ∷ Item.Lost i ∷ []) q
@@ -64,7 +64,7 @@ gone setting journal row i before q false knows is was =
 module _ {setting : Setting} {journal : List Item} {state : RefinedNetworkState}
     (refines : RefineJournal setting journal state) (row i : ℕ) where
   -- it travels where the table has it
-  travels_there : travels journal i ≡ is_some (flight state.travelling i)
+  travels_there : travels_in_journal journal i ≡ is_some (flight state.travelling i)
   travels_there = sym (ap is_some (refines.packet i) ∙ travels_as setting journal i)
 
   -- so this is its piece
@@ -73,7 +73,7 @@ module _ {setting : Setting} {journal : List Item} {state : RefinedNetworkState}
   lost_piece travelling = cc (lose_piece setting journal row i, travels_there, travelling)
 
   -- without it the table is as the journal says then
-  pub lost : (after : Flights) → IsStep setting.net (length setting.files) (Lose i)
+  pub lost : (after : TravellingFlights) → IsStep setting.net (length setting.files) (Lose i)
       → is_some (flight state.travelling i) ≡ true → TravellingWithOne state.travelling i None after
       → RefineJournal setting (journal ++ Item.Row row (Lose i) ∷ Item.Lost i ∷ [])
       (record state { travelling = after })
@@ -103,7 +103,7 @@ module _ {setting : Setting} {journal : List Item} {state : RefinedNetworkState}
 -- ---- the tie
 
 module _ {setting : Setting} {journal : List Item} {state : RefinedNetworkState}
-    (refines : RefineJournal setting journal state) (row i : ℕ) (t : Flight) (s near : ℕ)
+    (refines : RefineJournal setting journal state) (row i : ℕ) (t : TravellingFlight) (s near : ℕ)
     (w : SwitchValue) (ports : Ports) (may : IsStep setting.net (length setting.files) (Hop i))
     (can : CanAsk setting journal i t s near w ports) where
   abbrev items : List Item
@@ -119,7 +119,7 @@ module _ {setting : Setting} {journal : List Item} {state : RefinedNetworkState}
   sends = (hop_sends (journal_next_message journal) w near ports t).0
 
   -- and all packets
-  travels_then : (after : Flights) → TravellingWithOne state.travelling i (log_hop_flight w near ports t) after
+  travels_then : (after : TravellingFlights) → TravellingWithOne state.travelling i (log_hop_flight w near ports t) after
       → (q : ℕ) → flight state.travelling q ≡ refined_flight_in setting journal q
       → flight after q ≡ refined_flight_in setting (journal ++ all) q
   travels_then after with q was = with q ∙ by_test (q == i) refl where
@@ -130,7 +130,7 @@ module _ {setting : Setting} {journal : List Item} {state : RefinedNetworkState}
     by_test false is = let apart : (i == q) ≡ false = grind (arith, nat_tests) in
         was ∙ sym (hop_others setting journal row i t s near w ports can knows q apart)
 
-  steps_of : (after : Flights) → TravellingWithOne state.travelling i (log_hop_flight w near ports t) after
+  steps_of : (after : TravellingFlights) → TravellingWithOne state.travelling i (log_hop_flight w near ports t) after
       → s < length state.switches → w ≡ refined_switch_of setting journal s
       → ((q : ℕ) → flight state.travelling q ≡ refined_flight_in setting journal q)
       → ((k : ℕ) (d : SwitchValue) → k < length state.switches
@@ -150,7 +150,7 @@ module _ {setting : Setting} {journal : List Item} {state : RefinedNetworkState}
     travels = λ q. travels_then after with q (packets q);
   }
 
-  pub hop_refines : (after : Flights) (other : SwitchValue)
+  pub hop_refines : (after : TravellingFlights) (other : SwitchValue)
       → s < length state.switches → w ≡ refined_switch_of setting journal s → other ≡ log_hopped_switch w near t
       → TravellingWithOne state.travelling i (log_hop_flight w near ports t) after
       → RefineJournal setting (journal ++ Item.Row row (Hop i)
@@ -188,4 +188,4 @@ module _ {setting : Setting} {journal : List Item} {state : RefinedNetworkState}
   hop_left row i may resting =
       let off = sym (ap is_some (refines.packet i) ∙ travels_as setting journal i) ∙ resting in
       nothing_happens refines row (Hop i) may
-      (λ s. ap (λ x. x && is_at s (standing journal i)) off) (left_piece setting journal row i off)
+      (λ s. ap (λ x. x && is_at_machine_switch s (journal_standing_of journal i)) off) (left_piece setting journal row i off)

@@ -1,13 +1,13 @@
 -- A packet that enters: its whole step keeps the tie.
 use Rattle.std.proofs.Common.{[], ◌++◌, ◌+◌, ◌<◌, ◌==◌, ◌∙◌, ◌∷◌, ◌≡◌, ◌≤◌, Bool, List, None, Option, Some, ap, arith, cond, eq-eqb, eqb-true, false, get_or, if◌then◌else◌, length, length-set, refl, set, slice_index, subst, sym, true, ℕ}
 use Rattle.base.proofs.Exports.{nat_tests, sum_by-cons}
-use Rattle.update_machine.specs.Exports.{Header, Item, Leg, NoneConcern, Packet as PacketStep, Ports, Setting, Step, item_concerns_policies, count_of, is_packet, journal_next_message, journal_next_packet, machine_packet_items, piece, journal_leg_targets}
-use Rattle.switch_core.specs.Exports.{Answer, SwitchValue, switch_call_counted}
+use Rattle.update_machine.specs.Exports.{Header, Item, Leg, NoMachineItemConcerns, Packet as PacketStep, Ports, Setting, Step, machine_item_concerns_policies, machine_count_of, is_machine_packet_entry, journal_next_message, journal_next_packet, machine_packet_items, piece, journal_leg_targets}
+use Rattle.switch_core.specs.Exports.{SwitchAnswer, SwitchValue, switch_call_counted}
 use Rattle.refinement.specs.Exports.{AreRefinedInStep, RefinedNetworkState, RefineJournal, refined_flight_in, refined_switch_of}
 use Rattle.refinement.proofs.RefinedSwitchSteps.{calls_refine}
 use Rattle.packet_laws.specs.Exports.{IsUnknownPacket, packet_facts_of}
 use Rattle.world_log.specs.Exports.{log_answer_items, log_coming_in, log_entered_flight, log_entered_items, log_entered_posts, entry}
-use Rattle.travelling.specs.Travelling.{Flight, Flights, Standing, TravellingWithOne, flight}
+use Rattle.travelling.specs.Travelling.{TravellingFlight, TravellingFlights, TravellingStanding, TravellingWithOne, flight}
 use Rattle.refinement.proofs.RefinedOnwardPackets.{ComesTo, GoesIn, come_goes, come_law, entered_goes, looking}
 use Rattle.refinement.proofs.RefinedSteps.{Known, Steps, flight_stays, numbered, one_changes, packets_are, refines_more, switches_are}
 use Rattle.refinement.proofs.RefinedPacketFacts.{Targets, answer_later, by_targets, entered_other, entered_sends, facts_along, flight_along, later_packets, same_targets}
@@ -21,15 +21,15 @@ use Rattle.refinement.proofs.RefinedHopPieces.{known_of, seen}
 
 -- ---- one packet enters, and then none
 
-once : (first : Item) (items : List Item) → is_packet first ≡ true → AreRefinedInStep items
-    → count_of is_packet (first ∷ items) ≡ 1
+once : (first : Item) (items : List Item) → is_machine_packet_entry first ≡ true → AreRefinedInStep items
+    → machine_count_of is_machine_packet_entry (first ∷ items) ≡ 1
 once first items packet later =
-    let sum = sum_by-cons (λ x. cond (is_packet x) 1 0) first items in
-    let one : ◌≡◌ {A = ℕ} (cond (is_packet first) 1 0) 1 = ap (λ b. cond b 1 0) packet in
+    let sum = sum_by-cons (λ x. cond (is_machine_packet_entry x) 1 0) first items in
+    let one : ◌≡◌ {A = ℕ} (cond (is_machine_packet_entry first) 1 0) 1 = ap (λ b. cond b 1 0) packet in
     omega (arith, sum, one, later_packets items later)
 
-pub entered_once : (number : ℕ) (at : Standing) (what : Option Answer)
-    → count_of is_packet (log_entered_items number at what) ≡ 1
+pub entered_once : (number : ℕ) (at : TravellingStanding) (what : Option SwitchAnswer)
+    → machine_count_of is_machine_packet_entry (log_entered_items number at what) ≡ 1
 entered_once number at None = once (Item.Closed at.packet at.switch) [] refl tt
 entered_once number at (Some what) = once (Item.Entered at.packet at.switch at.header)
     (log_answer_items number at what) refl (answer_later number at what)
@@ -37,13 +37,13 @@ entered_once number at (Some what) = once (Item.Entered at.packet at.switch at.h
 -- ---- the switches
 
 -- the switch where it enters is called, and no other
-pub come_called : (setting : Setting) (journal : List Item) (row number q : ℕ) (at : Standing)
-    (what : Option Answer) (b : Bool) → SendFrom number (log_entered_items number at what)
+pub come_called : (setting : Setting) (journal : List Item) (row number q : ℕ) (at : TravellingStanding)
+    (what : Option SwitchAnswer) (b : Bool) → SendFrom number (log_entered_items number at what)
     → (at.switch == q) ≡ b → refined_switch_of setting
     (journal ++ Item.Row row (PacketStep at.switch at.header) ∷ log_entered_items number at what) q
     ≡ (if b then switch_call_counted (refined_switch_of setting journal q) else refined_switch_of setting journal q)
 come_called setting journal row number q at what b sends is = cc (by_answer what sends, is) where
-  by_answer : (what : Option Answer) → SendFrom number (log_entered_items number at what)
+  by_answer : (what : Option SwitchAnswer) → SendFrom number (log_entered_items number at what)
       → refined_switch_of setting (journal ++ Item.Row row (PacketStep at.switch at.header)
       ∷ log_entered_items number at what) q ≡ (if at.switch == q
       then switch_call_counted (refined_switch_of setting journal q) else refined_switch_of setting journal q)
@@ -56,12 +56,12 @@ come_called setting journal row number q at what b sends is = cc (by_answer what
 -- ---- the packets
 
 pub come_along : (setting : Setting) (journal : List Item)
-    (row number : ℕ) (taken : Step) (targets : Targets) (at : Standing) (answer : Option Answer)
-    (kept : Option Flight) (q : ℕ) (b : Bool) → Known setting journal
+    (row number : ℕ) (taken : Step) (targets : Targets) (at : TravellingStanding) (answer : Option SwitchAnswer)
+    (kept : Option TravellingFlight) (q : ℕ) (b : Bool) → Known setting journal
     → (q == at.packet) ≡ b → IsUnknownPacket (packet_facts_of journal at.packet)
     → (packet_facts_of journal at.packet).found ≡ at.down → GoesIn targets at answer
     → ((leg : Leg) → targets leg ≡ journal_leg_targets setting journal leg)
-    → NoneConcern item_concerns_policies journal (Item.Row row taken ∷ log_entered_items number at answer)
+    → NoMachineItemConcerns machine_item_concerns_policies journal (Item.Row row taken ∷ log_entered_items number at answer)
     → kept ≡ refined_flight_in setting journal q → (if b then log_entered_flight answer else kept)
     ≡ refined_flight_in setting (journal ++ Item.Row row taken ∷ log_entered_items number at answer) q
 come_along setting journal row number taken targets at answer kept q true knows is unknown unmarked
@@ -112,7 +112,7 @@ module _ {setting : Setting} {journal : List Item} {state : RefinedNetworkState}
   abbrev number : ℕ
   number = journal_next_message journal
 
-  abbrev answer : Option Answer
+  abbrev answer : Option SwitchAnswer
   answer = entry own near ports i header
 
   abbrev items : List Item
@@ -148,11 +148,11 @@ module _ {setting : Setting} {journal : List Item} {state : RefinedNetworkState}
   sends : SendFrom number items
   sends = (entered_sends number (log_coming_in i header s) answer).0
 
-  once_in : count_of is_packet items ≡ 1
+  once_in : machine_count_of is_machine_packet_entry items ≡ 1
   once_in = entered_once number (log_coming_in i header s) answer
 
   -- so the tie is kept after it
-  steps_of : (after : Flights) → s < length state.switches → own ≡ refined_switch_of setting journal s
+  steps_of : (after : TravellingFlights) → s < length state.switches → own ≡ refined_switch_of setting journal s
       → TravellingWithOne state.travelling i (log_entered_flight answer) after → Steps setting journal row taken
       items state.switches (set state.switches s (switch_call_counted own)) after
   steps_of after there own_is with = record {
@@ -177,7 +177,7 @@ module _ {setting : Setting} {journal : List Item} {state : RefinedNetworkState}
   }
 
   -- and what it writes and posts, by the number of the switch and of the next message
-  abbrev at : Standing
+  abbrev at : TravellingStanding
   at = log_coming_in i header own.number
 
   pub come_piece : piece setting journal row (PacketStep s header)
@@ -186,7 +186,7 @@ module _ {setting : Setting} {journal : List Item} {state : RefinedNetworkState}
       (entry own (slice_index state.near s) ports (state.packets + 1) header)
   come_piece = cc (piece_is, number_is, numbered refines)
 
-  pub come_refines : (after : Flights) (changed : SwitchValue) → s < length state.switches
+  pub come_refines : (after : TravellingFlights) (changed : SwitchValue) → s < length state.switches
       → own ≡ refined_switch_of setting journal s → changed ≡ switch_call_counted own
       → TravellingWithOne state.travelling (state.packets + 1) (log_entered_flight
       (entry own (slice_index state.near s) ports (state.packets + 1) header)) after
@@ -215,4 +215,4 @@ module _ {setting : Setting} {journal : List Item} {state : RefinedNetworkState}
       setting (journal ++ first ∷ items) (with (switch_call_counted own) more))
       (entered_sends number (log_coming_in i header s) answer).1 (refines_more refines
       (set state.switches s (switch_call_counted own)) after i row taken items (steps_of after there own_is
-      entered) (omega (arith, sum_by-cons (λ x. cond (is_packet x) 1 0) first items, once_in))))))
+      entered) (omega (arith, sum_by-cons (λ x. cond (is_machine_packet_entry x) 1 0) first items, once_in))))))

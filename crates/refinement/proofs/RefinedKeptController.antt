@@ -1,10 +1,10 @@
 -- What leaves the controller as it was, and the start.
 use Rattle.std.proofs.Common.{[], ◌++◌, ◌+◌, ◌<◌, ◌∙◌, ◌∷◌, ◌≡◌, ◌≢◌, IsFalse, IsTrue, List, Some, ap, append-nil, append_assoc, arith, get_or-set_other, get_or-set_same, inl, inr, length, length-set, map, refl, replicate, subst, sym, unwrap_or, ℕ}
 use Rattle.base.proofs.Exports.{cases_eq, get_or-replicate, length-replicate}
-use Rattle.update_machine.specs.Exports.{JournalControllerKeeps, Item, Message, Setting, acked_stamp, journal_controller_heard, journal_current_mark, has_acked, in_turn, is_member, is_over, journal_known_boot, journal_next_message, machine_open_sent, journal_opened_at, journal_retired_mark, send_items, machine_sent_items_from, journal_version_count}
+use Rattle.update_machine.specs.Exports.{JournalControllerKeeps, Item, Message, Setting, acked_stamp, journal_controller_heard, journal_current_mark, has_acked, machine_blocks_in_turn, is_member, is_over, journal_known_boot, journal_next_message, machine_open_sent, journal_opened_at, journal_retired_mark, machine_send_items, machine_sent_items_from, journal_version_count}
 use Rattle.update_machine.proofs.Exports.{next_sent, start_laws}
 use Rattle.control_laws.proofs.Exports.{acked_same, count_more, current_more, known_more, member_same, opened_same, over_more, retired_more, stamp_same, told_more}
-use Rattle.version_update.specs.Exports.{MarksValue, at_switch, first_marks, first_record, record_of, unknown_switch_record}
+use Rattle.version_update.specs.Exports.{MarksValue, version_marks_with_switch_changed, first_marks, first_update_record, update_record_of, unknown_update_record}
 use Rattle.version_update.specs.declared.record.SwitchRecord.{SwitchRecord}
 use Rattle.version_update.proofs.VersionAcknowledgements.{first_acked}
 use Rattle.refinement.specs.Exports.{AreMarksRefined, IsKnownRefined, refined_act_item, refined_acts_written}
@@ -63,7 +63,7 @@ stay_on setting before after marks count current retired stay counts is_current 
       current = is_current;
       retired = is_retired;
       many = are.many;
-      each = λ s there. known_on before after s (record_of marks s) (stay s) (are.each s there);
+      each = λ s there. known_on before after s (update_record_of marks s) (stay s) (are.each s there);
     }
 
 pub marks_on : (setting : Setting) (before after : List Item) (marks : MarksValue)
@@ -119,23 +119,23 @@ pub switch_on : (setting : Setting) (journal : List Item)
     → journal_current_mark (journal ++ next ∷ []) ≡ journal_current_mark journal
     → journal_retired_mark (journal ++ next ∷ []) ≡ journal_retired_mark journal
     → ((t : ℕ) → t ≢ s → StaysKnown journal (journal ++ next ∷ []) t) → s < length marks.switches
-    → IsKnownRefined (journal ++ next ∷ []) s (change (record_of marks s))
+    → IsKnownRefined (journal ++ next ∷ []) s (change (update_record_of marks s))
     → AreMarksRefined setting journal marks
-    → AreMarksRefined setting (journal ++ next ∷ []) (at_switch s change marks)
+    → AreMarksRefined setting (journal ++ next ∷ []) (version_marks_with_switch_changed s change marks)
 switch_on setting journal next marks s change count current retired others there own are = record {
   count = are.count ∙ sym count;
   current = are.current ∙ sym current;
   retired = are.retired ∙ sym retired;
-  many = length-set marks.switches s (change (record_of marks s)) ∙ are.many;
+  many = length-set marks.switches s (change (update_record_of marks s)) ∙ are.many;
   each = λ t below. elim (cases_eq t s) [
     | inl same ↦ rw same (subst (IsKnownRefined (journal ++ next ∷ []) s)
-        (sym (get_or-set_same marks.switches s (change (record_of marks s)) unknown_switch_record there))
+        (sym (get_or-set_same marks.switches s (change (update_record_of marks s)) unknown_update_record there))
         own)
     | inr other ↦
         subst (IsKnownRefined (journal ++ next ∷ []) t)
-        (sym (get_or-set_other marks.switches s t (change (record_of marks s)) unknown_switch_record other))
-        (known_on journal (journal ++ next ∷ []) t (record_of marks t) (others t other) (are.each t
-        (omega (arith, below, length-set marks.switches s (change (record_of marks s))))))
+        (sym (get_or-set_other marks.switches s t (change (update_record_of marks s)) unknown_update_record other))
+        (known_on journal (journal ++ next ∷ []) t (update_record_of marks t) (others t other) (are.each t
+        (omega (arith, below, length-set marks.switches s (change (update_record_of marks s))))))
   ];
 }
 
@@ -145,7 +145,7 @@ opened_first : (s : ℕ) → journal_opened_at [] s ≡ Some 1
 unfolding journal_opened_at journal_known_boot journal_controller_heard
 opened_first s = refl
 
-known_first : (s : ℕ) → IsKnownRefined [] s first_record
+known_first : (s : ℕ) → IsKnownRefined [] s first_update_record
 known_first s = record {
   boot = sym (start_laws.known s);
   over = sym (start_laws.over s);
@@ -159,13 +159,13 @@ pub marks_begun : (setting : Setting)
     → AreMarksRefined setting [] (first_marks (length setting.net.switches))
 marks_begun setting =
     let n : ℕ = length setting.net.switches in
-    let many : length (replicate n first_record) ≡ n = length-replicate n first_record in record {
+    let many : length (replicate n first_update_record) ≡ n = length-replicate n first_update_record in record {
       count = sym start_laws.count;
       current = sym start_laws.current;
       retired = sym start_laws.retired;
       many = many;
       each = λ s there. subst (IsKnownRefined [] s)
-          (sym (get_or-replicate n s first_record unknown_switch_record (omega arith))) (known_first s);
+          (sym (get_or-replicate n s first_update_record unknown_update_record (omega arith))) (known_first s);
     }
 
 -- ---- what acts write, one part after another
@@ -184,7 +184,7 @@ written_append journal (act ∷ xs) ys =
 pub written_in_two : (journal : List Item) (a b : List Item → List Item) (xs ys : List Act)
     → let one = journal ++ a journal in
     refined_acts_written journal xs ≡ a journal → refined_acts_written one ys ≡ b one
-    → refined_acts_written journal (xs ++ ys) ≡ in_turn (a ∷ b ∷ []) journal
+    → refined_acts_written journal (xs ++ ys) ≡ machine_blocks_in_turn (a ∷ b ∷ []) journal
 written_in_two journal a b xs ys first second =
     cc (written_append journal xs ys, first, second, append-nil (b (journal ++ a journal)))
 
@@ -192,7 +192,7 @@ pub written_in_three : (journal : List Item) (a b c : List Item → List Item)
     (xs ys zs : List Act) → let one = journal ++ a journal in let two = one ++ b one in
     refined_acts_written journal xs ≡ a journal → refined_acts_written one ys ≡ b one → refined_acts_written two zs
     ≡ c two
-    → refined_acts_written journal (xs ++ ys ++ zs) ≡ in_turn (a ∷ b ∷ c ∷ []) journal
+    → refined_acts_written journal (xs ++ ys ++ zs) ≡ machine_blocks_in_turn (a ∷ b ∷ c ∷ []) journal
 written_in_three journal a b c xs ys zs first second third =
     let one : List Item = journal ++ a journal in
     ap (refined_acts_written journal) (append_assoc xs ys zs) ∙ written_append journal xs (ys ++ zs)
@@ -201,7 +201,7 @@ written_in_three journal a b c xs ys zs first second third =
 
 -- messages are sent
 pub posted : (messages : List Message) (journal : List Item)
-    → refined_acts_written journal (map Post messages) ≡ send_items journal messages
+    → refined_acts_written journal (map Post messages) ≡ machine_send_items journal messages
 unfolding machine_sent_items_from
 posted [] journal = refl
 posted (message ∷ messages) journal = let next : Item = Item.Sent (journal_next_message journal) message in

@@ -1,12 +1,12 @@
 -- Links change after the first items of a step: what is sent about that, and the parts after it.
 use Rattle.std.proofs.Common.{[], ◌++◌, ◌+◌, ◌-◌, ◌<◌, ◌==◌, ◌^◌, ◌∙◌, ◌∷◌, ◌≡◌, All, Bool, IsFalse, List, ap, append_assoc, arith, eq-eqb, eqb-true, false, filter, get_or, get_or-set_other, get_or-set_same, length, length-set, map, refl, set, subst, sym, true, ℕ}
 use Rattle.base.proofs.Exports.{flat_map, has_mask}
-use Rattle.message_bag.specs.Exports.{Post, new_post}
+use Rattle.message_bag.specs.Exports.{Post, new_bag_post}
 use Rattle.control_laws.proofs.Exports.{caused_known, fit_in_room, have_front, serving_known}
 use Rattle.control_laws.specs.Exports.{HasControlItemCause, ControlNumbersFit, control_asks_controller}
 use Rattle.controller.specs.declared.sends.Act.{Act}
 use Rattle.controller.specs.declared.sends.Act.TheVariants.{Post as PostAct}
-use Rattle.update_machine.specs.Exports.{HasRoom, JournalItemsHaveCauses, Item, Message, Setting, Step, count_of, journal_usable_links_changed, is_packet, journal_link_changes, machine_messages_of, near, own_advert, piece, machine_sent_items_from, setting_switches_of}
+use Rattle.update_machine.specs.Exports.{MachineJournalHasRoom, JournalItemsHaveCauses, Item, Message, Setting, Step, machine_count_of, journal_usable_links_changed, is_machine_packet_entry, journal_link_changes, machine_messages_of, near, own_advert, piece, machine_sent_items_from, machine_switches_of}
 use Rattle.refinement.specs.Exports.{RefineUpLinks, RefineUsableLinks, HasRefinedNextSeq, IsRefinedBagOf, RefinementLeavesSwitch, RefinedNetworkState, RefineJournal, refined_flight_in, refined_relinked_switch, refined_switch_of, refined_up_links}
 use Rattle.refinement.proofs.RefinedSteps.{controller_stays, flight_stays, reached_known, reached_more, refines_taken}
 use Rattle.refinement.proofs.RefinedPacketFacts.{NoneName, none_more}
@@ -17,9 +17,9 @@ use Rattle.steps.specs.Exports.{IsStep}
 use Rattle.switch_core.specs.Exports.{SwitchValue, switch_next_advert}
 use Rattle.refinement.proofs.RefinedSwitchKnowledge.{requirements_hold}
 use Rattle.refinement.proofs.RefinedSwitchLinks.{links_refine}
-use Rattle.travelling.specs.Travelling.{Flights, flight}
+use Rattle.travelling.specs.Travelling.{TravellingFlights, flight}
 use Rattle.update_machine.proofs.Exports.{count_of_append}
-use Rattle.world_log.specs.Exports.{AreLogSwitchesRelinked, LogMaySend, log_act_items, log_act_posts, all_adverts_sent, logged_near_all}
+use Rattle.world_log.specs.Exports.{AreLogSwitchesRelinked, LogMaySend, log_act_items, log_act_posts, log_all_adverts_sent, logged_near_all}
 use Rattle.world_log.proofs.LogMessages.{posts_as_acts, sent_as_acts}
 use Rattle.refinement.proofs.RefinedActs.{acts_bring_none, acts_leave, acts_posted, acts_send, acts_unnamed, links_left, may_note, may_send}
 use Rattle.refinement.proofs.RefinedRelinking.{CanRelink, near_now, switches_now, told_now, up_ends}
@@ -43,7 +43,7 @@ module _ {setting : Setting} {journal : List Item} {state : RefinedNetworkState}
   next_left room q below =
       let fit : ControlNumbersFit setting journal = subst (ControlNumbersFit setting)
       (sym refines.reached.written) (fit_in_room setting refines.reached.steps refines.sound.net
-      (subst HasRoom refines.reached.written (omega (arith, refines.bag.many, room)))) in
+      (subst MachineJournalHasRoom refines.reached.written (omega (arith, refines.bag.many, room)))) in
       requirements_hold.near_changed setting journal q fit (omega (arith, below, refines.many))
 
   pub numbers_left : length state.posts < 990_000
@@ -127,7 +127,7 @@ pub record LinksChange (setting : Setting) (journal : List Item) (row : ℕ) (st
   pub piece_is : piece setting journal row step ≡ Item.Row row step
       ∷ first ++ journal_link_changes setting journal (journal ++ Item.Row row step ∷ first)
   pub not_told : IsFalse (control_asks_controller journal step)
-  pub none_come : count_of is_packet (Item.Row row step ∷ first) ≡ 0
+  pub none_come : machine_count_of is_machine_packet_entry (Item.Row row step ∷ first) ≡ 0
   pub as_many : length others ≡ length state.switches
   pub number : length posts ≡ length state.posts
   pub bag : IsRefinedBagOf (journal ++ Item.Row row step ∷ first) posts
@@ -142,11 +142,11 @@ pub record LinksChange (setting : Setting) (journal : List Item) (row : ℕ) (st
 
 -- the state behind it, where these are the switches then, and the packets on their way
 abbrev pub relinked_state : RefinedNetworkState → List SwitchValue → List ℕ → List Post
-    → List SwitchValue → Flights → RefinedNetworkState
+    → List SwitchValue → TravellingFlights → RefinedNetworkState
 relinked_state state others links posts later after = record state {
   switches = later;
   travelling = after;
-  posts = posts ++ map new_post (all_adverts_sent state.near (logged_near_all links others) others);
+  posts = posts ++ map new_bag_post (log_all_adverts_sent state.near (logged_near_all links others) others);
   links = links;
   near = logged_near_all links others;
 }
@@ -162,7 +162,7 @@ module _ {setting : Setting} {journal : List Item} {row : ℕ} {step : Step} {fi
   any = refined_switch_of setting journal 0
 
   abbrev messages : List Message
-  messages = all_adverts_sent state.near (logged_near_all links others) others
+  messages = log_all_adverts_sent state.near (logged_near_all links others) others
 
   abbrev acts : List Act
   acts = map PostAct messages
@@ -189,19 +189,19 @@ module _ {setting : Setting} {journal : List Item} {row : ℕ} {step : Step} {fi
   changes_are : journal_link_changes setting journal now ≡ machine_sent_items_from number messages
   unfolding journal_link_changes
   changes_are = ap (λ k. machine_sent_items_from k (flat_map (machine_messages_of setting journal now)
-      (filter (journal_usable_links_changed setting journal now) (setting_switches_of setting))))
+      (filter (journal_usable_links_changed setting journal now) (machine_switches_of setting))))
       (changes.bag.many ∙ ap (λ k. k + 1) changes.number)
       ∙ ap (machine_sent_items_from number) (sym (told_now setting journal now links state.near others any can))
 
   pub change_piece : piece setting journal row step ≡ Item.Row row step ∷ first ++ machine_sent_items_from
-      (length state.posts + 1) (all_adverts_sent state.near (logged_near_all links others) others)
+      (length state.posts + 1) (log_all_adverts_sent state.near (logged_near_all links others) others)
   change_piece = changes.piece_is ∙ ap (λ items. Item.Row row step ∷ first ++ items) changes_are
 
   acts_piece : piece setting journal row step ≡ Item.Row row step ∷ first ++ log_act_items number acts
   acts_piece = cc (change_piece, sent_as_acts number messages)
 
   pub change_may : length state.posts < 990_000
-      → LogMaySend posts (all_adverts_sent state.near (logged_near_all links others) others)
+      → LogMaySend posts (log_all_adverts_sent state.near (logged_near_all links others) others)
   change_may room = may_send posts messages
       (may_note refines row step first posts acts changes.may acts_piece changes.number room)
 
@@ -220,17 +220,17 @@ module _ {setting : Setting} {journal : List Item} {row : ℕ} {step : Step} {fi
   pub unmoved : ((i : ℕ) → NoneName i (Item.Row row step ∷ first)) → (i : ℕ)
       → flight state.travelling i ≡ refined_flight_in setting (journal ++ (Item.Row row step ∷ first
       ++ log_act_items (length state.posts + 1)
-      (map PostAct (all_adverts_sent state.near (logged_near_all links others) others)))) i
+      (map PostAct (log_all_adverts_sent state.near (logged_near_all links others) others)))) i
   unmoved none i = refines.packet i ∙ sym (flight_stays setting journal all i
       (reached_known setting journal refines.sound refines.reached) (none_more i
       (Item.Row row step ∷ first) (log_act_items number acts) (none i) (acts_unnamed i number acts)))
 
-  pub change_refines : (later : List SwitchValue) (after : Flights) → AreLogSwitchesRelinked state.near
+  pub change_refines : (later : List SwitchValue) (after : TravellingFlights) → AreLogSwitchesRelinked state.near
       (logged_near_all links others) others later → ((i : ℕ) → flight after i
       ≡ refined_flight_in setting (journal ++ (Item.Row row step ∷ first ++ log_act_items (length state.posts
-      + 1) (map PostAct (all_adverts_sent state.near (logged_near_all links others) others)))) i)
+      + 1) (map PostAct (log_all_adverts_sent state.near (logged_near_all links others) others)))) i)
       → RefineJournal setting (journal ++ (Item.Row row step ∷ first ++ machine_sent_items_from
-      (length state.posts + 1) (all_adverts_sent state.near (logged_near_all links others) others)))
+      (length state.posts + 1) (log_all_adverts_sent state.near (logged_near_all links others) others)))
       (relinked_state state others links posts later after)
   change_refines later after are travels =
       let left = links_left setting now number acts links (logged_near_all links others) changes.up
@@ -238,7 +238,7 @@ module _ {setting : Setting} {journal : List Item} {row : ℕ} {step : Step} {fi
       let with : List Post → RefinedNetworkState = λ more.
       record (relinked_state state others links posts later after) { posts = posts ++ more } in
       subst (λ rest. RefineJournal setting (journal ++ (Item.Row row step ∷ first ++ rest))
-      (with (map new_post messages))) (sent_as_acts number messages)
+      (with (map new_bag_post messages))) (sent_as_acts number messages)
       (subst (λ more. RefineJournal setting (journal ++ all) (with more)) (posts_as_acts messages)
       (refines_taken refines (with (log_act_posts acts)) row step items (record {
         may = changes.may;
@@ -250,7 +250,7 @@ module _ {setting : Setting} {journal : List Item} {row : ℕ} {step : Step} {fi
         travels = travels;
         counted = omega (
           arith,
-          count_of_append is_packet (Item.Row row step ∷ first) (log_act_items number acts),
+          count_of_append is_machine_packet_entry (Item.Row row step ∷ first) (log_act_items number acts),
           changes.none_come,
           acts_bring_none number acts,
         );

@@ -2,17 +2,17 @@
 -- what the parts are behind it.
 use Rattle.std.proofs.Common.{[], if◌then◌else◌, ◌&&◌, ◌++◌, ◌+◌, ◌<◌, ◌==◌, ◌^◌, ◌||◌, ◌∙◌, ◌∷◌, ◌≡◌, Bool, List, None, Option, Some, ap, append_assoc, arith, eqb-true, false, get_or, length, max, min, refl, sym, true, unwrap_or, ℕ}
 use Rattle.base.proofs.Exports.{and_parts, any_filter_by, beq, has_mask, mask_of_is, nat_tests, option_or}
-use Rattle.update_machine.specs.Exports.{Item, LinkRow, Message, Net, Setting, Step, item_concerns_calls, gives_journal_link, is_link_up_in_journal, journal_items_then, journal_last_given, journal_link_changes, machine_link_items, near, nothing, piece, machine_sent_items_from}
+use Rattle.update_machine.specs.Exports.{Item, LinkRow, Message, Net, Setting, Step, machine_item_concerns_calls, gives_journal_link, is_link_up_in_journal, journal_items_then, journal_last_given, journal_link_changes, machine_link_items, near, nothing, piece, machine_sent_items_from}
 use Rattle.base.specs.Exports.{has}
-use Rattle.net_file.specs.Exports.{are_linked_in_net, joins}
+use Rattle.net_file.specs.Exports.{are_linked_in_net, net_link_joins}
 use Rattle.net_file.proofs.NetFileRowPlaces.{links as link_laws}
 use Rattle.control_laws.specs.Exports.{control_asks_controller}
-use Rattle.steps.specs.Exports.{HasLink, IsStep}
+use Rattle.steps.specs.Exports.{StepLinkExists, IsStep}
 use Rattle.switch_core.specs.Exports.{SwitchValue, switch_next_advert}
-use Rattle.refinement.specs.Exports.{RefinementLeavesSwitch, RefinedNetworkState, RefineJournal, is_refined_up_link, link_step, refined_relinked_switch, refined_up_links}
+use Rattle.refinement.specs.Exports.{RefinementLeavesSwitch, RefinedNetworkState, RefineJournal, is_refined_up_link, refined_link_step, refined_relinked_switch, refined_up_links}
 use Rattle.refinement.proofs.RefinedSwitchLinks.{links_refine}
 use Rattle.update_machine.proofs.Exports.{last_given_append}
-use Rattle.world_log.specs.Exports.{AreLogSwitchesRelinked, LogMaySend, LogSetsLink, all_adverts_sent, logged_near_all}
+use Rattle.world_log.specs.Exports.{AreLogSwitchesRelinked, LogMaySend, LogSetsLink, log_all_adverts_sent, logged_near_all}
 use Rattle.refinement.proofs.RefinedBagDeliveries.{nothing_happens}
 use Rattle.refinement.proofs.RefinedSteps.{WroteOne}
 use Rattle.refinement.proofs.RefinedPostedFrames.{bag_on}
@@ -21,7 +21,7 @@ use Rattle.refinement.proofs.RefinedLinkChanges.{relinked_state, LinksChange, ch
 -- ---- links that are up
 
 -- a link that joins two switches is theirs
-joined_up : (journal : List Item) (s k : ℕ) (link : LinkRow) → joins s k link ≡ true
+joined_up : (journal : List Item) (s k : ℕ) (link : LinkRow) → net_link_joins s k link ≡ true
     → is_refined_up_link journal link ≡ is_link_up_in_journal journal s k
 unfolding is_link_up_in_journal
 joined_up journal s k link joined = by_order (link.one == s && link.two == k) refl joined where
@@ -44,18 +44,18 @@ joined_up journal s k link joined = by_order (link.one == s && link.two == k) re
 up_linked : (setting : Setting) (journal : List Item) (s k : ℕ)
     → are_linked_in_net (refined_up_links setting journal) s k
     ≡ (are_linked_in_net setting.net.links s k && is_link_up_in_journal journal s k)
-up_linked setting journal s k = any_filter_by (joins s k) (is_refined_up_link journal)
+up_linked setting journal s k = any_filter_by (net_link_joins s k) (is_refined_up_link journal)
     (is_link_up_in_journal journal s k) (joined_up journal s k) setting.net.links
 
 -- the lower and the higher switch are those of the link
 same_ends : (one two s k : ℕ) → (min one two == min s k && max one two == max s k)
-    ≡ joins s k (record { one = one; two = two })
+    ≡ net_link_joins s k (record { one = one; two = two })
 same_ends one two s k = grind (arith, nat_tests)
 
 -- after the item that reports it, the link is as that says, and others are as before
 up_behind : (journal : List Item) (row : ℕ) (step : Step) (one two s k : ℕ) (up : Bool)
     → is_link_up_in_journal (journal ++ Item.Row row step ∷ Item.LinkIs (min one two) (max one two) up ∷ [])
-    s k ≡ (if joins s k (record { one = one; two = two }) then up else is_link_up_in_journal journal s k)
+    s k ≡ (if net_link_joins s k (record { one = one; two = two }) then up else is_link_up_in_journal journal s k)
 unfolding is_link_up_in_journal
 up_behind journal row step one two s k up =
     let tells : Item → Option Bool = gives_journal_link (min s k) (max s k) in
@@ -63,7 +63,7 @@ up_behind journal row step one two s k up =
     (Item.Row row step ∷ Item.LinkIs (min one two) (max one two) up ∷ []))
     ∙ ap (λ b. unwrap_or (option_or (option_or (if b then Some up else None) None)
     (journal_last_given tells journal)) true) (same_ends one two s k)
-    ∙ by_test (joins s k (record { one = one; two = two })) (journal_last_given tells journal)
+    ∙ by_test (net_link_joins s k (record { one = one; two = two })) (journal_last_given tells journal)
   where
     by_test : (b : Bool) (was : Option Bool)
         → unwrap_or (option_or (option_or (if b then Some up else None) None) was) true
@@ -74,25 +74,25 @@ up_behind journal row step one two s k up =
 -- ---- the step
 
 -- it names a link of the network
-row_link : (net : Net) (files one two : ℕ) (up : Bool) → IsStep net files (link_step up one two)
-    → HasLink net one two
+row_link : (net : Net) (files one two : ℕ) (up : Bool) → IsStep net files (refined_link_step up one two)
+    → StepLinkExists net one two
 row_link net files one two true own = own
 row_link net files one two false own = own
 
 -- no call of a switch is made, and the controller isn't told
 uncalled : (journal : List Item) (q row one two : ℕ) (up : Bool)
-    → item_concerns_calls q journal (Item.Row row (link_step up one two)) ≡ false
+    → machine_item_concerns_calls q journal (Item.Row row (refined_link_step up one two)) ≡ false
 uncalled journal q row one two true = refl
 uncalled journal q row one two false = refl
 
 untold : (journal : List Item) (one two : ℕ) (up : Bool)
-    → control_asks_controller journal (link_step up one two) ≡ false
+    → control_asks_controller journal (refined_link_step up one two) ≡ false
 untold journal one two true = refl
 untold journal one two false = refl
 
 link_piece : (setting : Setting) (journal : List Item) (row one two : ℕ) (up : Bool)
-    → piece setting journal row (link_step up one two) ≡ Item.Row row (link_step up one two)
-    ∷ machine_link_items setting journal one two up (journal ++ Item.Row row (link_step up one two) ∷ [])
+    → piece setting journal row (refined_link_step up one two) ≡ Item.Row row (refined_link_step up one two)
+    ∷ machine_link_items setting journal one two up (journal ++ Item.Row row (refined_link_step up one two) ∷ [])
 unfolding piece
 link_piece setting journal row one two true = refl
 link_piece setting journal row one two false = refl
@@ -124,17 +124,17 @@ other_items setting before journal one two up other = cc other
 
 module _ {setting : Setting} {journal : List Item} {state : RefinedNetworkState}
     (refines : RefineJournal setting journal state) (row one two : ℕ) (up : Bool)
-    (may : IsStep setting.net (length setting.files) (link_step up one two)) where
+    (may : IsStep setting.net (length setting.files) (refined_link_step up one two)) where
   abbrev step : Step
-  step = link_step up one two
+  step = refined_link_step up one two
 
-  linked : HasLink setting.net one two
+  linked : StepLinkExists setting.net one two
   linked = row_link setting.net (length setting.files) one two up may
 
   -- its ends are switches
   pub ends_below : (one < 64) × (two < 64)
   ends_below =
-      let back : HasLink setting.net two one =
+      let back : StepLinkExists setting.net two one =
       link_laws.both_ways setting.net.links two one ∙ linked in (
         omega (
           arith,
@@ -196,7 +196,7 @@ module _ {setting : Setting} {journal : List Item} {state : RefinedNetworkState}
     }
 
     -- the switches that the link joins have one
-    joined : (s k : ℕ) → joins s k link ≡ true → are_linked_in_net setting.net.links s k ≡ true
+    joined : (s k : ℕ) → net_link_joins s k link ≡ true → are_linked_in_net setting.net.links s k ≡ true
     joined s k is = by_order (one == s && two == k) refl is where
       by_order : (b : Bool) → (one == s && two == k) ≡ b
           → (b || (one == k && two == s)) ≡ true → are_linked_in_net setting.net.links s k ≡ true
@@ -219,9 +219,9 @@ module _ {setting : Setting} {journal : List Item} {state : RefinedNetworkState}
     up_now : (s k : ℕ) → s < 64 → k < 64
         → has (get_or links s 0) k ≡ are_linked_in_net (refined_up_links setting now) s k
     up_now s k small below = sets s k small below
-        ∙ ap (λ b. if joins s k link then up else b) (ap (λ mask. has mask k) (refines.up s small)
+        ∙ ap (λ b. if net_link_joins s k link then up else b) (ap (λ mask. has mask k) (refines.up s small)
         ∙ has_mask (are_linked_in_net (refined_up_links setting journal) s) k below
-        ∙ up_linked setting journal s k) ∙ by_end (joins s k link)
+        ∙ up_linked setting journal s k) ∙ by_end (net_link_joins s k link)
         (are_linked_in_net setting.net.links s k) (is_link_up_in_journal journal s k) (joined s k)
         ∙ ap (λ b. are_linked_in_net setting.net.links s k && b)
         (sym (up_behind journal row step one two s k up)) ∙ sym (up_linked setting now s k)
@@ -244,7 +244,7 @@ module _ {setting : Setting} {journal : List Item} {state : RefinedNetworkState}
     }
 
     abbrev messages : List Message
-    messages = all_adverts_sent state.near (logged_near_all links state.switches) state.switches
+    messages = log_all_adverts_sent state.near (logged_near_all links state.switches) state.switches
 
     pub set_piece : piece setting journal row step
         ≡ Item.Row row step ∷ first ∷ machine_sent_items_from (length state.posts + 1) messages

@@ -1,14 +1,14 @@
 -- A packet on its way at its switch: what a hop writes, and what becomes of the packet.
 use Rattle.std.proofs.Common.{[], ◌++◌, ◌+◌, ◌∙◌, ◌∷◌, ◌≡◌, Bool, IsTrue, List, None, Option, Some, ap, false, nat_eq, option_map, refl, rules, slice_get, subst, sym, true, unwrap_or, ℕ}
 use Rattle.base.proofs.Exports.{list_any}
-use Rattle.failover.specs.Exports.{route_of, with_link}
-use Rattle.update_machine.specs.Exports.{Cause, Exit, JournalItemsHaveCauses, Header, Hop, Item, Leg, Ports, Seek, Setting, machine_arrive_items, journal_stuck_cause_at, journal_found_down, go_on, journal_items_then, journal_leg_of, machine_move_items, near, journal_next_message, journal_next_switch, no_switch, owner, journal_reroute_by, machine_reroute_items, journal_packet_route, journal_route_from, serves, journal_hop_stays_on_way, machine_stuck_on_leg_item, journal_leg_targets}
+use Rattle.failover.specs.Exports.{route_of, with_failover_link}
+use Rattle.update_machine.specs.Exports.{Cause, Exit, JournalItemsHaveCauses, Header, Hop, Item, Leg, Ports, Seek, Setting, machine_arrive_items, journal_stuck_cause_at, journal_found_down, machine_onward_items, journal_items_then, journal_leg_of, machine_move_items, near, journal_next_message, journal_next_switch, machine_no_switch, owner, journal_reroute_by, machine_reroute_items, journal_packet_route, journal_route_from, serves, journal_hop_stays_on_way, machine_stuck_on_leg_item, journal_leg_targets}
 use Rattle.base.specs.Exports.{has}
 use Rattle.net_file.specs.Exports.{AreNetPortOwners}
-use Rattle.switch_core.specs.Exports.{SwitchArrival, Moved, SwitchValue, around, switch_arrival_on_leg, switch_call_counted, switch_stuck_cause, switch_hop_answer, switch_hopped_to, switch_found_link_down as found_by, switch_move_answer, switch_moved_along_route, received, switch_rerouted_here}
+use Rattle.switch_core.specs.Exports.{SwitchArrival, SwitchPacketMoved, SwitchValue, switch_site_around, switch_arrival_on_leg, switch_call_counted, switch_stuck_cause, switch_hop_answer, switch_hopped_to, switch_found_link_down as found_by, switch_move_answer, switch_moved_along_route, switch_received, switch_rerouted_here}
 use Rattle.switch_core.specs.declared.tunnel_calls.HopEnd.{HopEnd}
 use Rattle.switch_core.specs.declared.tunnel_calls.Packet.{Packet}
-use Rattle.switch_table.specs.Exports.{Hosted}
+use Rattle.switch_table.specs.Exports.{HostedPolicyPartition}
 use Rattle.tunnel.specs.Exports.{TunnelValue, here, next}
 use Rattle.update_machine.proofs.Exports.{have_append, messages_keep, switch_keeps}
 use Rattle.control_laws.specs.Exports.{HasControlItemCause}
@@ -16,7 +16,7 @@ use Rattle.control_laws.proofs.Exports.{own}
 use Rattle.packet_laws.specs.Exports.{IsPacketOnLeg, PacketFacts, packet_stage_of, packet_facts_of}
 use Rattle.packet_laws.proofs.Exports.{IsWay, Knows, facts_grow, found_in, knows, last_here, next_in, one_target, route_way}
 use Rattle.world_log.specs.Exports.{log_arrival, log_arrival_items, log_arrived_items, log_ended_flight, log_ended_items, log_hop_flight, log_hop_written, log_turned_items}
-use Rattle.travelling.specs.Travelling.{Flight, traveller_standing_at, Standing}
+use Rattle.travelling.specs.Travelling.{TravellingFlight, traveller_standing_at, TravellingStanding}
 use Rattle.refinement.proofs.RefinedArrivals.{IsAtEnd, arrival_goes, arrive_comes, arrive_law, at_end_on, end_of_route, ours_of}
 use Rattle.refinement.proofs.RefinedOnwardPackets.{AreOfFacts}
 use Rattle.refinement.proofs.RefinedSteps.{before_of}
@@ -81,12 +81,12 @@ module _ (setting : Setting) (journal : List Item) (row i s : ℕ) (header : Hea
   targets = journal_leg_targets setting journal
 
   abbrev down : ℕ → List ℕ
-  down two = with_link facts.found s two
+  down two = with_failover_link facts.found s two
 
-  abbrev at_place : List ℕ → ℕ → List ℕ → Flight
+  abbrev at_place : List ℕ → ℕ → List ℕ → TravellingFlight
   at_place route k found = on_route_of targets i facts header ingress leg route k found
 
-  abbrev t : Flight
+  abbrev t : TravellingFlight
   t = at_place facts.route facts.hops facts.found
 
   abbrev number : ℕ
@@ -189,10 +189,10 @@ module _ (setting : Setting) (journal : List Item) (row i s : ℕ) (header : Hea
       → Stays now → AreNow now ws found → IsAtEnd setting now s header leg
       → machine_arrive_items setting i s now
       ≡ log_arrival_items number (switch_call_counted w) mask ports (at_place route k found)
-  unfolding log_arrival_items received
+  unfolding log_arrival_items switch_received
   arrival_is now ws route k found stays are end =
-      let u : Flight = at_place route k found in
-      let what : SwitchArrival = switch_arrival_on_leg (switch_call_counted w) (around mask ports) (packet found) leg in
+      let u : TravellingFlight = at_place route k found in
+      let what : SwitchArrival = switch_arrival_on_leg (switch_call_counted w) (switch_site_around mask ports) (packet found) leg in
       arrive_law setting now s (switch_call_counted w) mask ports (packet found)
       (asked_now now ws found stays are) u leg
       (subst (AreOfFacts t.version t.rule) (sym are.same) (of_now now ws found are))
@@ -206,11 +206,11 @@ module _ (setting : Setting) (journal : List Item) (row i s : ℕ) (header : Hea
       → log_arrival (switch_call_counted w) mask ports (at_place route k found)
       ≡ flight_by targets i (facts_along i now
       (log_arrival_items number (switch_call_counted w) mask ports (at_place route k found)) ws)
-  unfolding log_arrival log_arrival_items received
+  unfolding log_arrival log_arrival_items switch_received
   arrival_goes_on now ws route k found stays are =
-      let u : Flight = at_place route k found in
-      let what : SwitchArrival = switch_arrival_on_leg (switch_call_counted w) (around mask ports) (packet found) leg in
-      let at : Standing = at_switch s (packet found) in
+      let u : TravellingFlight = at_place route k found in
+      let what : SwitchArrival = switch_arrival_on_leg (switch_call_counted w) (switch_site_around mask ports) (packet found) leg in
+      let at : TravellingStanding = at_switch s (packet found) in
       arrival_goes (journal_leg_targets setting now) now number at u what ws
       (record { on = are.on; header = are.entered; came = are.came; found = are.marked })
       (of_now now ws found are)
@@ -225,21 +225,21 @@ module _ (setting : Setting) (journal : List Item) (row i s : ℕ) (header : Hea
   arrival_stays : (route : List ℕ) (k : ℕ) (found : List ℕ)
       → journal_hop_stays_on_way (log_arrival_items number (switch_call_counted w) mask ports (at_place route k found)) ≡ false
   unfolding log_arrival_items
-  arrival_stays route k found = let u : Flight = at_place route k found in
+  arrival_stays route k found = let u : TravellingFlight = at_place route k found in
       arrived_still number (traveller_standing_at (switch_call_counted w).number u) u
-      (received (switch_call_counted w) (around mask ports) u.tunnel)
+      (switch_received (switch_call_counted w) (switch_site_around mask ports) u.tunnel)
 
   -- ---- what a hop comes to
 
-  abbrev moved_to : Moved → Flight
+  abbrev moved_to : SwitchPacketMoved → TravellingFlight
   moved_to m = record t { tunnel = m.tunnel }
 
-  abbrev written : ℕ → Option ℕ → Moved → List Item
+  abbrev written : ℕ → Option ℕ → SwitchPacketMoved → List Item
   written at found m = log_turned_items i at found m.end m.tunnel.route
       ++ log_ended_items number (switch_call_counted w) mask ports (moved_to m) m.end
 
   -- what it writes, where the packet is then, and how many calls it is
-  abbrev Outcome : ℕ → Option ℕ → Moved → Type 0
+  abbrev Outcome : ℕ → Option ℕ → SwitchPacketMoved → Type 0
   Outcome at found m = (machine_move_items setting i s begun ≡ written at found m)
       × (log_ended_flight (switch_call_counted w) mask ports (moved_to m) m.end
       ≡ flight_by targets i (facts_along i begun (written at found m) facts))
@@ -309,9 +309,9 @@ module _ (setting : Setting) (journal : List Item) (row i s : ℕ) (header : Hea
       → switch_hop_answer w mask t.tunnel ≡ switch_moved_along_route w mask (tunnel_down two) (route_down two leg)
   unfolding switch_hop_answer switch_rerouted_here
   blocked_is two goes off =
-      let along : ℕ → ℕ → Moved = λ n k. switch_moved_along_route w mask
-      (tunnel_on targets i header ingress leg facts.route facts.hops (with_link facts.found n two))
-      (route_of w.database k (targets leg) mask (with_link facts.found n two)) in
+      let along : ℕ → ℕ → SwitchPacketMoved = λ n k. switch_moved_along_route w mask
+      (tunnel_on targets i header ingress leg facts.route facts.hops (with_failover_link facts.found n two))
+      (route_of w.database k (targets leg) mask (with_failover_link facts.found n two)) in
       ap (switch_hopped_to w mask t.tunnel) (found_is two goes off)
       ∙ ap (λ n. along n n) here_is
       ∙ ap (along s) (sym hops.sees.number)
@@ -328,7 +328,7 @@ module _ (setting : Setting) (journal : List Item) (row i s : ℕ) (header : Hea
   abbrev reroute_by_route : ℕ → Option (List ℕ) → List Item
   reroute_by_route two o = elim o [
     | None ↦ machine_stuck_on_leg_item setting (met two) i s leg ∷ []
-    | Some route ↦ journal_items_then (Item.Rerouted i route ∷ []) (go_on setting i s) (met two)
+    | Some route ↦ journal_items_then (Item.Rerouted i route ∷ []) (machine_onward_items setting i s) (met two)
   ]
 
   reroutes : (two : ℕ) (o : Option (List ℕ)) → route_down two leg ≡ o
@@ -394,7 +394,7 @@ module _ (setting : Setting) (journal : List Item) (row i s : ℕ) (header : Hea
   ends_there two route (Exit port) on is last =
       let way = route_way setting journal s (targets (Exit port)) (down two) route links_there.links
       (sym (hops.sees.route (targets (Exit port)) (down two)) ∙ is) in
-      on.has_port ∙ ap Some (sym (ap (λ o. unwrap_or o no_switch) on.has_port)
+      on.has_port ∙ ap Some (sym (ap (λ o. unwrap_or o machine_no_switch) on.has_port)
       ∙ sym (one_target way.leads.ends.target (owner setting port) way.leads.ends.own)
       ∙ sym (last_here route 0 s way.leads.ends.target way.begins last way.leads.ends.last))
   ends_there two route (Seek version partition) on is last =
@@ -404,7 +404,7 @@ module _ (setting : Setting) (journal : List Item) (row i s : ℕ) (header : Hea
       ours_of setting journal s facts header version partition hops.stands.knows
       hops.stands.sound on
       (subst (λ all. IsTrue (list_any (nat_eq s) all))
-      (ap (λ (o : Option Hosted). unwrap_or (option_map (λ p. p.1) o) []) on.own.found)
+      (ap (λ (o : Option HostedPolicyPartition). unwrap_or (option_map (λ p. p.1) o) []) on.own.found)
       (subst (λ k. IsTrue (list_any (nat_eq k) (targets (Seek version partition))))
       (sym (last_here route 0 s way.leads.ends.target way.begins last way.leads.ends.last))
       way.leads.ends.own))
@@ -449,7 +449,7 @@ module _ (setting : Setting) (journal : List Item) (row i s : ℕ) (header : Hea
     by_next None last = arrives_there two route goes off is last
     by_next (Some other) on = detours two route other goes off is on
 
-  by_outcome : (found : Option ℕ) (m : Moved) → found_by mask (next t.tunnel) ≡ found
+  by_outcome : (found : Option ℕ) (m : SwitchPacketMoved) → found_by mask (next t.tunnel) ≡ found
       → switch_hop_answer w mask t.tunnel ≡ m → Outcome s found m
       → Outcome w.number (found_by mask (next t.tunnel)) (switch_hop_answer w mask t.tunnel)
   by_outcome found m found_it moved_it outcome =
@@ -485,8 +485,8 @@ module _ (setting : Setting) (journal : List Item) (row i s : ℕ) (header : Hea
       (packet_facts_of journal i)
       header ingress leg).tunnel).end ≡ HopEnd.Arrive → IsAtEnd setting journal s header leg
   arrives_at_end arrive = by_next (next t.tunnel) refl where
-    ended : (m : Moved) → switch_hop_answer w mask t.tunnel ≡ m → m.end ≡ HopEnd.Arrive
-    ended m is = ap (λ (m : Moved). m.end) (sym is) ∙ arrive
+    ended : (m : SwitchPacketMoved) → switch_hop_answer w mask t.tunnel ≡ m → m.end ≡ HopEnd.Arrive
+    ended m is = ap (λ (m : SwitchPacketMoved). m.end) (sym is) ∙ arrive
 
     by_link : (two : ℕ) (b : Bool) → next t.tunnel ≡ Some two → has mask two ≡ b
         → IsAtEnd setting journal s header leg

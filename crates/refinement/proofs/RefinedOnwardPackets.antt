@@ -1,10 +1,10 @@
 -- Where a packet goes on by its switch's answer: by its port, or to the targets of its partition.
 use Rattle.std.proofs.Common.{[], ◌++◌, ◌<◌, ◌==◌, ◌∙◌, ◌∷◌, ◌≡◌, Bool, List, None, Option, Some, ap, eq-eqb, false, if◌then◌else◌, length, ok_or, option_map, refl, subst, sym, true, unwrap_or, ℕ}
 use Rattle.base.proofs.Exports.{⊤}
-use Rattle.failover.specs.Exports.{no_links, route_of}
+use Rattle.failover.specs.Exports.{no_failover_links, route_of}
 use Rattle.net_file.specs.Exports.{AreNetPortOwners, net_port_owner, owner_in_net_ports}
-use Rattle.update_machine.specs.Exports.{Action, Cause, Exit, Found, Header, Item, Partition, Ports, Rule, Seek, Setting, Step, lookup_at, machine_lookup_items, journal_next_message, no_switch, owner, machine_packet_items, journal_retired_mark, machine_sent_items_from, serves, journal_stamp_of, journal_tables_at, journal_leg_targets}
-use Rattle.switch_core.specs.Exports.{Answer, SwitchValue, admitted, switch_answer_by_found, around, by_entry, by_rule, switch_stuck_cause, switch_answer_by_rule, switch_exit_by_tunnel, switch_incoming_packet, switch_leave_by_port, looked_up, next_of, switch_core_partition_numbered, switch_core_rule_in, switch_seek_by, serves as serves_now, set_out, stamp_tables}
+use Rattle.update_machine.specs.Exports.{Action, Cause, Exit, Found, Header, Item, Partition, Ports, Rule, Seek, Setting, Step, machine_lookup_at, machine_lookup_items, journal_next_message, machine_no_switch, owner, machine_packet_items, journal_retired_mark, machine_sent_items_from, serves, journal_stamp_of, journal_tables_at, journal_leg_targets}
+use Rattle.switch_core.specs.Exports.{SwitchAnswer, SwitchValue, switch_admitted, switch_answer_by_found, switch_site_around, switch_decision_by_entry, switch_decision_by_rule, switch_stuck_cause, switch_answer_by_rule, switch_exit_by_tunnel, switch_incoming_packet, switch_leave_by_port, switch_looked_up, switch_next_of, switch_core_partition_numbered, switch_core_rule_in, switch_seek_by, serves as serves_now, switch_set_out, switch_stamp_tables}
 use Rattle.switch_core.specs.Answers as answer
 use Rattle.switch_core.specs.declared.deciding.Decision.{Decision}
 use Rattle.switch_core.specs.declared.tunnel_calls.Next.TheVariants.{Out}
@@ -13,7 +13,7 @@ use Rattle.tunnel.specs.Exports.{TunnelValue, tunnel_begun}
 use Rattle.packet_laws.specs.Exports.{IsUnknownPacket, PacketFacts, packet_facts_after, packet_facts_of}
 use Rattle.packet_laws.proofs.Exports.{FindsTargets, facts_grow, redirect_found}
 use Rattle.world_log.specs.Exports.{log_answer_flight, log_answer_items, log_cache_message, log_coming_in, log_entered_flight, log_entered_items, entry, log_message_list}
-use Rattle.travelling.specs.Travelling.{Standing}
+use Rattle.travelling.specs.Travelling.{TravellingStanding}
 use Rattle.refinement.proofs.RefinedTakenLegs.{Sees, at_switch, sees_one}
 use Rattle.refinement.proofs.RefinedAuthorityDecisions.{IsAsked, IsPacket, its_stamp, looked_law, targets_are}
 use Rattle.refinement.proofs.RefinedPacketFacts.{GoesOnward, IsSeen, Targets, decided_goes, facts_along, flight_by, sends_unnamed}
@@ -42,17 +42,17 @@ leave_goes : (setting : Setting) (journal : List Item) (s : SwitchValue) (near :
     → decision.action ≡ Action.Out port → net_port_owner setting.net.switches port ≡ its
     → GoesOnward (journal_leg_targets setting journal) (at_switch at packet) packet.ingress decision
     (switch_leave_by_port s near packet port its)
-unfolding switch_leave_by_port set_out
+unfolding switch_leave_by_port switch_set_out
 leave_goes setting journal s near packet at port decision None acts owns = tt
 leave_goes setting journal s near packet at port decision (Some its) acts owns =
     by_place (its == s.number) (exit_goes setting journal s near packet at port its decision
     (switch_stuck_cause s near packet.down (Exit port) (its ∷ [])) (route_of s.database s.number
-    (its ∷ []) near packet.down) acts (ap (λ o. unwrap_or o no_switch) owns))
+    (its ∷ []) near packet.down) acts (ap (λ o. unwrap_or o machine_no_switch) owns))
   where
     by_place : (here : Bool) → GoesOnward (journal_leg_targets setting journal) (at_switch at packet)
-        packet.ingress decision (switch_exit_by_tunnel (set_out s near packet (Exit port) (its ∷ [])))
+        packet.ingress decision (switch_exit_by_tunnel (switch_set_out s near packet (Exit port) (its ∷ [])))
         → GoesOnward (journal_leg_targets setting journal) (at_switch at packet) packet.ingress decision
-        (if here then Out port else switch_exit_by_tunnel (set_out s near packet (Exit port) (its ∷ [])))
+        (if here then Out port else switch_exit_by_tunnel (switch_set_out s near packet (Exit port) (its ∷ [])))
     by_place true goes = tt
     by_place false goes = goes
 
@@ -60,8 +60,8 @@ pub next_goes : (setting : Setting) (journal : List Item) (s : SwitchValue) (nea
     (at : ℕ) (decision : Decision) (what : Action) → AreNetPortOwners setting.net.switches ports
     → decision.action ≡ what
     → GoesOnward (journal_leg_targets setting journal) (at_switch at packet) packet.ingress decision
-    (next_of s (around near ports) packet what)
-unfolding next_of
+    (switch_next_of s (switch_site_around near ports) packet what)
+unfolding switch_next_of
 next_goes setting journal s near ports packet at decision Action.Drop owners acts = tt
 next_goes setting journal s near ports packet at decision (Action.Out port) owners acts =
     leave_goes setting journal s near packet at port decision (owner_in_net_ports ports port) acts
@@ -70,14 +70,14 @@ next_goes setting journal s near ports packet at decision (Action.Out port) owne
 -- ---- by a lookup
 
 -- a tunnel to the targets of a partition, at the beginning of its route
-pub record IsWay (targets : Targets) (at : Standing) (tunnel : TunnelValue) : Type 0 where
+pub record IsWay (targets : Targets) (at : TravellingStanding) (tunnel : TunnelValue) : Type 0 where
   pub version : ℕ
   pub partition : ℕ
   pub route : List ℕ
   pub is : tunnel ≡ tunnel_begun at.packet at.header at.ingress (Seek version partition)
       (targets (Seek version partition)) route at.down
 
-abbrev pub IsComing : Targets → Standing → Answer → Type 0
+abbrev pub IsComing : Targets → TravellingStanding → SwitchAnswer → Type 0
 IsComing targets at (answer.Decided decision cache onward) =
     GoesOnward targets at at.ingress decision onward
 IsComing targets at (answer.Seek tunnel) = IsWay targets at tunnel
@@ -100,11 +100,11 @@ seek_goes targets packet s version partition to cause (Some route) is = record {
 pub ruled_goes : (setting : Setting) (journal : List Item) (s version place : ℕ) (w : SwitchValue)
     (mask : ℕ) (ports : Ports) (packet : Packet) (part : Partition) → AreNetPortOwners setting.net.switches
     ports → IsComing (journal_leg_targets setting journal) (at_switch s packet)
-    (switch_answer_by_rule w (around mask ports) packet version part place)
+    (switch_answer_by_rule w (switch_site_around mask ports) packet version part place)
 unfolding switch_answer_by_rule
 ruled_goes setting journal s version place w mask ports packet part owners =
     let rule : Rule = switch_core_rule_in part place in
-    next_goes setting journal w mask ports packet s (by_rule w.number version part.number rule)
+    next_goes setting journal w mask ports packet s (switch_decision_by_rule w.number version part.number rule)
     rule.action owners refl
 
 module _ (setting : Setting) (journal : List Item) (s : ℕ) (w : SwitchValue) (mask : ℕ)
@@ -112,12 +112,12 @@ module _ (setting : Setting) (journal : List Item) (s : ℕ) (w : SwitchValue) (
   abbrev leads : Targets
   leads = journal_leg_targets setting journal
 
-  found_goes : (what : Found) → lookup_at setting journal s packet.header ≡ what
-      → IsComing leads (at_switch s packet) (switch_answer_by_found w (around mask ports) packet
+  found_goes : (what : Found) → machine_lookup_at setting journal s packet.header ≡ what
+      → IsComing leads (at_switch s packet) (switch_answer_by_found w (switch_site_around mask ports) packet
       (journal_tables_at setting journal (journal_stamp_of journal s) s) what)
-  unfolding switch_answer_by_found set_out
+  unfolding switch_answer_by_found switch_set_out
   found_goes (Found.Cached entry) answer =
-      next_goes setting journal w mask ports packet s (by_entry entry) entry.action asked.owners refl
+      next_goes setting journal w mask ports packet s (switch_decision_by_entry entry) entry.action asked.owners refl
   found_goes (Found.Authority partition place) answer =
       ruled_goes setting journal s (journal_stamp_of journal s) place w mask ports packet
       (switch_core_partition_numbered (journal_tables_at setting journal (journal_stamp_of journal s) s) partition) asked.owners
@@ -132,11 +132,11 @@ module _ (setting : Setting) (journal : List Item) (s : ℕ) (w : SwitchValue) (
       own.part.number own.own)
 
   pub looked_goes : IsComing (journal_leg_targets setting journal) (at_switch s packet)
-      (looked_up w (around mask ports) packet)
-  unfolding looked_up
-  looked_goes = let what : Found = lookup_at setting journal s packet.header in
+      (switch_looked_up w (switch_site_around mask ports) packet)
+  unfolding switch_looked_up
+  looked_goes = let what : Found = machine_lookup_at setting journal s packet.header in
       subst (λ f. IsComing leads (at_switch s packet)
-      (switch_answer_by_found w (around mask ports) packet (stamp_tables w) f))
+      (switch_answer_by_found w (switch_site_around mask ports) packet (switch_stamp_tables w) f))
       (sym (asked.sees.lookup packet.header asked.serving))
       (rw (asked.sees.stamped asked.serving) (found_goes what refl))
 
@@ -147,7 +147,7 @@ pub record AreOfFacts (version : ℕ) (rule : Option ℕ) (facts : PacketFacts) 
   pub its_version : version ≡ unwrap_or (option_map (λ decision. decision.version) facts.decision) 0
   pub its_rule : rule ≡ unwrap_or (option_map (λ decision. decision.rule) facts.decision) None
 
-by_way : (targets : Targets) (before : List Item) (number : ℕ) (at : Standing)
+by_way : (targets : Targets) (before : List Item) (number : ℕ) (at : TravellingStanding)
     (version partition : ℕ) (route : List ℕ) (facts : PacketFacts) → IsSeen at at.ingress facts
     → (let tunnel : TunnelValue = tunnel_begun at.packet at.header at.ingress (Seek version partition)
     (targets (Seek version partition)) route at.down in
@@ -158,8 +158,8 @@ by_way : (targets : Targets) (before : List Item) (number : ℕ) (at : Standing)
 by_way targets before number at version partition route facts seen =
     rw ((eq-eqb _ _ refl), seen.on, seen.header, seen.came, seen.found) refl
 
-pub answer_goes : (targets : Targets) (before : List Item) (number : ℕ) (at : Standing)
-    (version : ℕ) (rule : Option ℕ) (what : Answer) (facts : PacketFacts)
+pub answer_goes : (targets : Targets) (before : List Item) (number : ℕ) (at : TravellingStanding)
+    (version : ℕ) (rule : Option ℕ) (what : SwitchAnswer) (facts : PacketFacts)
     → IsSeen at at.ingress facts → AreOfFacts version rule facts → IsComing targets at what
     → log_answer_flight version rule what
     ≡ flight_by targets at.packet (facts_along at.packet before (log_answer_items number at what) facts)
@@ -178,12 +178,12 @@ answer_goes targets before number at version rule (answer.Stuck cause leg) facts
     rw (eq-eqb _ _ refl) refl
 
 -- a packet that just entered
-abbrev pub GoesIn : Targets → Standing → Option Answer → Type 0
+abbrev pub GoesIn : Targets → TravellingStanding → Option SwitchAnswer → Type 0
 GoesIn targets at None = ⊤
 GoesIn targets at (Some what) = (at.ingress ≡ at.switch) × IsComing targets at what
 
 pub entered_goes : (targets : Targets) (before : List Item)
-    (number : ℕ) (at : Standing) (what : Option Answer) (facts : PacketFacts) → IsUnknownPacket facts
+    (number : ℕ) (at : TravellingStanding) (what : Option SwitchAnswer) (facts : PacketFacts) → IsUnknownPacket facts
     → facts.found ≡ at.down → GoesIn targets at what → log_entered_flight what ≡ flight_by targets
     at.packet (facts_along at.packet before (log_entered_items number at what) facts)
 entered_goes targets before number at None facts unknown unmarked comes = rw unknown.travels refl
@@ -208,11 +208,11 @@ looking journal row taken i s header =
     journal ++ Item.Row row taken ∷ [] ++ Item.Entered i s header ∷ []
 
 abbrev pub coming : ℕ → Header → ℕ → Packet
-coming i header s = record { number = i; header = header; ingress = s; down = no_links }
+coming i header s = record { number = i; header = header; ingress = s; down = no_failover_links }
 
 -- the packet has its header there, and found no link down
 coming_packet : (journal : List Item) (row i s : ℕ) (taken : Step) (header : Header)
-    → (packet_facts_of journal i).found ≡ no_links
+    → (packet_facts_of journal i).found ≡ no_failover_links
     → IsPacket (looking journal row taken i s header) (coming i header s)
 coming_packet journal row i s taken header unmarked =
     let own : (i == i) ≡ true = eq-eqb i i refl in
@@ -232,7 +232,7 @@ pub record ComesTo (setting : Setting) (journal : List Item) (i s : ℕ) (header
   pub there : s < length setting.net.switches
   pub owners : AreNetPortOwners setting.net.switches ports
   pub sound : IsHeader header
-  pub unmarked : (packet_facts_of journal i).found ≡ no_links
+  pub unmarked : (packet_facts_of journal i).found ≡ no_failover_links
 
 module _ (setting : Setting) (journal : List Item) (row i s : ℕ) (taken : Step)
     (header : Header) (w : SwitchValue) (mask : ℕ) (ports : Ports)
@@ -277,10 +277,10 @@ module _ (setting : Setting) (journal : List Item) (row i s : ℕ) (taken : Step
   -- what its switch answers is what the journal's definitions say
   pub come_law : machine_packet_items setting i s header (journal ++ Item.Row row taken ∷ [])
       ≡ log_entered_items (journal_next_message journal) (log_coming_in i header s) (entry w mask ports i header)
-  unfolding machine_packet_items admitted
+  unfolding machine_packet_items switch_admitted
   come_law = by_serving (serves journal s) refl where
-    answer : Bool → Option Answer
-    answer b = if b then Some (looked_up w (around mask ports) packet) else None
+    answer : Bool → Option SwitchAnswer
+    answer b = if b then Some (switch_looked_up w (switch_site_around mask ports) packet) else None
 
     items : Bool → List Item
     items b = elim b [
@@ -290,25 +290,25 @@ module _ (setting : Setting) (journal : List Item) (row i s : ℕ) (taken : Step
 
     by_serving : (b : Bool) → serves journal s ≡ b → items (serves begun s)
         ≡ log_entered_items (journal_next_message journal) (log_coming_in i header s) (if serves_now w
-        then Some (looked_up w (around mask ports) (switch_incoming_packet w i header)) else None)
+        then Some (switch_looked_up w (switch_site_around mask ports) (switch_incoming_packet w i header)) else None)
     by_serving false off = cc (serving_begun, off, comes.sees.serving)
     by_serving true on = ap items (serving_begun ∙ on) ∙ ap (λ more. Item.Entered i s header
         ∷ more) (looked_law setting full s w mask ports packet (asked on) ∙ ap (λ n. log_answer_items
-        n (log_coming_in i header s) (looked_up w (around mask ports) packet)) same_number)
+        n (log_coming_in i header s) (switch_looked_up w (switch_site_around mask ports) packet)) same_number)
         ∙ ap (λ (p : Packet). log_entered_items (journal_next_message journal) (log_coming_in i header s)
-        (Some (looked_up w (around mask ports) p))) (sym same_packet)
+        (Some (switch_looked_up w (switch_site_around mask ports) p))) (sym same_packet)
         ∙ ap (λ b. log_entered_items (journal_next_message journal) (log_coming_in i header s)
-        (if b then Some (looked_up w (around mask ports) (switch_incoming_packet w i header)) else None))
+        (if b then Some (switch_looked_up w (switch_site_around mask ports) (switch_incoming_packet w i header)) else None))
         (sym (comes.sees.serving ∙ on))
 
   -- and it goes on by it
   pub come_goes : GoesIn (journal_leg_targets setting (looking journal row taken i s header))
       (log_coming_in i header s) (entry w mask ports i header)
-  unfolding admitted
+  unfolding switch_admitted
   come_goes = by_serving (serves journal s) refl where
     by_serving : (b : Bool) → serves journal s ≡ b
         → GoesIn (journal_leg_targets setting full) (log_coming_in i header s) (if serves_now w
-        then Some (looked_up w (around mask ports) (switch_incoming_packet w i header)) else None)
+        then Some (switch_looked_up w (switch_site_around mask ports) (switch_incoming_packet w i header)) else None)
     by_serving false off = rw (comes.sees.serving ∙ off) tt
     by_serving true on = rw (comes.sees.serving ∙ on) (rw same_packet
         (refl, looked_goes setting full s w mask ports packet (asked on)))

@@ -2,15 +2,15 @@
 -- the parts are behind it.
 use Rattle.std.proofs.Common.{[], ◌++◌, ◌+◌, ◌-◌, ◌<◌, ◌==◌, ◌^◌, ◌∙◌, ◌∷◌, ◌≡◌, All, List, Some, ap, append_assoc, false, get_or, length, length-set, refl, set, subst, sym, ℕ}
 use Rattle.base.proofs.Exports.{option_map_or}
-use Rattle.message_bag.specs.Exports.{IsBagMessageOf, Post, posts_with_delivered}
-use Rattle.update_machine.specs.Exports.{Deliver, Item, LinkRow, Message, Place, Setting, is_link_up_in_journal, is_to_controller, is_journal_receiver_switch, journal_link_changes, near, piece, machine_sent_items_from}
+use Rattle.message_bag.specs.Exports.{IsBagMessageOf, Post, bag_posts_with_delivered}
+use Rattle.update_machine.specs.Exports.{Deliver, Item, LinkRow, Message, Place, Setting, is_link_up_in_journal, is_machine_receiver_controller, is_journal_receiver_switch, journal_link_changes, near, piece, machine_sent_items_from}
 use Rattle.net_file.specs.Exports.{links_of}
 use Rattle.switch_core.specs.Exports.{SwitchValue, switch_next_advert, switch_opening_stamp, switch_with_message}
 use Rattle.refinement.specs.Exports.{RefinementHearsOpening, IsRefinedBagOf, RefinementLeavesSwitch, RefinedNetworkState, RefineJournal, is_refined_up_link, refined_relinked_switch, refined_switch_of, refined_up_links}
 use Rattle.refinement.proofs.RefinedDeliveredRecords.{hearing_refines}
 use Rattle.steps.specs.Exports.{IsStep}
 use Rattle.update_machine.proofs.Exports.{last_given_append}
-use Rattle.world_log.specs.Exports.{AreLogSwitchesRelinked, LogMaySend, all_adverts_sent, logged_near_all}
+use Rattle.world_log.specs.Exports.{AreLogSwitchesRelinked, LogMaySend, log_all_adverts_sent, logged_near_all}
 use Rattle.refinement.proofs.RefinedDeliveries.{IsThere, as_sent, deliver_piece, is_there, row_keeps}
 use Rattle.refinement.proofs.RefinedSteps.{grown, reached_known, same_links}
 use Rattle.refinement.proofs.RefinedPostedFrames.{bag_on}
@@ -72,7 +72,7 @@ module _ {setting : Setting} {journal : List Item} {state : RefinedNetworkState}
   others = set state.switches s changed
 
   abbrev posts : List Post
-  posts = posts_with_delivered state.posts n
+  posts = bag_posts_with_delivered state.posts n
 
   same : refined_up_links setting now ≡ refined_up_links setting journal
   same = same_links now journal setting.net.links (λ link.
@@ -97,13 +97,13 @@ module _ {setting : Setting} {journal : List Item} {state : RefinedNetworkState}
   }
 
   abbrev messages : List Message
-  messages = all_adverts_sent state.near (logged_near_all state.links others) others
+  messages = log_all_adverts_sent state.near (logged_near_all state.links others) others
 
   pub opening_piece : piece setting journal row (Deliver n) ≡ Item.Row row (Deliver n)
       ∷ Item.Delivered n ∷ Item.Opened s stamp ∷ machine_sent_items_from (length state.posts + 1) messages
   opening_piece = change_piece refines changes
 
-  pub opening_may : length state.posts < 990_000 → LogMaySend (posts_with_delivered state.posts n) messages
+  pub opening_may : length state.posts < 990_000 → LogMaySend (bag_posts_with_delivered state.posts n) messages
   opening_may = change_may refines changes
 
   -- each switch has a next number for its own advert

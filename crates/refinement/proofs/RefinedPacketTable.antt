@@ -1,11 +1,11 @@
 -- The packets that stand at a switch: those of the table are those of the journal.
 use Rattle.std.proofs.Common.{[], ◌&&◌, ◌++◌, ◌+◌, ◌<◌, ◌==◌, ◌∙◌, ◌∷◌, ◌≡◌, ◌≤◌, ◌⊎◌, Bool, IsFalse, List, None, Option, Some, ap, arith, cond, eq-eqb, eqb-true, false, filter, get_or, if◌then◌else◌, inl, inr, length, map, refl, rules, suc, sym, true, ℕ}
 use Rattle.base.proofs.Exports.{any-filter_same, cases_lt, filter_agree, list_any, range_with_len, sum_by-cons}
-use Rattle.update_machine.specs.Exports.{Header, Item, NoneConcern, Packet, Ports, Setting, Step, count_of, is_at, is_packet, near, journal_next_message, journal_next_packet, journal_packets_at, piece, journal_retired_mark, standing, journal_leg_targets, travels, journal_travels_at}
+use Rattle.update_machine.specs.Exports.{Header, Item, NoMachineItemConcerns, Packet, Ports, Setting, Step, machine_count_of, is_at_machine_switch, is_machine_packet_entry, near, journal_next_message, journal_next_packet, journal_packets_at, piece, journal_retired_mark, journal_standing_of, journal_leg_targets, travels_in_journal, journal_travels_at}
 use Rattle.packet_laws.specs.Exports.{IsUnknownPacket, PacketFacts, packet_facts_after, packet_facts_of}
 use Rattle.packet_laws.proofs.Exports.{numbered, ways_of_all}
 use Rattle.refinement.specs.Exports.{BagsRefine, RefinedPacketComes, EntriesRefine, HopsRefine, IsRefinedJournalOfNet, RefinedNetworkState, NoRefinedRows, RefineJournal, refined_entry_at, refined_flight_in, refined_flight_of, refined_switch_of}
-use Rattle.travelling.specs.Travelling.{Flight, Flights, flight, numbers_at, stands_at}
+use Rattle.travelling.specs.Travelling.{TravellingFlight, TravellingFlights, flight, travelling_numbers_at, travelling_stands_at}
 use Rattle.travelling.proofs.TravellingSlots.{beyond, none_between}
 use Rattle.refinement.proofs.RefinedSteps.{Known, reached_known}
 use Rattle.refinement.proofs.RefinedFlights.{IsStanding, got, standing_by}
@@ -13,7 +13,7 @@ use Rattle.refinement.proofs.RefinedRanges.{any_picked}
 use Rattle.refinement.proofs.RefinedHopPieces.{CanAsk, can_be_asked, hop_others, hop_own, hop_piece, looks_up_as, standing_of}
 use Rattle.refinement.proofs.RefinedPacketFacts.{NoneName, Targets, entered_sends, facts_along, flight_by, flight_now, same_targets, unnamed}
 use Rattle.five_tuple.specs.Exports.{IsHeader}
-use Rattle.switch_core.specs.Exports.{Answer, SwitchValue}
+use Rattle.switch_core.specs.Exports.{SwitchAnswer, SwitchValue}
 use Rattle.tunnel.specs.Exports.{here}
 use Rattle.world_log.specs.Exports.{log_coming_in, log_entered_flight, log_entered_items}
 use Rattle.refinement.proofs.RefinedIncomingTie.{come_along}
@@ -45,12 +45,12 @@ same_numbers test one other zero_fails none none_other =
 -- ---- the table
 
 -- a packet is among those at the switch exactly if it is there
-pub among_numbers : (before : Flights) (s i : ℕ)
-    → among i (numbers_at before s) ≡ stands_at s (flight before i)
-unfolding numbers_at
+pub among_numbers : (before : TravellingFlights) (s i : ℕ)
+    → among i (travelling_numbers_at before s) ≡ travelling_stands_at s (flight before i)
+unfolding travelling_numbers_at
 among_numbers before s i = by_test (test i) refl where
   test : ℕ → Bool
-  test = λ k. stands_at s (flight before k)
+  test = λ k. travelling_stands_at s (flight before k)
 
   by_test : (b : Bool) → test i ≡ b
       → among i (filter test (range_with_len 0 (length before))) ≡ test i
@@ -66,39 +66,39 @@ among_numbers before s i = by_test (test i) refl where
 module _ {setting : Setting} {journal : List Item} {state : RefinedNetworkState}
     (refines : RefineJournal setting journal state) (s : ℕ) where
   -- a packet is at the same switch by its route and by the journal
-  same_switch : (i : ℕ) → stands_at s (flight state.travelling i) ≡ journal_travels_at journal s i
+  same_switch : (i : ℕ) → travelling_stands_at s (flight state.travelling i) ≡ journal_travels_at journal s i
   unfolding refined_flight_in packet_facts_of
-  same_switch i = by_travels (travels journal i) refl where
-    by_travels : (b : Bool) → travels journal i ≡ b
-        → stands_at s (flight state.travelling i) ≡ journal_travels_at journal s i
+  same_switch i = by_travels (travels_in_journal journal i) refl where
+    by_travels : (b : Bool) → travels_in_journal journal i ≡ b
+        → travelling_stands_at s (flight state.travelling i) ≡ journal_travels_at journal s i
     by_travels false off =
         let none : flight state.travelling i ≡ None =
         refines.packet i ∙ ap (λ b. if b then Some (refined_flight_of setting journal i) else None) off in
         rw (none, off) refl
     by_travels true on =
-        let t : Flight = refined_flight_of setting journal i in
+        let t : TravellingFlight = refined_flight_of setting journal i in
         let some = refines.packet i ∙ ap (λ b. if b then Some t else None) on in
         let is = standing_of refines i t some in
-        let here = ap (λ (u : Flight). get_or u.tunnel.route u.tunnel.place 0) is.is
+        let here = ap (λ (u : TravellingFlight). get_or u.tunnel.route u.tunnel.place 0) is.is
         ∙ got (packet_facts_of journal i).route (packet_facts_of journal i).hops is.switch
         is.stands.here in
-        ap (stands_at s) some ∙ ap (λ k. k == s) here
-        ∙ sym (ap (λ b. b && is_at s (standing journal i)) on ∙ ap (is_at s) is.stands.stands)
+        ap (travelling_stands_at s) some ∙ ap (λ k. k == s) here
+        ∙ sym (ap (λ b. b && is_at_machine_switch s (journal_standing_of journal i)) on ∙ ap (is_at_machine_switch s) is.stands.stands)
 
   -- so these are the packets that the journal says
-  pub numbers_are : numbers_at state.travelling s ≡ journal_packets_at journal s
-  unfolding numbers_at journal_next_packet
+  pub numbers_are : travelling_numbers_at state.travelling s ≡ journal_packets_at journal s
+  unfolding travelling_numbers_at journal_next_packet
   numbers_are =
       let own = numbered setting journal (ways_of_all setting [] journal
       (reached_known setting journal refines.sound refines.reached).settled.causes) in
-      filter_agree (λ i. stands_at s (flight state.travelling i)) (journal_travels_at journal s) same_switch
+      filter_agree (λ i. travelling_stands_at s (flight state.travelling i)) (journal_travels_at journal s) same_switch
       (range_with_len 0 (length state.travelling))
-      ∙ same_numbers (journal_travels_at journal s) (length state.travelling) (count_of is_packet journal)
-      (unnumbered 0 (travels journal 0) refl (λ on. absurd (omega (arith, (own 0 on).0))))
+      ∙ same_numbers (journal_travels_at journal s) (length state.travelling) (machine_count_of is_machine_packet_entry journal)
+      (unnumbered 0 (travels_in_journal journal 0) refl (λ on. absurd (omega (arith, (own 0 on).0))))
       (λ i past. sym (same_switch i) ∙ beyond state.travelling s i past)
-      (λ i past. unnumbered i (travels journal i) refl (λ on. absurd (omega (arith, (own i on).1))))
+      (λ i past. unnumbered i (travels_in_journal journal i) refl (λ on. absurd (omega (arith, (own i on).1))))
     where
-      unnumbered : (i : ℕ) (b : Bool) → travels journal i ≡ b → (travels journal i ≡ true → ⊥)
+      unnumbered : (i : ℕ) (b : Bool) → travels_in_journal journal i ≡ b → (travels_in_journal journal i ≡ true → ⊥)
           → journal_travels_at journal s i ≡ false
       unnumbered i true on never = absurd (never on)
       unnumbered i false off never = rw off refl
@@ -108,7 +108,7 @@ module _ {setting : Setting} {journal : List Item} {state : RefinedNetworkState}
 -- what losses don't concern stays
 pub losts_apart : (concerns : List Item → Item → Bool)
     → ((before : List Item) (k : ℕ) → IsFalse (concerns before (Item.Lost k)))
-    → (before : List Item) (packets : List ℕ) → NoneConcern concerns before (map Item.Lost packets)
+    → (before : List Item) (packets : List ℕ) → NoMachineItemConcerns concerns before (map Item.Lost packets)
 losts_apart concerns spares before [] = tt
 losts_apart concerns spares before (k ∷ packets) =
     (spares before k, losts_apart concerns spares (before ++ Item.Lost k ∷ []) packets)
@@ -118,10 +118,10 @@ losts_no_rows [] = tt
 losts_no_rows (k ∷ packets) = (tt, losts_no_rows packets)
 
 -- no packet enters by them
-pub losts_bring_none : (packets : List ℕ) → count_of is_packet (map Item.Lost packets) ≡ 0
+pub losts_bring_none : (packets : List ℕ) → machine_count_of is_machine_packet_entry (map Item.Lost packets) ≡ 0
 losts_bring_none [] = refl
 losts_bring_none (k ∷ packets) =
-    let sum = sum_by-cons (λ x. cond (is_packet x) 1 0) (Item.Lost k) (map Item.Lost packets) in
+    let sum = sum_by-cons (λ x. cond (is_machine_packet_entry x) 1 0) (Item.Lost k) (map Item.Lost packets) in
     omega (arith, sum, losts_bring_none packets)
 
 -- ---- the packets on their way
@@ -192,7 +192,7 @@ module _ (setting : Setting) (journal : List Item) (row s : ℕ) (header : Heade
   abbrev first : Item
   first = Item.Row row (Packet s header)
 
-  abbrev answer : Option Answer
+  abbrev answer : Option SwitchAnswer
   answer = refined_entry_at setting journal ports s header
 
   abbrev items : List Item

@@ -1,9 +1,9 @@
 -- The bag of a world has the frames of the messages that its journal says.
 use Rattle.std.proofs.Common.{[], if◌then◌else◌, ◌++◌, ◌+◌, ◌<◌, ◌==◌, ◌||◌, ◌∙◌, ◌∷◌, ◌≡◌, ◌≤◌, Bool, IsFalse, List, None, Option, Some, ap, append-nil, append_assoc, arith, eq-eqb, eqb-true, false, is_some, length, length-append, ne_eqb, option_and_then, option_map, refl, slice_get, subst, suc, sym, true, zero, ℕ}
 use Rattle.base.proofs.Exports.{option_or, slice_get_within, ⊤}
-use Rattle.message_bag.specs.Exports.{Post, frames_posted, is_post_deliverable, item_numbered, new_post, posted_frames, bag_frames_remembered, bag_with_changed, posts_with_delivered, posts_with_forgotten}
+use Rattle.message_bag.specs.Exports.{Post, bag_frames_posted, is_bag_post_deliverable, bag_item_numbered, new_bag_post, bag_posted_frames, bag_frames_remembered, bag_with_changed, bag_posts_with_delivered, bag_posts_with_forgotten}
 use Rattle.message_bag.proofs.BagNumberedPosts.{length_changed, numbered_changed, numbered_pushed}
-use Rattle.update_machine.specs.Exports.{Item, Message, MachineMessageKeeps, NoneConcern, item_concerns_known, concerns_links, item_concerns_message, concerns_messages, item_concerns_policies, count_of, machine_item_gives_message, is_delivery_item, is_journal_forgetting, is_forgotten_in_journal, is_sending, journal_last_given, journal_message_of, journal_next_message, was_delivered}
+use Rattle.update_machine.specs.Exports.{Item, Message, MachineMessageKeeps, NoMachineItemConcerns, machine_item_concerns_known, machine_item_concerns_links, machine_item_concerns_message, machine_item_concerns_messages, machine_item_concerns_policies, machine_count_of, machine_item_gives_message, is_machine_delivery_item, is_journal_forgetting, is_forgotten_in_journal, is_machine_sending_item, journal_last_given, journal_message_of, journal_next_message, was_delivered_in_journal}
 use Rattle.update_machine.proofs.Exports.{count_of_append, each_silent, fewer, last_given_append, message_keeps, messages_keep, next_sent, start_laws}
 use Rattle.control_laws.proofs.Exports.{some_more}
 use Rattle.refinement.specs.Exports.{IsRefinedBagOf, refined_post_at}
@@ -17,12 +17,12 @@ unfolding refined_post_at
 same_post n before after keeps = rw (keeps.message, keeps.delivered, keeps.forgotten) refl
 
 pub bag_on : (before items : List Item) (posts : List Post)
-    → NoneConcern concerns_messages before items → IsRefinedBagOf before posts
+    → NoMachineItemConcerns machine_item_concerns_messages before items → IsRefinedBagOf before posts
     → IsRefinedBagOf (before ++ items) posts
 bag_on before items posts apart is =
     let keeps : (n : ℕ) → MachineMessageKeeps n before (before ++ items) =
     λ n. message_keeps n before items
-    (fewer (item_concerns_message n) concerns_messages (each_silent n) before items apart) in record {
+    (fewer (machine_item_concerns_message n) machine_item_concerns_messages (each_silent n) before items apart) in record {
       many = (messages_keep before items apart).next ∙ is.many;
       each = λ n. is.each n ∙ sym (same_post n before (before ++ items) (keeps n));
       undelivered = λ n past. (keeps n).delivered ∙ is.undelivered n past;
@@ -35,7 +35,7 @@ bag_on before items posts apart is =
 abbrev BagGoesOn : List Item → List Post → Item → List Post → Type 0
 BagGoesOn before posts item after = IsRefinedBagOf before posts → IsRefinedBagOf (before ++ item ∷ []) after
 
-number_on : (n : ℕ) (before : List Item) (item : Item) → IsFalse (item_concerns_message n before item)
+number_on : (n : ℕ) (before : List Item) (item : Item) → IsFalse (machine_item_concerns_message n before item)
     → MachineMessageKeeps n before (before ++ item ∷ [])
 number_on n before item apart = message_keeps n before (item ∷ []) (apart, tt)
 
@@ -54,14 +54,14 @@ sent_facts before n message =
 
 sent_post : (n : ℕ) (before : List Item) (posts : List Post) (message : Message) (b : Bool)
     → (n == length posts + 1) ≡ b → IsRefinedBagOf before posts
-    → (if b then Some (new_post message) else item_numbered posts n)
+    → (if b then Some (new_bag_post message) else bag_item_numbered posts n)
     ≡ refined_post_at (before ++ Item.Sent (length posts + 1) message ∷ []) n
-unfolding refined_post_at was_delivered is_forgotten_in_journal
+unfolding refined_post_at was_delivered_in_journal is_forgotten_in_journal
 sent_post n before posts message true is bag = let k : ℕ = length posts + 1 in
     rw (
       (eqb-true n k is),
       sent_facts before k message,
-      some_more (is_delivery_item k) before (Item.Sent k message),
+      some_more (is_machine_delivery_item k) before (Item.Sent k message),
       some_more (is_journal_forgetting k) before (Item.Sent k message),
       bag.undelivered k (omega arith),
       bag.remembered k (omega arith),
@@ -71,16 +71,16 @@ sent_post n before posts message false is bag = bag.each n
     before (Item.Sent (length posts + 1) message) (other_number n (length posts + 1) is)))
 
 pub bag_sent : (before : List Item) (posts : List Post) (message : Message)
-    → BagGoesOn before posts (Item.Sent (length posts + 1) message) (posts ++ new_post message ∷ [])
+    → BagGoesOn before posts (Item.Sent (length posts + 1) message) (posts ++ new_bag_post message ∷ [])
 bag_sent before posts message bag =
     let k : ℕ = length posts + 1 in
     let sent : Item = Item.Sent k message in
-    let more = length-append posts (new_post message ∷ []) in
-    let keeps : (n : ℕ) → length (posts ++ new_post message ∷ []) < n
+    let more = length-append posts (new_bag_post message ∷ []) in
+    let keeps : (n : ℕ) → length (posts ++ new_bag_post message ∷ []) < n
     → MachineMessageKeeps n before (before ++ sent ∷ []) =
     λ n past. number_on n before sent (ne_eqb k n (λ same. absurd (omega arith))) in record {
       many = omega (arith, next_sent before k message, bag.many, more);
-      each = λ n. numbered_pushed posts (new_post message) n
+      each = λ n. numbered_pushed posts (new_bag_post message) n
           ∙ sent_post n before posts message (n == k) refl bag;
       undelivered = λ n past. (keeps n past).delivered ∙ bag.undelivered n (omega arith);
       remembered = λ n past. (keeps n past).forgotten ∙ bag.remembered n (omega arith);
@@ -90,7 +90,7 @@ bag_sent before posts message bag =
 
 -- what was posted has a number up to their count
 pub within_posts : (posts : List Post) (n : ℕ) (fs : List (List ℕ))
-    → frames_posted posts n ≡ Some fs → n ≤ length posts
+    → bag_frames_posted posts n ≡ Some fs → n ≤ length posts
 within_posts posts zero fs is = omega arith
 within_posts posts (suc place) fs is = by_post (slice_get posts place) refl is where
   by_post : (o : Option Post) → slice_get posts place ≡ o
@@ -98,10 +98,10 @@ within_posts posts (suc place) fs is = by_post (slice_get posts place) refl is w
   by_post None e none = absurd cc
   by_post (Some post) e some = omega (arith, slice_get_within posts place post e)
 
-pub some_within : (posts : List Post) (n : ℕ) → is_post_deliverable posts n ≡ true
+pub some_within : (posts : List Post) (n : ℕ) → is_bag_post_deliverable posts n ≡ true
     → n ≤ length posts
-some_within posts n there = by_frames (frames_posted posts n) refl there where
-  by_frames : (o : Option (List (List ℕ))) → frames_posted posts n ≡ o → is_some o ≡ true
+some_within posts n there = by_frames (bag_frames_posted posts n) refl there where
+  by_frames : (o : Option (List (List ℕ))) → bag_frames_posted posts n ≡ o → is_some o ≡ true
       → n ≤ length posts
   by_frames None e none = absurd cc
   by_frames (Some fs) e some = within_posts posts n fs e
@@ -109,15 +109,15 @@ some_within posts n there = by_frames (frames_posted posts n) refl there where
 -- the post of one number changes as the item changes its facts
 abbrev ChangesOne : (Post → Post) → ℕ → List Item → Item → Type 0
 ChangesOne change k before item =
-    ((n : ℕ) → (k == n) ≡ false → IsFalse (item_concerns_message n before item))
+    ((n : ℕ) → (k == n) ≡ false → IsFalse (machine_item_concerns_message n before item))
     × (refined_post_at (before ++ item ∷ []) k ≡ option_map change (refined_post_at before k))
 
 changed_post : (change : Post → Post) (k n : ℕ) (before : List Item) (posts : List Post)
     (item : Item) (b : Bool) → (n == k) ≡ b → ChangesOne change k before item → IsRefinedBagOf before posts
-    → (if b then option_map change (item_numbered posts n) else item_numbered posts n)
+    → (if b then option_map change (bag_item_numbered posts n) else bag_item_numbered posts n)
     ≡ refined_post_at (before ++ item ∷ []) n
 changed_post change k n before posts item true is changes bag =
-    let P : ℕ → Type 0 = λ m. option_map change (item_numbered posts m)
+    let P : ℕ → Type 0 = λ m. option_map change (bag_item_numbered posts m)
     ≡ refined_post_at (before ++ item ∷ []) m in
     subst P (sym (eqb-true n k is)) (ap (option_map change) (bag.each k) ∙ sym changes.1)
 changed_post change k n before posts item false is changes bag = bag.each n ∙ sym (same_post n
@@ -141,51 +141,51 @@ bag_changed change k before posts item changes posted_it as_many bag =
 
 -- an item that sends no message raises flags of one
 bag_flagged : (change : Post → Post) (k : ℕ) (before : List Item) (posts : List Post) (item : Item)
-    → ((n : ℕ) → (k == n) ≡ false → IsFalse (item_concerns_message n before item))
-    → machine_item_gives_message k item ≡ None → is_sending item ≡ false → ((m : Message) → (
-      posted_frames m,
+    → ((n : ℕ) → (k == n) ≡ false → IsFalse (machine_item_concerns_message n before item))
+    → machine_item_gives_message k item ≡ None → is_machine_sending_item item ≡ false → ((m : Message) → (
+      bag_posted_frames m,
       record {
-        delivered = is_delivery_item k item || was_delivered before k;
+        delivered = is_machine_delivery_item k item || was_delivered_in_journal before k;
         forgotten = is_journal_forgetting k item || is_forgotten_in_journal before k;
       },
     ) ≡ change (
-      posted_frames m,
-      record { delivered = was_delivered before k; forgotten = is_forgotten_in_journal before k },
+      bag_posted_frames m,
+      record { delivered = was_delivered_in_journal before k; forgotten = is_forgotten_in_journal before k },
     ))
     → k ≤ length posts → BagGoesOn before posts item (bag_with_changed change posts k)
-unfolding refined_post_at journal_message_of was_delivered is_forgotten_in_journal journal_next_message
+unfolding refined_post_at journal_message_of was_delivered_in_journal is_forgotten_in_journal journal_next_message
 bag_flagged change k before posts item apart untold unsent flags posted_it bag =
-    let none : count_of is_sending (item ∷ []) ≡ 0 = rw unsent refl in
+    let none : machine_count_of is_machine_sending_item (item ∷ []) ≡ 0 = rw unsent refl in
     bag_changed change k before posts item (
       apart,
       rw (
         last_given_append (machine_item_gives_message k) before (item ∷ []),
         untold,
-        some_more (is_delivery_item k) before item,
+        some_more (is_machine_delivery_item k) before item,
         some_more (is_journal_forgetting k) before item,
       ) (by_told (journal_message_of before k)),
-    ) posted_it (omega (arith, none, count_of_append is_sending before (item ∷ []))) bag
+    ) posted_it (omega (arith, none, count_of_append is_machine_sending_item before (item ∷ []))) bag
   where
     by_told : (o : Option Message) → option_map (λ (m : Message). (
-      posted_frames m,
+      bag_posted_frames m,
       record {
-        delivered = is_delivery_item k item || was_delivered before k;
+        delivered = is_machine_delivery_item k item || was_delivered_in_journal before k;
         forgotten = is_journal_forgetting k item || is_forgotten_in_journal before k;
       },
     )) o ≡ option_map change (option_map (λ (m : Message). (
-      posted_frames m,
-      record { delivered = was_delivered before k; forgotten = is_forgotten_in_journal before k },
+      bag_posted_frames m,
+      record { delivered = was_delivered_in_journal before k; forgotten = is_forgotten_in_journal before k },
     )) o)
     by_told None = refl
     by_told (Some m) = ap Some (flags m)
 
 pub bag_delivered : (before : List Item) (posts : List Post) (k : ℕ) → k ≤ length posts
-    → BagGoesOn before posts (Item.Delivered k) (posts_with_delivered posts k)
+    → BagGoesOn before posts (Item.Delivered k) (bag_posts_with_delivered posts k)
 bag_delivered before posts k =
     bag_flagged _ k before posts _ (λ n apart. apart) refl refl (λ m. rw (eq-eqb k k refl) refl)
 
 pub bag_forgotten : (before : List Item) (posts : List Post) (k : ℕ) → k ≤ length posts
-    → BagGoesOn before posts (Item.Forgotten k) (posts_with_forgotten posts k)
+    → BagGoesOn before posts (Item.Forgotten k) (bag_posts_with_forgotten posts k)
 bag_forgotten before posts k =
     bag_flagged _ k before posts _ (λ n apart. apart) refl refl (λ m. rw (eq-eqb k k refl) refl)
 
@@ -209,19 +209,19 @@ SendFrom number (_ ∷ items) = SendFrom number items
 -- what they post
 abbrev pub posts_in : List Item → List Post
 posts_in [] = []
-posts_in (Item.Sent n message ∷ items) = new_post message ∷ posts_in items
+posts_in (Item.Sent n message ∷ items) = new_bag_post message ∷ posts_in items
 posts_in (_ ∷ items) = posts_in items
 
 -- they concern no switch, no link and no policy
 pub record AreApart (before items : List Item) : Type 0 where
-  pub known : (s : ℕ) → NoneConcern (item_concerns_known s) before items
-  pub links : NoneConcern concerns_links before items
-  pub policies : NoneConcern item_concerns_policies before items
+  pub known : (s : ℕ) → NoMachineItemConcerns (machine_item_concerns_known s) before items
+  pub links : NoMachineItemConcerns machine_item_concerns_links before items
+  pub policies : NoMachineItemConcerns machine_item_concerns_policies before items
 
 -- with one more such item in front
 apart_next : (before items : List Item) (item : Item)
-    → ((s : ℕ) → IsFalse (item_concerns_known s before item)) → IsFalse (concerns_links before item)
-    → IsFalse (item_concerns_policies before item) → AreApart (before ++ item ∷ []) items
+    → ((s : ℕ) → IsFalse (machine_item_concerns_known s before item)) → IsFalse (machine_item_concerns_links before item)
+    → IsFalse (machine_item_concerns_policies before item) → AreApart (before ++ item ∷ []) items
     → AreApart before (item ∷ items)
 apart_next before items item known links policies rest = record {
   known = λ s. (known s, rest.known s);
@@ -248,7 +248,7 @@ are_apart number before (x ∷ items) of = apart_next before items x (λ s. refl
 
 -- behind an item that concerns no message
 bag_next : (before items : List Item) (item : Item) (posts more : List Post)
-    → IsFalse (concerns_messages before item) → (number : ℕ)
+    → IsFalse (machine_item_concerns_messages before item) → (number : ℕ)
     → (number ≡ journal_next_message (before ++ item ∷ []) → IsRefinedBagOf (before ++ item ∷ []) posts
     → IsRefinedBagOf ((before ++ item ∷ []) ++ items) (posts ++ more)) → number ≡ journal_next_message before
     → IsRefinedBagOf before posts → IsRefinedBagOf (before ++ item ∷ items) (posts ++ more)
@@ -264,12 +264,12 @@ bag_sends number before [] posts of is bag = rw (append-nil before) (rw (append-
 bag_sends number before (Item.Sent n message ∷ items) posts of is bag =
     let sent : Item = Item.Sent n message in
     let rest = bag_sends (number + 1) (before ++ sent ∷ []) items
-    (posts ++ new_post message ∷ []) of.1 (ap (λ k. k + 1) is ∙ sym (next_sent before n message))
-    (subst (λ k. IsRefinedBagOf (before ++ Item.Sent k message ∷ []) (posts ++ new_post message ∷ []))
+    (posts ++ new_bag_post message ∷ []) of.1 (ap (λ k. k + 1) is ∙ sym (next_sent before n message))
+    (subst (λ k. IsRefinedBagOf (before ++ Item.Sent k message ∷ []) (posts ++ new_bag_post message ∷ []))
     (sym (of.0 ∙ is ∙ bag.many)) (bag_sent before posts message bag)) in
-    subst (λ js. IsRefinedBagOf js (posts ++ new_post message ∷ posts_in items))
+    subst (λ js. IsRefinedBagOf js (posts ++ new_bag_post message ∷ posts_in items))
     (append_assoc before (sent ∷ []) items)
-    (rw (append_assoc posts (new_post message ∷ []) (posts_in items)) at rest)
+    (rw (append_assoc posts (new_bag_post message ∷ []) (posts_in items)) at rest)
 bag_sends number before (Item.Delivered n ∷ items) posts of is bag = absurd of
 bag_sends number before (Item.Forgotten n ∷ items) posts of is bag = absurd of
 bag_sends number before (Item.Expired switch place message ∷ items) posts of is bag = absurd of
@@ -283,7 +283,7 @@ bag_sends number before (x ∷ items) posts of is bag = bag_next before items x 
 
 -- ---- the start
 
-none_posted : (n : ℕ) → item_numbered {X = Post} [] n ≡ None
+none_posted : (n : ℕ) → bag_item_numbered {X = Post} [] n ≡ None
 none_posted zero = refl
 none_posted (suc place) = refl
 

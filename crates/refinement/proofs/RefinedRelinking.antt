@@ -2,13 +2,13 @@
 -- and what the switches send about that.
 use Rattle.std.proofs.Common.{[], if◌then◌else◌, ◌&&◌, ◌++◌, ◌+◌, ◌<◌, ◌==◌, ◌||◌, ◌∙◌, ◌∷◌, ◌≡◌, ◌≤◌, Bool, List, None, Some, ap, append-nil, arith, cond, eqb-true, false, filter, get_or, length, not, refl, subst, suc, sym, true, zero, ℕ}
 use Rattle.base.proofs.Exports.{AllByRecursion, and_parts, any_filter, filter_more, flat_map, flat_map-append, get_or-map-range_with_len, has_mask, list_any, mask_of_is, mask_of_lt, option_map_or, range_more, range_with_len, recursion_from_All, slice_get-get_or}
-use Rattle.update_machine.specs.Exports.{Item, LinkRow, Message, Setting, journal_usable_links_changed, is_up, is_usable_in_journal, machine_messages_of, near, own_advert, serves as serves_in, setting_switches_of, usable_links}
+use Rattle.update_machine.specs.Exports.{Item, LinkRow, Message, Setting, journal_usable_links_changed, is_up, is_usable_in_journal, machine_messages_of, near, own_advert, serves as serves_in, machine_switches_of, machine_usable_links}
 use Rattle.base.specs.Exports.{has, small_number_mask}
-use Rattle.net_file.specs.Exports.{IsNetLink, IsNet, are_linked_in_net, joins}
+use Rattle.net_file.specs.Exports.{IsNetLink, IsNet, are_linked_in_net, net_link_joins}
 use Rattle.switch_core.specs.Exports.{SwitchValue, near_changed, switch_next_advert, serves}
 use Rattle.refinement.specs.Exports.{is_refined_up_link, refined_link_messages, refined_relinked_switch, refined_switch_of, refined_up_links}
 use Rattle.refinement.proofs.RefinedSwitchLinks.{links_refine}
-use Rattle.world_log.specs.Exports.{AreLogSwitchesRelinked, logged_adverts_relinked_at, logged_adverts_on_change, adverts_over, all_adverts_sent, links_change, logged_near_all, logged_near_mask_by, logged_switch_serves_at}
+use Rattle.world_log.specs.Exports.{AreLogSwitchesRelinked, logged_adverts_relinked_at, logged_adverts_on_change, log_adverts_over, log_all_adverts_sent, log_links_change, logged_near_all, logged_near_mask_by, logged_switch_serves_at}
 use Rattle.world_log.proofs.LogRelinking.{told_nothing}
 
 -- ---- masks
@@ -22,7 +22,7 @@ same_mask test other same = mask_of_is (small_number_mask test) other (mask_of_l
 -- ---- links
 
 -- a link that joins two switches is usable exactly if it is up and both serve
-joined_usable : (journal : List Item) (s k : ℕ) (link : LinkRow) → joins s k link ≡ true
+joined_usable : (journal : List Item) (s k : ℕ) (link : LinkRow) → net_link_joins s k link ≡ true
     → is_usable_in_journal journal link
     ≡ (is_refined_up_link journal link && serves_in journal s && serves_in journal k)
 joined_usable journal s k link joined = by_order (link.one == s && link.two == k) refl joined where
@@ -51,7 +51,7 @@ usable_joins : (journal : List Item) (s k : ℕ) (links : List LinkRow)
     && serves_in journal s && serves_in journal k)
 usable_joins journal s k [] = refl
 usable_joins journal s k (link ∷ links) =
-    by_joins (joins s k link) refl (usable_joins journal s k links)
+    by_joins (net_link_joins s k link) refl (usable_joins journal s k links)
   where
     usable : List LinkRow
     usable = filter (is_usable_in_journal journal) links
@@ -59,27 +59,27 @@ usable_joins journal s k (link ∷ links) =
     up : List LinkRow
     up = filter (is_refined_up_link journal) links
 
-    skipped : (b : Bool) (rest : List LinkRow) → joins s k link ≡ false
-        → list_any (joins s k) (cond b (link ∷ rest) rest) ≡ list_any (joins s k) rest
+    skipped : (b : Bool) (rest : List LinkRow) → net_link_joins s k link ≡ false
+        → list_any (net_link_joins s k) (cond b (link ∷ rest) rest) ≡ list_any (net_link_joins s k) rest
     skipped true rest e = rw e refl
     skipped false rest e = refl
 
-    kept : (b : Bool) (rest : List LinkRow) → joins s k link ≡ true
-        → list_any (joins s k) (cond b (link ∷ rest) rest) ≡ (b || list_any (joins s k) rest)
+    kept : (b : Bool) (rest : List LinkRow) → net_link_joins s k link ≡ true
+        → list_any (net_link_joins s k) (cond b (link ∷ rest) rest) ≡ (b || list_any (net_link_joins s k) rest)
     kept true rest e = rw e refl
     kept false rest e = refl
 
-    by_joins : (joined : Bool) → joins s k link ≡ joined → list_any (joins s k) usable
-        ≡ (list_any (joins s k) up && serves_in journal s && serves_in journal k)
-        → list_any (joins s k) (cond (is_usable_in_journal journal link) (link ∷ usable) usable)
-        ≡ (list_any (joins s k) (cond (is_refined_up_link journal link) (link ∷ up) up)
+    by_joins : (joined : Bool) → net_link_joins s k link ≡ joined → list_any (net_link_joins s k) usable
+        ≡ (list_any (net_link_joins s k) up && serves_in journal s && serves_in journal k)
+        → list_any (net_link_joins s k) (cond (is_usable_in_journal journal link) (link ∷ usable) usable)
+        ≡ (list_any (net_link_joins s k) (cond (is_refined_up_link journal link) (link ∷ up) up)
         && serves_in journal s && serves_in journal k)
     by_joins false e rest =
         cc (skipped (is_usable_in_journal journal link) usable e, rest, skipped (is_refined_up_link journal link) up e)
     by_joins true e rest = kept (is_usable_in_journal journal link) usable e
-        ∙ ap (λ b. b || list_any (joins s k) usable) (joined_usable journal s k link e) ∙ ap
+        ∙ ap (λ b. b || list_any (net_link_joins s k) usable) (joined_usable journal s k link e) ∙ ap
         (λ b. (is_refined_up_link journal link && serves_in journal s && serves_in journal k) || b) rest
-        ∙ spread (is_refined_up_link journal link) (list_any (joins s k) up) (serves_in journal s)
+        ∙ spread (is_refined_up_link journal link) (list_any (net_link_joins s k) up) (serves_in journal s)
         (serves_in journal k) ∙ ap (λ b. b && serves_in journal s && serves_in journal k)
         (sym (kept (is_refined_up_link journal link) up e))
 
@@ -88,7 +88,7 @@ linked_ends : (count s k : ℕ) (links : List LinkRow) → AllByRecursion (IsNet
     → are_linked_in_net links s k ≡ true → (s < count) × (k < count)
 linked_ends count s k [] all is = absurd cc
 linked_ends count s k (link ∷ links) all is =
-    by_joins (joins s k link) refl (linked_ends count s k links all.1) is
+    by_joins (net_link_joins s k link) refl (linked_ends count s k links all.1) is
   where
     by_order : (b : Bool) → (link.one == s && link.two == k) ≡ b
         → (b || (link.one == k && link.two == s)) ≡ true → (s < count) × (k < count)
@@ -101,7 +101,7 @@ linked_ends count s k (link ∷ links) all is =
       subst (λ j. j < count) (eqb-true link.one k parts.0) all.0.one,
     )
 
-    by_joins : (b : Bool) → joins s k link ≡ b
+    by_joins : (b : Bool) → net_link_joins s k link ≡ b
         → (are_linked_in_net links s k ≡ true → (s < count) × (k < count))
         → (b || are_linked_in_net links s k) ≡ true → (s < count) × (k < count)
     by_joins true e rest is = by_order (link.one == s && link.two == k) refl e
@@ -112,7 +112,7 @@ pub up_ends : (setting : Setting) (journal : List Item) (s k : ℕ) → IsNet se
     → (s < length setting.net.switches) × (k < length setting.net.switches)
 up_ends setting journal s k net is = linked_ends (length setting.net.switches) s k setting.net.links
     (recursion_from_All (IsNetLink (length setting.net.switches)) setting.net.links net.links)
-    (any_filter (joins s k) (is_refined_up_link journal) setting.net.links is)
+    (any_filter (net_link_joins s k) (is_refined_up_link journal) setting.net.links is)
 
 -- ---- the switches behind the items
 
@@ -167,7 +167,7 @@ module _ (setting : Setting) (before now : List Item) (links had : List ℕ)
 
   linked_so : (s k : ℕ) → s < 64 → k < 64
       → (has (get_or links s 0) k && logged_switch_serves_at switches s && logged_switch_serves_at switches k)
-      ≡ are_linked_in_net (usable_links setting now) s k
+      ≡ are_linked_in_net (machine_usable_links setting now) s k
   linked_so s k fits small =
       ap (λ b. b && logged_switch_serves_at switches s && logged_switch_serves_at switches k) (can.up s k fits small)
       ∙ by_link (are_linked_in_net (refined_up_links setting now) s k) refl
@@ -187,14 +187,14 @@ module _ (setting : Setting) (before now : List Item) (links had : List ℕ)
   unfolding near logged_near_all logged_near_mask_by
   near_now s fits = get_or-map-range_with_len (logged_near_mask_by links switches) 0 64 s s 0 fits (omega arith)
       ∙ same_mask (λ k. has (get_or links s 0) k && logged_switch_serves_at switches s && logged_switch_serves_at switches k)
-      (are_linked_in_net (usable_links setting now) s) (λ k small. linked_so s k fits small)
+      (are_linked_in_net (machine_usable_links setting now) s) (λ k small. linked_so s k fits small)
 
   near_there : (s : ℕ) → s < length switches
       → get_or (logged_near_all links switches) s 0 ≡ near setting now s
   near_there s there = near_now s (omega (arith, there, can.many, can.few))
 
   changes_so : (s : ℕ) → s < length switches
-      → links_change (get_or had s 0) (get_or (logged_near_all links switches) s 0) (get_or switches s d)
+      → log_links_change (get_or had s 0) (get_or (logged_near_all links switches) s 0) (get_or switches s d)
       ≡ journal_usable_links_changed setting before now s
   changes_so s there = cc ((lives s there).0, can.had_is s there, near_there s there)
 
@@ -213,14 +213,14 @@ module _ (setting : Setting) (before now : List Item) (links had : List ℕ)
       let w : SwitchValue = get_or switches s d in
       let links_now : ℕ = near setting now s in
       let send_adverts : ℕ → ℕ → List Message = λ had_s n. flat_map
-      (λ other. adverts_over (near_changed w n) (switch_next_advert w n) (has had_s other) other)
-      (filter (has n) (setting_switches_of setting)) in
-      ap (λ b. if b then flat_map (λ other. adverts_over
+      (λ other. log_adverts_over (near_changed w n) (switch_next_advert w n) (has had_s other) other)
+      (filter (has n) (machine_switches_of setting)) in
+      ap (λ b. if b then flat_map (λ other. log_adverts_over
       (near_changed w (get_or (logged_near_all links switches) s 0))
       (switch_next_advert w (get_or (logged_near_all links switches) s 0)) (has (get_or had s 0) other) other)
       (filter (has (get_or (logged_near_all links switches) s 0)) (range_with_len 0 (length switches)))
       else []) (changes_so s there ∙ changed)
-      ∙ ap (λ count. flat_map (λ other. adverts_over
+      ∙ ap (λ count. flat_map (λ other. log_adverts_over
       (near_changed w (get_or (logged_near_all links switches) s 0))
       (switch_next_advert w (get_or (logged_near_all links switches) s 0)) (has (get_or had s 0) other) other)
       (filter (has (get_or (logged_near_all links switches) s 0)) (range_with_len 0 count))) can.many
@@ -276,8 +276,8 @@ module _ (setting : Setting) (before now : List Item) (links had : List ℕ)
       one false = refl
 
   -- what all of them tell
-  pub told_now : all_adverts_sent had (logged_near_all links switches) switches
+  pub told_now : log_all_adverts_sent had (logged_near_all links switches) switches
       ≡ flat_map (machine_messages_of setting before now)
-      (filter (journal_usable_links_changed setting before now) (setting_switches_of setting))
-  unfolding all_adverts_sent
+      (filter (journal_usable_links_changed setting before now) (machine_switches_of setting))
+  unfolding log_all_adverts_sent
   told_now = cc (below (length switches) (omega arith), can.many)

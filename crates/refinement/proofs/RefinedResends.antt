@@ -3,17 +3,17 @@ use Rattle.std.proofs.Common.{[], if◌then◌else◌, ◌++◌, ◌+◌, ◌<�
 use Rattle.message_bag.specs.Exports.{Post as BagPost}
 use Rattle.refinement.specs.Exports.{AreRefinedActsWritten, IsRefinedBagOf, RefinedNetworkState, RefineJournal, refined_resend_acts, refined_switch_of}
 use Rattle.refinement.proofs.RefinedControllerResends.{resends_nothing, resends_some}
-use Rattle.controller.specs.Exports.{ControllerValue, resend_acts}
+use Rattle.controller.specs.Exports.{ControllerValue, controller_resend_acts}
 use Rattle.controller.specs.declared.sends.Act.{Act}
 use Rattle.controller.specs.declared.sends.Act.TheVariants.{Post}
-use Rattle.update_machine.specs.Exports.{Advert, Hello, Item, Message, Resend, Setting, machine_advert_to, journal_boot_of, journal_held_adverts, is_up, near, piece, journal_resent_by_switch, setting_switches_in}
-use Rattle.ctrl_msg.specs.Exports.{to_controller}
+use Rattle.update_machine.specs.Exports.{Advert, Hello, Item, Message, Resend, Setting, machine_advert_to, journal_boot_of, journal_held_adverts, is_up, near, piece, journal_resent_by_switch, machine_switches_in}
+use Rattle.ctrl_msg.specs.Exports.{message_to_controller}
 use Rattle.switch_core.specs.Exports.{SwitchValue}
 use Rattle.refinement.proofs.RefinedSwitchLinks.{kept_is, links_refine}
 use Rattle.update_machine.proofs.Exports.{near_stays}
 use Rattle.world_log.specs.Exports.{LogMayNote, log_act_items, log_act_posts, world_log_adverts_again}
 use Rattle.steps.specs.Exports.{IsStep}
-use Rattle.travelling.specs.Travelling.{Flights}
+use Rattle.travelling.specs.Travelling.{TravellingFlights}
 use Rattle.refinement.proofs.RefinedActs.{may_note, refines_told, written_is}
 use Rattle.refinement.proofs.RefinedBagDeliveries.{nothing_happens}
 use Rattle.refinement.proofs.RefinedSteps.{WroteOne, links_stay, reached_known, up_stay}
@@ -31,29 +31,29 @@ some_there acts some e = let none : (length acts == 0) ≡ true = ap (λ xs. len
 -- what the calls made is what is to be sent
 pub acts_same : (controller : ControllerValue) (s n count near had : ℕ) (own : SwitchValue)
     (told : List Message) (acts : List Act) → told ≡ world_log_adverts_again s n had own → n ≡ count
-    → had ≡ near → acts ≡ resend_acts controller s
-    → map Post told ++ acts ≡ map Post (world_log_adverts_again s count near own) ++ resend_acts controller s
+    → had ≡ near → acts ≡ controller_resend_acts controller s
+    → map Post told ++ acts ≡ map Post (world_log_adverts_again s count near own) ++ controller_resend_acts controller s
 acts_same controller s n count near had own told acts told_is count_is near_is acts_is =
     cc (acts_is, told_is, count_is, near_is)
 
 -- what it sends these neighbours if it holds these adverts
 abbrev told_by : SwitchValue → ℕ → List ℕ → List Advert → List Message
-told_by switch s neighbours adverts = if switch.is_up then to_controller (Hello s switch.boot)
+told_by switch s neighbours adverts = if switch.is_up then message_to_controller (Hello s switch.boot)
     ∷ flat_map (λ other. map (machine_advert_to other) adverts) neighbours else []
 
 as_journal : (setting : Setting) (journal : List Item) (s : ℕ) (neighbours : List ℕ)
     (adverts : List Advert) → told_by (refined_switch_of setting journal s) s neighbours adverts
     ≡ elim (is_up journal s) [
       | false ↦ []
-      | true ↦ to_controller (Hello s (journal_boot_of journal s))
+      | true ↦ message_to_controller (Hello s (journal_boot_of journal s))
           ∷ flat_map (λ other. map (machine_advert_to other) adverts) neighbours
     ]
 unfolding refined_switch_of
 as_journal setting journal s neighbours adverts = by_test (is_up journal s) where
-  by_test : (b : Bool) → (if b then to_controller (Hello s (journal_boot_of journal s))
+  by_test : (b : Bool) → (if b then message_to_controller (Hello s (journal_boot_of journal s))
       ∷ flat_map (λ other. map (machine_advert_to other) adverts) neighbours else []) ≡ elim b [
         | false ↦ []
-        | true ↦ to_controller (Hello s (journal_boot_of journal s))
+        | true ↦ message_to_controller (Hello s (journal_boot_of journal s))
             ∷ flat_map (λ other. map (machine_advert_to other) adverts) neighbours
       ]
   by_test true = refl
@@ -62,7 +62,7 @@ as_journal setting journal s neighbours adverts = by_test (is_up journal s) wher
 module _ {setting : Setting} {journal : List Item} {state : RefinedNetworkState}
     (refines : RefineJournal setting journal state) where
   -- the packets on their way stayed
-  pub sent_refines : (after : Flights) (bag : List BagPost) → after ≡ state.travelling
+  pub sent_refines : (after : TravellingFlights) (bag : List BagPost) → after ≡ state.travelling
       → bag ≡ state.posts
       → RefineJournal setting journal (record state { travelling = after; posts = bag })
   sent_refines after bag stayed same = rw (stayed, same) refines
@@ -78,7 +78,7 @@ module _ {setting : Setting} {journal : List Item} {state : RefinedNetworkState}
   messages = world_log_adverts_again s (length state.switches) (get_or state.near s 0) own
 
   abbrev acts : List Act
-  acts = map Post messages ++ resend_acts state.controller s
+  acts = map Post messages ++ controller_resend_acts state.controller s
 
   own_is : own ≡ refined_switch_of setting rowed s
   own_is = switch_is refines s own may own_at
@@ -92,12 +92,12 @@ module _ {setting : Setting} {journal : List Item} {state : RefinedNetworkState}
   by_switch : world_log_adverts_again s (length setting.net.switches) (near setting rowed s)
       (refined_switch_of setting rowed s) ≡ journal_resent_by_switch setting rowed s
   by_switch =
-      ap (told_by (refined_switch_of setting rowed s) s (setting_switches_in setting (near setting rowed s)))
+      ap (told_by (refined_switch_of setting rowed s) s (machine_switches_in setting (near setting rowed s)))
       (sym (links_refine.held setting rowed s)) ∙ as_journal setting rowed s
-      (setting_switches_in setting (near setting rowed s)) (journal_held_adverts setting rowed s)
+      (machine_switches_in setting (near setting rowed s)) (journal_held_adverts setting rowed s)
 
   acts_are : acts ≡ refined_resend_acts setting rowed s state.controller
-  acts_are = ap (λ told. map Post told ++ resend_acts state.controller s)
+  acts_are = ap (λ told. map Post told ++ controller_resend_acts state.controller s)
       (ap (λ n. world_log_adverts_again s n (get_or state.near s 0) own) refines.many
       ∙ ap (λ n. world_log_adverts_again s (length setting.net.switches) n own) near_is
       ∙ ap (world_log_adverts_again s (length setting.net.switches) (near setting rowed s)) own_is

@@ -1,13 +1,13 @@
 -- The marks settle as the journal's rule says, and what is sent then is what the definition says.
 use Rattle.std.proofs.Common.{[], if◌then◌else◌, ◌&&◌, ◌++◌, ◌+◌, ◌-◌, ◌<◌, ◌==◌, ◌||◌, ◌∙◌, ◌∷◌, ◌≡◌, ◌≤◌, Bool, IsFalse, IsTrue, List, None, Option, Some, ap, append-nil, append_assoc, arith, eq-eqb, eqb-true, false, filter, is_some, length, map, nat_lt, not, refl, rules, slice_get, subst, sym, true, unwrap_or, ℕ}
 use Rattle.base.proofs.Exports.{each_always, each_map, fill_by_all, filter_made, get_or-map, length-map, list_all, list_all-map, list_any, map_twice, nat_tests, option_map_or, option_or, picked_same, range_with_len, slice_get-get_or}
-use Rattle.update_machine.specs.Exports.{Body, Collect, JournalItemsHaveCauses, Item, Message, OpenAt, Setting, Stamp, acked_stamp, journal_controller_heard, current_items, journal_current_mark, machine_first_open, journal_items_then, journal_known_boot, machine_least_number, journal_next_current, journal_next_message, journal_next_retired, journal_open_for, machine_open_version_in, machine_open_items, open_version, journal_opened_at, opening_switches, machine_retired_items, journal_retired_mark, send_items, machine_sent_items_from, settling, setting_switches_of, machine_message_to_switch, machine_touched_by, journal_version_count}
+use Rattle.update_machine.specs.Exports.{Body, Collect, JournalItemsHaveCauses, Item, Message, OpenAt, Setting, Stamp, acked_stamp, journal_controller_heard, machine_current_items, journal_current_mark, machine_first_open, journal_items_then, journal_known_boot, machine_least_number, journal_next_current, journal_next_message, journal_next_retired, journal_open_for, machine_open_version_in, machine_open_items, open_version, journal_opened_at, machine_opening_switches, machine_retired_items, journal_retired_mark, machine_send_items, machine_sent_items_from, machine_settling, machine_switches_of, machine_message_to_switch, machine_touched_by, journal_version_count}
 use Rattle.update_machine.specs.Marks as machine
 use Rattle.update_machine.proofs.Exports.{have_append}
 use Rattle.control_laws.specs.Exports.{HasControlItemCause, ControlMarksAreBounded}
 use Rattle.control_laws.proofs.Exports.{ReopensAlone, acked_same, acked_stamp_opened, behind, bounded, count_more, current_more, have_front, in_three, known_more, leaves_keep, member_of, member_parts, opened_at_more, over_more, retired_more, sends_leave, settling_have, stamp_same, told_more}
 use Rattle.version_update.specs.Marks as marks
-use Rattle.version_update.specs.Exports.{MarksValue, CurrentRisesTo, Settles, has_acked, is_joining, is_member, is_over, update_joining_opens_at, record_of, unknown_switch_record}
+use Rattle.version_update.specs.Exports.{MarksValue, CurrentMarkRisesTo, SettlesVersionMarks, has_acked, is_joining, is_member, is_over, update_joining_opens_at, update_record_of, unknown_update_record}
 use Rattle.version_update.specs.Record as known
 use Rattle.version_update.specs.declared.marks.Settled.{Settled}
 use Rattle.version_update.specs.declared.record.Phase.{Phase}
@@ -25,20 +25,20 @@ use Rattle.ternary.specs.Exports.{WordValue}
 -- ---- members, and what is told
 
 made : (value : MarksValue)
-    → value.switches ≡ map (record_of value) (range_with_len 0 (length value.switches))
-made value = fill_by_all (record_of value) value.switches (length value.switches) unknown_switch_record refl
+    → value.switches ≡ map (update_record_of value) (range_with_len 0 (length value.switches))
+made value = fill_by_all (update_record_of value) value.switches (length value.switches) unknown_update_record refl
     (λ k below. refl)
 
 -- what is made of the members is the same
 members_made : {X : Type 0} (f : SwitchRecord → X) (g : ℕ → X) (setting : Setting)
     (journal : List Item) (value : MarksValue) → AreMarksRefined setting journal value
-    → ((s : ℕ) → IsKnownRefined journal s (record_of value s) → IsTrue (machine.is_member journal s)
-    → f (record_of value s) ≡ g s)
-    → map f (marks.member_records value.switches) ≡ map g (machine.members setting journal)
+    → ((s : ℕ) → IsKnownRefined journal s (update_record_of value s) → IsTrue (machine.is_member journal s)
+    → f (update_record_of value s) ≡ g s)
+    → map f (marks.update_member_records value.switches) ≡ map g (machine.members setting journal)
 members_made f g setting journal value are makes =
-    let of : ℕ → SwitchRecord = record_of value in
+    let of : ℕ → SwitchRecord = update_record_of value in
     let n : ℕ = length value.switches in
-    ap (λ xs. map f (marks.member_records xs)) (made value)
+    ap (λ xs. map f (marks.update_member_records xs)) (made value)
     ∙ ap (map f) (filter_made of (λ known. is_member known.phase) (range_with_len 0 n))
     ∙ map_twice of f (filter (λ s. is_member (of s).phase) (range_with_len 0 n))
     ∙ ap (λ k. map (λ s. f (of s)) (filter (λ s. is_member (of s).phase) (range_with_len 0 k)))
@@ -51,9 +51,9 @@ members_made f g setting journal value are makes =
 -- a version that all members acknowledged
 all_same : (setting : Setting) (journal : List Item) (value : MarksValue) (v : ℕ) → 1 ≤ v
     → AreMarksRefined setting journal value
-    → marks.all_have_acked v value.switches ≡ machine.all_acked setting journal v
+    → marks.update_all_have_acked v value.switches ≡ machine.machine_all_acked setting journal v
 all_same setting journal value v low are =
-    sym (list_all-map (λ b. b) (λ known. has_acked known v) (marks.member_records value.switches))
+    sym (list_all-map (λ b. b) (λ known. has_acked known v) (marks.update_member_records value.switches))
     ∙ ap (list_all (λ b. b))
     (members_made (λ known. has_acked known v) (λ s. machine.has_acked journal s v) setting journal
     value are (λ s is member. is.acked (member_parts journal s member).0 v low))
@@ -63,47 +63,47 @@ all_same setting journal value v low are =
 pub told_posted : (f : ℕ → Act) (g : ℕ → Message) (passes : SwitchRecord → Bool) (q : ℕ → Bool)
     (setting : Setting) (journal : List Item) (value : MarksValue)
     → length value.switches ≡ length setting.net.switches
-    → ((s : ℕ) → s < length value.switches → passes (record_of value s) ≡ q s)
+    → ((s : ℕ) → s < length value.switches → passes (update_record_of value s) ≡ q s)
     → ((s : ℕ) → s < length value.switches → f s ≡ Post (g s))
     → refined_acts_written journal (map f (controller_switches_by_record passes value.switches))
-    ≡ send_items journal (map g (filter q (setting_switches_of setting)))
+    ≡ machine_send_items journal (map g (filter q (machine_switches_of setting)))
 told_posted f g passes q setting journal value many tests makes =
     let p : ℕ → Bool = λ s. option_map_or passes (slice_get value.switches s) false in
     ap (refined_acts_written journal)
     (ap (λ n. map f (filter p (range_with_len 0 n))) many
     ∙ picked_same f (λ s. Post (g s)) p q 0 (length setting.net.switches)
     (λ s above below. let there : s < length value.switches = omega (arith, below, many) in
-    ap (λ o. option_map_or passes o false) (slice_get-get_or value.switches s unknown_switch_record there)
+    ap (λ o. option_map_or passes o false) (slice_get-get_or value.switches s unknown_update_record there)
     ∙ tests s there)
     (λ s above below is. makes s (omega (arith, below, many)))
-    ∙ sym (map_twice g Post (filter q (setting_switches_of setting))))
-    ∙ posted (map g (filter q (setting_switches_of setting))) journal
+    ∙ sym (map_twice g Post (filter q (machine_switches_of setting))))
+    ∙ posted (map g (filter q (machine_switches_of setting))) journal
 
 -- messages that open no switch leave the marks
 pub leave_on : (setting : Setting) (journal : List Item) (value : MarksValue)
     (message : ℕ → Message) (switches : List ℕ)
     → ((s : ℕ) → ReopensAlone journal (message s)) → AreMarksRefined setting journal value
-    → AreMarksRefined setting (journal ++ send_items journal (map message switches)) value
+    → AreMarksRefined setting (journal ++ machine_send_items journal (map message switches)) value
 leave_on setting journal value message switches leaves are = marks_on setting journal
-    (journal ++ send_items journal (map message switches)) value
-    (leaves_keep journal (send_items journal (map message switches))
+    (journal ++ machine_send_items journal (map message switches)) value
+    (leaves_keep journal (machine_send_items journal (map message switches))
     (sends_leave journal (map message switches) (each_map (ReopensAlone journal) message switches
     (each_always (λ s. ReopensAlone journal (message s)) leaves switches)))) are
 
 -- ---- current rises
 
 rises_same : (setting : Setting) (now : List Item) (before : MarksValue) (current : ℕ)
-    → AreMarksRefined setting now before → CurrentRisesTo before current → current ≡ journal_next_current setting now
+    → AreMarksRefined setting now before → CurrentMarkRisesTo before current → current ≡ journal_next_current setting now
 unfolding journal_next_current
 rises_same setting now before current are rises =
     let first = are.current in
     let last = are.count in
-    let many = passing_is (machine.all_acked setting now)
+    let many = passing_is (machine.machine_all_acked setting now)
     (journal_current_mark now + 1) (journal_version_count now - journal_current_mark now) (current - before.current)
     (omega (arith, first, rises.bound, rises.rises))
     (λ v above below. subst IsTrue (all_same setting now before v (omega arith) are)
     (rises.acknowledged v (omega (arith, first)) (omega (arith, first, rises.rises)))) (λ more.
-    subst (λ v. IsFalse (machine.all_acked setting now v)) (sym (omega (arith, first, rises.rises)))
+    subst (λ v. IsFalse (machine.machine_all_acked setting now v)) (sym (omega (arith, first, rises.rises)))
     (sym (all_same setting now before (current + 1) (omega arith) are)
     ∙ rises.stopped (omega (arith, first, rises.rises)))) in
     omega (arith, first, many, rises.rises)
@@ -121,7 +121,7 @@ abbrev risen_items : Setting → List Item → Item → (ℕ → Body) → Bool 
 risen_items setting journal next body b = elim b [
   | false ↦ []
   | true ↦ journal_items_then (next ∷ []) (λ raised.
-      send_items raised (map (adverts_over body journal) (machine.members setting journal))) journal
+      machine_send_items raised (map (adverts_over body journal) (machine.members setting journal))) journal
 ]
 
 -- then the marks are the risen ones
@@ -147,7 +147,7 @@ rises_by setting journal after value risen act body are boots leaves rises true 
           are.many (λ s there. (are.each s there).member)
           (λ s there. ap (λ boot. Post (machine_message_to_switch s (body boot))) (boots s there))),
       rw (append_assoc journal
-          (next ∷ []) (send_items raised (map message (machine.members setting journal)))) at
+          (next ∷ []) (machine_send_items raised (map message (machine.members setting journal)))) at
           (leave_on setting raised risen message (machine.members setting journal) leaves rises),
     )
 
@@ -173,13 +173,13 @@ raises_on : (setting : Setting) (now : List Item) (before after : MarksValue)
     → AreMarksRefined setting now before → before.current ≤ after.current
     → after.current ≡ journal_next_current setting now
     → SameBoots now after (length before.switches)
-    → (refined_acts_written now (acts.controller_stamp_acts touched before after) ≡ current_items setting now)
-    × AreMarksRefined setting (now ++ current_items setting now)
+    → (refined_acts_written now (acts.controller_stamp_acts touched before after) ≡ machine_current_items setting now)
+    × AreMarksRefined setting (now ++ machine_current_items setting now)
     (record before { current = after.current })
-unfolding current_items
+unfolding machine_current_items
 raises_on setting now before after touched says are up is boots = subst
-    (λ words. (refined_acts_written now (acts.controller_stamp_acts words before after) ≡ current_items setting now)
-    × AreMarksRefined setting (now ++ current_items setting now)
+    (λ words. (refined_acts_written now (acts.controller_stamp_acts words before after) ≡ machine_current_items setting now)
+    × AreMarksRefined setting (now ++ machine_current_items setting now)
     (record before { current = after.current })) (sym says) (rises_on setting now after before
     (λ v. record before { current = v }) Current (λ v boot. Stamp boot v (machine_touched_by setting now v))
     before.current after.current (journal_current_mark now) (journal_next_current setting now) are.current is are
@@ -340,10 +340,10 @@ opened_known one two s version value is low stay now most = by_opens (update_joi
 record_opened : (before after : MarksValue) (version s : ℕ)
     → after.switches ≡ map (known.opened_update_record version) before.switches
     → s < length before.switches
-    → record_of after s ≡ known.opened_update_record version (record_of before s)
+    → update_record_of after s ≡ known.opened_update_record version (update_record_of before s)
 record_opened before after version s switches there =
-    ap (λ xs. marks.record_of (record after { switches = xs }) s) switches
-    ∙ get_or-map (known.opened_update_record version) before.switches s unknown_switch_record unknown_switch_record there
+    ap (λ xs. marks.update_record_of (record after { switches = xs }) s) switches
+    ∙ get_or-map (known.opened_update_record version) before.switches s unknown_update_record unknown_update_record there
 
 opens_on : (setting : Setting) (one : List Item) (before after : MarksValue)
     → AreMarksRefined setting one before → 1 ≤ before.current
@@ -357,8 +357,8 @@ unfolding machine_open_items
 opens_on setting one before after are low count current switches boots bounds = (
   told_posted (λ s. acts.controller_post_act s (OpenAt (controller_recorded_boot after s) after.current))
       (journal_open_for one (journal_current_mark one)) (update_joining_opens_at after.current) test setting one before are.many
-      (λ s there. ap (λ v. update_joining_opens_at v (record_of before s)) (current ∙ are.current) ∙ opens_same one
-      s (journal_current_mark one) (record_of before s) (are.each s there) first)
+      (λ s there. ap (λ v. update_joining_opens_at v (update_record_of before s)) (current ∙ are.current) ∙ opens_same one
+      s (journal_current_mark one) (update_record_of before s) (are.each s there) first)
       (λ s there. ap (λ boot. Post (machine_message_to_switch s (OpenAt boot after.current))) (boots s there)
       ∙ ap (λ v. Post (journal_open_for one v s)) (current ∙ are.current)),
   record {
@@ -368,7 +368,7 @@ opens_on setting one before after are low count current switches boots bounds = 
     many = long ∙ are.many;
     each = λ s there. let below : s < length before.switches = omega (arith, there, long) in
         subst (IsKnownRefined two s) (sym (record_opened before after before.current s switches below))
-        (rw are.current (opened_known one two s (journal_current_mark one) (record_of before s)
+        (rw are.current (opened_known one two s (journal_current_mark one) (update_record_of before s)
         (are.each s below) first stay (now s below) (omega (arith, bounds.known s, stay.current))));
   },
 ) where
@@ -376,13 +376,13 @@ opens_on setting one before after are low count current switches boots bounds = 
   test s = machine.is_joining one s && machine.has_acked one s (journal_current_mark one)
 
   two : List Item
-  two = one ++ send_items one (map (journal_open_for one (journal_current_mark one)) (opening_switches setting one))
+  two = one ++ machine_send_items one (map (journal_open_for one (journal_current_mark one)) (machine_opening_switches setting one))
 
   first : 1 ≤ journal_current_mark one
   first = let is = are.current in omega (arith, low, is)
 
   stay : SentStay one two
-  stay = sent_stay (map (journal_open_for one (journal_current_mark one)) (opening_switches setting one)) one
+  stay = sent_stay (map (journal_open_for one (journal_current_mark one)) (machine_opening_switches setting one)) one
       (journal_next_message one)
 
   long : length after.switches ≡ length before.switches
@@ -391,14 +391,14 @@ opens_on setting one before after are low count current switches boots bounds = 
   now : (s : ℕ) → s < length before.switches → journal_opened_at two s
       ≡ option_or (journal_opened_at one s) (some_if (test s) (journal_current_mark one))
   now s below = opened_many one one (journal_next_message one) (journal_current_mark one) s
-      (opening_switches setting one) (λ t. refl)
+      (machine_opening_switches setting one) (λ t. refl)
       ∙ ap (λ b. option_or (journal_opened_at one s) (some_if b (journal_current_mark one))) (any_picked test s 0
       (length setting.net.switches) (omega arith) (omega (arith, below, are.many)))
 
 -- ---- retired rises
 
 retires_same : (setting : Setting) (two : List Item) (value : MarksValue)
-    → AreMarksRefined setting two value → marks.retired_of value ≡ journal_next_retired setting two
+    → AreMarksRefined setting two value → marks.update_retired_of value ≡ journal_next_retired setting two
 unfolding journal_next_retired
 retires_same setting two value are = ap (λ xs. unwrap_or (machine_least_number xs) value.current - 1)
     (members_made (λ known. known.acked_stamp) (acked_stamp two) setting two value are
@@ -433,39 +433,39 @@ AreCaused setting journal = JournalItemsHaveCauses (HasControlItemCause setting)
 
 -- settling changes no boot
 pub settled_boot : (before after : MarksValue) (answer : Settled) (s : ℕ)
-    → Settles before after answer → s < length before.switches
+    → SettlesVersionMarks before after answer → s < length before.switches
     → controller_recorded_boot after s ≡ controller_recorded_boot before s
 settled_boot before after answer s is there =
     ap (λ value. value.boot) (record_opened before after after.current s is.switches there)
-    ∙ boot_opened (update_joining_opens_at after.current (record_of before s)) after.current (record_of before s)
+    ∙ boot_opened (update_joining_opens_at after.current (update_record_of before s)) after.current (update_record_of before s)
 
 pub settling_caused : (setting : Setting) (now : List Item) → AreCaused setting now
-    → AreCaused setting (now ++ settling setting now)
-settling_caused setting now have = have_append (HasControlItemCause setting) [] now (settling setting now)
+    → AreCaused setting (now ++ machine_settling setting now)
+settling_caused setting now have = have_append (HasControlItemCause setting) [] now (machine_settling setting now)
     have (settling_have setting now)
 
 pub settles_so : (setting : Setting) (now : List Item) (before after : MarksValue)
     (answer : Settled) (touched : List WordValue)
     → touched ≡ machine_touched_by setting now after.current → AreCaused setting now
-    → AreMarksRefined setting now before → Settles before after answer
-    → (refined_acts_written now (acts.controller_settling_acts touched before after) ≡ settling setting now)
-    × AreMarksRefined setting (now ++ settling setting now) after
-unfolding settling
+    → AreMarksRefined setting now before → SettlesVersionMarks before after answer
+    → (refined_acts_written now (acts.controller_settling_acts touched before after) ≡ machine_settling setting now)
+    × AreMarksRefined setting (now ++ machine_settling setting now) after
+unfolding machine_settling
 settles_so setting now before after answer touched says have are is = (
-  written_in_three now (current_items setting) (machine_open_items setting) (machine_retired_items setting)
+  written_in_three now (machine_current_items setting) (machine_open_items setting) (machine_retired_items setting)
       (acts.controller_stamp_acts touched before after) (acts.controller_open_acts before after)
       (acts.controller_collect_acts before after) raises.0 opens.0 retires.0,
-  rw (in_three (current_items setting) (machine_open_items setting) (machine_retired_items setting) now) retires.1,
+  rw (in_three (machine_current_items setting) (machine_open_items setting) (machine_retired_items setting) now) retires.1,
 ) where
   one : List Item
-  one = now ++ current_items setting now
+  one = now ++ machine_current_items setting now
 
   two : List Item
   two = one ++ machine_open_items setting one
 
   two_have : AreCaused setting two
   two_have = have_front (HasControlItemCause setting) [] two (machine_retired_items setting two)
-      (subst (AreCaused setting) (in_three (current_items setting) (machine_open_items setting)
+      (subst (AreCaused setting) (in_three (machine_current_items setting) (machine_open_items setting)
       (machine_retired_items setting) now) (settling_caused setting now have))
 
   low : 1 ≤ after.current
@@ -474,7 +474,7 @@ settles_so setting now before after answer touched says have are is = (
   boots : SameBoots now after (length before.switches)
   boots s there = settled_boot before after answer s is there ∙ (are.each s there).boot
 
-  raises : (refined_acts_written now (acts.controller_stamp_acts touched before after) ≡ current_items setting now)
+  raises : (refined_acts_written now (acts.controller_stamp_acts touched before after) ≡ machine_current_items setting now)
       × AreMarksRefined setting one (record before { current = after.current })
   raises = raises_on setting now before after touched says are is.current.rises
       (rises_same setting now before after.current are is.current) boots

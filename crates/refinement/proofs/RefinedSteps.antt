@@ -1,10 +1,10 @@
 -- One more step keeps the tie of a world to its journal.
 use Rattle.std.proofs.Common.{[], ◌++◌, ◌+◌, ◌<◌, ◌==◌, ◌∙◌, ◌∷◌, ◌≡◌, ◌≢◌, Bool, IsFalse, List, Option, ap, append-nil, arith, cond, eq-eqb, eqb-true, false, filter, get_or, get_or-set_other, get_or-set_same, inl, length, refl, set, subst, sym, true, unwrap_or, ℕ}
 use Rattle.base.proofs.Exports.{All-push}
-use Rattle.update_machine.specs.Exports.{Exit, JournalItemsHaveCauses, IsJournalReached, IsSetting, Item, Leg, LinkRow, NoneConcern, Seek, Setting, Step, StepOfRow, journal_after_steps, item_concerns_calls, concerns_controller, item_concerns_known, concerns_links, count_of, is_packet, journal_next_message, journal_next_packet, piece, journal_leg_targets}
+use Rattle.update_machine.specs.Exports.{Exit, JournalItemsHaveCauses, IsJournalReached, IsMachineSetting, Item, Leg, LinkRow, NoMachineItemConcerns, Seek, Setting, Step, MachineStepOfRow, journal_after_steps, machine_item_concerns_calls, machine_item_concerns_controller, machine_item_concerns_known, machine_item_concerns_links, machine_count_of, is_machine_packet_entry, journal_next_message, journal_next_packet, piece, journal_leg_targets}
 use Rattle.steps.specs.Exports.{IsStep}
 use Rattle.update_machine.proofs.Exports.{count_of_append, links_keep, near_stays, plan_stays}
-use Rattle.control_laws.specs.Exports.{HasControlItemCause, ServingHoldVersions, ServingIsKnown, StampsSayTouched, control_asks_controller}
+use Rattle.control_laws.specs.Exports.{HasControlItemCause, ControlServingHoldVersions, ControlServingIsKnown, ControlStampsSayTouched, control_asks_controller}
 use Rattle.control_laws.proofs.Exports.{bodies_named, bounded, caused_known, caused_numbered, serving_hold, serving_known, stamps_touched, tables_planned, versions_planned}
 use Rattle.refinement.specs.Exports.{RefineUpLinks, RefineUsableLinks, IsRefinedBagOf, IsRefinedController, RefinedNetworkState, RefineJournal, RefinementTablesAreKnown, refined_flight_in, is_refined_up_link, refined_switch_of}
 use Rattle.packet_laws.specs.Exports.{AllPacketFactsKept, IsPacketOnLeg, IsPacketOnWay, IsPacketServed, PacketFacts, packet_facts_of}
@@ -14,7 +14,7 @@ use Rattle.refinement.proofs.RefinedControllerResends.{items_leave, steps_leave}
 use Rattle.net_file.specs.Exports.{links_of}
 use Rattle.switch_core.specs.Exports.{SwitchValue}
 use Rattle.refinement.proofs.RefinedSwitchLinks.{kept_is}
-use Rattle.travelling.specs.Travelling.{Flights, flight}
+use Rattle.travelling.specs.Travelling.{TravellingFlights, flight}
 use Rattle.refinement.proofs.RefinedPostedFrames.{SendFrom, are_apart, bag_sends, posts_in}
 use Rattle.message_bag.specs.Exports.{Post}
 
@@ -24,16 +24,16 @@ use Rattle.message_bag.specs.Exports.{Post}
 
 -- what they say of packets, versions, tables, switches and messages
 pub record Known (setting : Setting) (journal : List Item) : Type 0 where
-  pub is : IsSetting setting
+  pub is : IsMachineSetting setting
   pub settled : IsSettled setting journal
   pub caused : JournalItemsHaveCauses (HasControlItemCause setting) [] journal
   pub tables : RefinementTablesAreKnown setting journal
-  pub serving : ServingIsKnown journal
-  pub holds : ServingHoldVersions setting journal
+  pub serving : ControlServingIsKnown journal
+  pub holds : ControlServingHoldVersions setting journal
   pub kept : AllPacketFactsKept setting journal
-  pub touched : StampsSayTouched setting journal
+  pub touched : ControlStampsSayTouched setting journal
 
-pub reached_known : (setting : Setting) (journal : List Item) → IsSetting setting
+pub reached_known : (setting : Setting) (journal : List Item) → IsMachineSetting setting
     → IsJournalReached setting journal → Known setting journal
 reached_known setting journal is reached =
     let settled : IsSettled setting journal = reached_settled setting journal is reached in
@@ -55,7 +55,7 @@ reached_known setting journal is reached =
 
 -- ---- one more step
 
-after_more : (setting : Setting) (before : List Item) (steps : List StepOfRow) (last : StepOfRow)
+after_more : (setting : Setting) (before : List Item) (steps : List MachineStepOfRow) (last : MachineStepOfRow)
     → journal_after_steps setting before (steps ++ last ∷ []) ≡ journal_after_steps setting before steps
     ++ piece setting (journal_after_steps setting before steps) last.row last.step
 after_more setting before [] last = refl
@@ -167,7 +167,7 @@ same_links now before [] same = refl
 same_links now before (link ∷ links) same = cc (same link, same_links now before links same)
 
 pub up_stays : (setting : Setting) (journal items : List Item) (links : List ℕ)
-    → NoneConcern concerns_links journal items → RefineUpLinks setting journal links
+    → NoMachineItemConcerns machine_item_concerns_links journal items → RefineUpLinks setting journal links
     → RefineUpLinks setting (journal ++ items) links
 up_stays setting journal items links none up = λ s below. up s below
     ∙ ap (λ rows. links_of rows s) (sym (same_links (journal ++ items) journal setting.net.links
@@ -176,17 +176,17 @@ up_stays setting journal items links none up = λ s below. up s below
 -- and the links and the switches, where it does nothing to them
 module _ {setting : Setting} {journal : List Item} {state : RefinedNetworkState}
     (refines : RefineJournal setting journal state) (items : List Item) where
-  pub links_stay : NoneConcern concerns_links journal items
+  pub links_stay : NoMachineItemConcerns machine_item_concerns_links journal items
       → RefineUsableLinks setting (journal ++ items) state.near
   links_stay none = λ s below. refines.usable s below
       ∙ sym (near_stays setting s journal items none)
 
-  pub up_stay : NoneConcern concerns_links journal items
+  pub up_stay : NoMachineItemConcerns machine_item_concerns_links journal items
       → RefineUpLinks setting (journal ++ items) state.links
   up_stay none = up_stays setting journal items state.links none refines.up
 
-  pub switches_stay : ((s : ℕ) → NoneConcern (item_concerns_known s) journal items)
-      → ((s : ℕ) → NoneConcern (item_concerns_calls s) journal items)
+  pub switches_stay : ((s : ℕ) → NoMachineItemConcerns (machine_item_concerns_known s) journal items)
+      → ((s : ℕ) → NoMachineItemConcerns (machine_item_concerns_calls s) journal items)
       → (s : ℕ) (d : SwitchValue) → s < length state.switches
       → get_or state.switches s d ≡ refined_switch_of setting (journal ++ items) s
   switches_stay none calls s d there =
@@ -202,7 +202,7 @@ pub record IsTaken (setting : Setting) (journal : List Item) (row : ℕ) (step :
       → get_or later.switches s d ≡ refined_switch_of setting (stepped journal row step items) s
   pub travels : (i : ℕ) → flight later.travelling i
       ≡ refined_flight_in setting (stepped journal row step items) i
-  pub counted : later.packets ≡ state.packets + count_of is_packet (Item.Row row step ∷ items)
+  pub counted : later.packets ≡ state.packets + machine_count_of is_machine_packet_entry (Item.Row row step ∷ items)
   pub controller : IsRefinedController setting (stepped journal row step items) later.controller
   pub bag : IsRefinedBagOf (stepped journal row step items) later.posts
   pub up : RefineUpLinks setting (stepped journal row step items) later.links
@@ -210,7 +210,7 @@ pub record IsTaken (setting : Setting) (journal : List Item) (row : ℕ) (step :
 
 -- what a step of packets writes, and what it makes of the switches and of the packets on their way
 pub record Steps (setting : Setting) (journal : List Item) (row : ℕ) (step : Step)
-    (items : List Item) (switches others : List SwitchValue) (after : Flights) : Type 0 where
+    (items : List Item) (switches others : List SwitchValue) (after : TravellingFlights) : Type 0 where
   pub may : IsStep setting.net (length setting.files) step
   pub piece_is : piece setting journal row step ≡ Item.Row row step ∷ items
   pub not_told : IsFalse (control_asks_controller journal step)
@@ -230,7 +230,7 @@ reached_on setting journal row step items reached may is =
     subst P is (reached_more setting journal row step reached may)
 
 next_on : (journal items : List Item) (count next : ℕ) → journal_next_packet journal ≡ count + 1
-    → next ≡ count + count_of is_packet items → journal_next_packet (journal ++ items) ≡ next + 1
+    → next ≡ count + machine_count_of is_machine_packet_entry items → journal_next_packet (journal ++ items) ≡ next + 1
 unfolding journal_next_packet
 next_on journal items count next is more = rw count_of_append (omega arith)
 
@@ -270,9 +270,9 @@ module _ {setting : Setting} {journal : List Item} {state : RefinedNetworkState}
 
 module _ {setting : Setting} {journal : List Item} {state : RefinedNetworkState}
     (refines : RefineJournal setting journal state) where
-  pub refines_more : (others : List SwitchValue) (after : Flights) (next row : ℕ) (step : Step)
+  pub refines_more : (others : List SwitchValue) (after : TravellingFlights) (next row : ℕ) (step : Step)
       (items : List Item) → Steps setting journal row step items state.switches others after
-      → next ≡ state.packets + count_of is_packet (Item.Row row step ∷ items)
+      → next ≡ state.packets + machine_count_of is_machine_packet_entry (Item.Row row step ∷ items)
       → RefineJournal setting (journal ++ Item.Row row step ∷ items) (record state {
         switches = others;
         travelling = after;
@@ -308,9 +308,9 @@ module _ {setting : Setting} {journal : List Item} {state : RefinedNetworkState}
       })
 
   -- a step that sends nothing
-  pub refines_silent : (others : List SwitchValue) (after : Flights) (next row : ℕ) (step : Step)
+  pub refines_silent : (others : List SwitchValue) (after : TravellingFlights) (next row : ℕ) (step : Step)
       (items : List Item) → Steps setting journal row step items state.switches others after
-      → next ≡ state.packets + count_of is_packet (Item.Row row step ∷ items) → posts_in items ≡ []
+      → next ≡ state.packets + machine_count_of is_machine_packet_entry (Item.Row row step ∷ items) → posts_in items ≡ []
       → RefineJournal setting (journal ++ Item.Row row step ∷ items)
       (record state { switches = others; travelling = after; packets = next })
   refines_silent others after next row step items steps counted none =
@@ -335,11 +335,11 @@ pub record WritesOne (setting : Setting) (journal : List Item) (row : ℕ) (step
   pub may : IsStep setting.net (length setting.files) step
   pub piece_is : piece setting journal row step ≡ Item.Row row step ∷ one ∷ []
   -- the controller isn't told of it
-  pub not_told : NoneConcern concerns_controller journal (Item.Row row step ∷ one ∷ [])
+  pub not_told : NoMachineItemConcerns machine_item_concerns_controller journal (Item.Row row step ∷ one ∷ [])
   -- nor does it name a packet, or do anything to links
   pub apart : (i : ℕ) → NoneName i (Item.Row row step ∷ one ∷ [])
-  pub no_links : NoneConcern concerns_links journal (Item.Row row step ∷ one ∷ [])
-  pub as_before : count_of is_packet (Item.Row row step ∷ one ∷ []) ≡ 0
+  pub no_links : NoMachineItemConcerns machine_item_concerns_links journal (Item.Row row step ∷ one ∷ [])
+  pub as_before : machine_count_of is_machine_packet_entry (Item.Row row step ∷ one ∷ []) ≡ 0
   pub as_many : length others ≡ length switches
   pub each : (s : ℕ) (d : SwitchValue) → s < length switches
       → get_or others s d ≡ refined_switch_of setting (grown journal row step one) s

@@ -1,8 +1,8 @@
 -- What a journal says of a switch, by eight facts of it.
 use Rattle.std.proofs.Common.{[], ◌&&◌, ◌++◌, ◌==◌, ◌||◌, ◌∙◌, ◌∷◌, ◌≡◌, ◌≤◌, Bool, List, Option, ap, arith, eq-eqb, eqb-true, false, filter, filter_map, find, fold, if◌then◌else◌, is_some, length, map, max, nat_le, nat_lt, not, refl, slice_set, subst, sym, true, ℕ}
 use Rattle.base.proofs.Exports.{⊤, AllByRecursion, each_append, filter_same_on, list_any, nat_tests, or-false, or_assoc, or_left, or_right}
-use Rattle.update_machine.specs.Exports.{Advert, Body, Collect, Install, Item, Setting, Tables, journal_adverts_known, journal_boot_of, journal_cache_of, is_collect_message_of_version, machine_greatest_stamp_number, journal_handled_count, heard, holds_version, installs_version, is_up, near, machine_advert_of_other, own_advert, journal_own_advert_sent, journal_own_seq, serves, machine_stamp_message_version, journal_stamp_of, setting_switches_of, journal_tables_at}
-use Rattle.failover.specs.Exports.{after_hearing_all, first_adverts, no_adverts}
+use Rattle.update_machine.specs.Exports.{Advert, Body, Collect, Install, Item, Setting, Tables, journal_adverts_known, journal_boot_of, journal_cache_of, message_collects_version, machine_greatest_stamp_number, journal_handled_count, heard, holds_version, machine_body_installs_version, is_up, near, machine_advert_of_other, own_advert, journal_own_advert_sent, journal_own_seq, serves, machine_version_to_stamp_with, journal_stamp_of, machine_switches_of, journal_tables_at}
+use Rattle.failover.specs.Exports.{adverts_after_hearing_all, first_adverts, no_adverts}
 use Rattle.net_file.specs.Exports.{links_of}
 use Rattle.switch_core.specs.Exports.{SwitchValue}
 use Rattle.switch_table.specs.Exports.{CacheValue}
@@ -37,7 +37,7 @@ facts_of setting journal s = record {
 
 abbrev pub stamp_by : Bool → List Body → ℕ
 stamp_by first bodies = machine_greatest_stamp_number ((if first then 1 ∷ [] else [])
-    ++ filter_map machine_stamp_message_version bodies)
+    ++ filter_map machine_version_to_stamp_with bodies)
 
 abbrev pub collected_by : List Body → ℕ
 collected_by bodies = machine_greatest_stamp_number (filter_map refined_collect_in bodies)
@@ -48,16 +48,16 @@ all_by tables first bodies =
     fold refined_with_tables (if first then tables ∷ [] else []) (filter_map refined_tables_in bodies)
 
 abbrev pub came_by : Bool → List Body → ℕ → Bool
-came_by first bodies v = list_any (installs_version v) bodies || (v == 1 && first)
+came_by first bodies v = list_any (machine_body_installs_version v) bodies || (v == 1 && first)
 
 abbrev pub tables_by : Tables → Bool → List Body → List Tables
 tables_by tables first bodies = filter (λ tables. came_by first bodies tables.version
-    && not (list_any (is_collect_message_of_version tables.version) bodies)) (all_by tables first bodies)
+    && not (list_any (message_collects_version tables.version) bodies)) (all_by tables first bodies)
 
 -- the adverts of others
 abbrev pub others_by : Setting → ℕ → Bool → List Body → List (Option Advert)
-others_by setting s first bodies = after_hearing_all (if first
-    then first_adverts (map (links_of setting.net.links) (setting_switches_of setting))
+others_by setting s first bodies = adverts_after_hearing_all (if first
+    then first_adverts (map (links_of setting.net.links) (machine_switches_of setting))
     (length setting.net.switches) else no_adverts) (filter_map (machine_advert_of_other s) bodies)
 
 -- ---- the record
@@ -154,12 +154,12 @@ le_max : (v k c : ℕ) → nat_le v (max k c) ≡ (nat_le v k || nat_le v c)
 le_max v k c = grind (arith, nat_tests)
 
 collected_from : (v k : ℕ) (bodies : List Body)
-    → (nat_le v k || list_any (is_collect_message_of_version v) bodies)
+    → (nat_le v k || list_any (message_collects_version v) bodies)
     ≡ nat_le v (fold max k (filter_map refined_collect_in bodies))
 collected_from v k [] = or-false (nat_le v k)
 collected_from v k (Collect boot c ∷ bodies) =
-    sym (or_assoc (nat_le v k) (nat_le v c) (list_any (is_collect_message_of_version v) bodies))
-    ∙ ap (λ b. b || list_any (is_collect_message_of_version v) bodies) (sym (le_max v k c))
+    sym (or_assoc (nat_le v k) (nat_le v c) (list_any (message_collects_version v) bodies))
+    ∙ ap (λ b. b || list_any (message_collects_version v) bodies) (sym (le_max v k c))
     ∙ collected_from v (max k c) bodies
 collected_from v k (_ ∷ bodies) = collected_from v k bodies
 
@@ -168,7 +168,7 @@ none_le v one = grind (arith, nat_tests)
 
 -- a version is collected exactly if it isn't above the mark
 collected_is : (v : ℕ) (bodies : List Body) → 1 ≤ v
-    → list_any (is_collect_message_of_version v) bodies ≡ nat_le v (collected_by bodies)
+    → list_any (message_collects_version v) bodies ≡ nat_le v (collected_by bodies)
 collected_is v bodies one = cc (none_le v one, collected_from v 0 bodies)
 
 not_le : (v mark : ℕ) → not (nat_le v mark) ≡ nat_lt mark v
@@ -191,18 +191,18 @@ with_each P all (tables ∷ more) have brought = with_each P (refined_with_table
 
 -- of these bodies, all of which came
 brought_each : (first : Bool) (all bodies : List Body)
-    → ((v : ℕ) → list_any (installs_version v) bodies ≡ true → list_any (installs_version v) all
+    → ((v : ℕ) → list_any (machine_body_installs_version v) bodies ≡ true → list_any (machine_body_installs_version v) all
     ≡ true) → AreVersioned bodies → AllByRecursion (HasCome first all) (filter_map refined_tables_in bodies)
 brought_each first all [] among versioned = tt
 brought_each first all (Install boot tables ∷ bodies) among versioned =
     let v : ℕ = tables.version in (
       (
-        or_left (list_any (installs_version v) all) (v == 1 && first)
-            (among v (or_left (v == v) (list_any (installs_version v) bodies) (eq-eqb v v refl))),
+        or_left (list_any (machine_body_installs_version v) all) (v == 1 && first)
+            (among v (or_left (v == v) (list_any (machine_body_installs_version v) bodies) (eq-eqb v v refl))),
         versioned.0,
       ),
       brought_each first all bodies
-          (λ w there. among w (or_right (v == w) (list_any (installs_version w) bodies) there))
+          (λ w there. among w (or_right (v == w) (list_any (machine_body_installs_version w) bodies) there))
           versioned.1,
     )
 brought_each first all (_ ∷ bodies) among versioned =
@@ -218,7 +218,7 @@ all_came tables first bodies one versioned = with_each (HasCome first bodies)
         → AllByRecursion (HasCome first bodies) (if b then tables ∷ [] else [])
     begun true is = (
       (
-        or_right (list_any (installs_version tables.version) bodies) (tables.version == 1 && first)
+        or_right (list_any (machine_body_installs_version tables.version) bodies) (tables.version == 1 && first)
             (rw (one, is) refl),
         omega (arith, one),
       ),
@@ -233,9 +233,9 @@ pub tables_are : (tables : Tables) (first : Bool) (bodies : List Body) → table
     → tables_by tables first bodies ≡ above (collected_by bodies) (all_by tables first bodies)
 tables_are tables first bodies one versioned = filter_same_on (HasCome first bodies)
     (λ tables. came_by first bodies tables.version
-    && not (list_any (is_collect_message_of_version tables.version) bodies))
+    && not (list_any (message_collects_version tables.version) bodies))
     (λ tables. nat_lt (collected_by bodies) tables.version)
-    (λ each come. ap (λ b. b && not (list_any (is_collect_message_of_version each.version) bodies)) come.0
+    (λ each come. ap (λ b. b && not (list_any (message_collects_version each.version) bodies)) come.0
     ∙ ap not (collected_is each.version bodies come.1) ∙ not_le each.version (collected_by bodies))
     (all_by tables first bodies) (all_came tables first bodies one versioned)
 

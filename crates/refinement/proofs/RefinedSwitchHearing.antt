@@ -1,8 +1,8 @@
 -- What a body that a switch hears makes of its record.
 use Rattle.std.proofs.Common.{[], if◌then◌else◌, ◌&&◌, ◌++◌, ◌==◌, ◌||◌, ◌∙◌, ◌∷◌, ◌≡◌, ◌≢◌, Bool, List, None, Option, Some, ap, append-nil, arith, eq-eqb, false, filter_map, find, fold, get_or-set_other, is_some, max, nat_le, nat_lt, not, refl, set, sym, true, ℕ}
 use Rattle.base.proofs.Exports.{each_append, filter_map-append, fold-append, list_any, nat_tests, option_map_or, set_comm, ⊤}
-use Rattle.update_machine.specs.Exports.{Advert, Advertise, Body, CacheRule, Collect, Hello, Install, Installed, OpenAt, Setting, Stamp, Stamped, Tables, machine_cache_after, machine_cache_carried_from, machine_advert_of_other, raised_from, machine_stamp_message_version}
-use Rattle.failover.specs.Exports.{adverts_after_hearing, held_advert, is_newer, is_news}
+use Rattle.update_machine.specs.Exports.{Advert, Advertise, Body, CacheRule, Collect, Hello, Install, Installed, OpenAt, Setting, Stamp, Stamped, Tables, machine_cache_after, machine_cache_carried_from, machine_advert_of_other, machine_cache_raised_from, machine_version_to_stamp_with}
+use Rattle.failover.specs.Exports.{adverts_after_hearing, held_advert, is_newer_advert, is_advert_news}
 use Rattle.failover.proofs.FailoverHeldAdverts.{after_no_news}
 use Rattle.switch_core.specs.Exports.{SwitchValue, switch_after_body, switch_collected_to, is_news_to_switch, switch_stamp_raised_to, switch_stamped_with, switch_after_advert, switch_with_installed}
 use Rattle.switch_table.specs.Exports.{cache_after_carry, cache_after_raise}
@@ -28,12 +28,12 @@ fold_one {X = X} {Y = Y} gives f start bodies body =
     by_given (Some x) is = rw is refl
 
 stamp_one : (first : Bool) (bodies : List Body) (body : Body) → stamp_by first (bodies ++ body ∷ [])
-    ≡ option_map_or (max (stamp_by first bodies)) (machine_stamp_message_version body) (stamp_by first bodies)
+    ≡ option_map_or (max (stamp_by first bodies)) (machine_version_to_stamp_with body) (stamp_by first bodies)
 stamp_one first bodies body = let begun : List ℕ = if first then 1 ∷ [] else [] in
-    fold-append max 0 begun (filter_map machine_stamp_message_version (bodies ++ body ∷ []))
-    ∙ fold_one machine_stamp_message_version max (fold max 0 begun) bodies body
-    ∙ ap (λ stamp. option_map_or (max stamp) (machine_stamp_message_version body) stamp)
-    (sym (fold-append max 0 begun (filter_map machine_stamp_message_version bodies)))
+    fold-append max 0 begun (filter_map machine_version_to_stamp_with (bodies ++ body ∷ []))
+    ∙ fold_one machine_version_to_stamp_with max (fold max 0 begun) bodies body
+    ∙ ap (λ stamp. option_map_or (max stamp) (machine_version_to_stamp_with body) stamp)
+    (sym (fold-append max 0 begun (filter_map machine_version_to_stamp_with bodies)))
 
 -- ---- the record
 
@@ -41,7 +41,7 @@ stamp_one first bodies body = let begun : List ℕ = if first then 1 ∷ [] else
 abbrev heard_as : (ℕ → List WordValue) → ℕ → ℕ → SwitchFacts → Body → ℕ → ℕ → List Tables
     → List (Option Advert) → SwitchValue
 heard_as touched_of s number w body stamp collected all others =
-    let after = option_map_or (max stamp) (machine_stamp_message_version body) stamp in
+    let after = option_map_or (max stamp) (machine_version_to_stamp_with body) stamp in
     let mark = option_map_or (max collected) (refined_collect_in body) collected in
     filled s (record w { cache = machine_cache_after touched_of stamp after number w.cache body }) after mark
     (above mark (option_map_or (refined_with_tables all) (refined_tables_in body) all))
@@ -121,7 +121,7 @@ at_greater f stamp version = by_test (nat_lt stamp version) refl where
 -- a greater stamp raises the cache
 hears_stamp : (s : ℕ) (w : SwitchFacts) (stamp collected version : ℕ) (tables : List Tables)
     (others : List (Option Advert)) → filled s (record w {
-      cache = raised_from stamp (max stamp version) w.cache;
+      cache = machine_cache_raised_from stamp (max stamp version) w.cache;
     }) (max stamp version) collected tables others
     ≡ switch_stamp_raised_to (filled s w stamp collected tables others) version
 unfolding switch_stamp_raised_to
@@ -151,10 +151,10 @@ hears_told s w stamp collected version touched tables others =
 hears_beside : (others : List (Option Advert)) (own : Option Advert) (s : ℕ) (advert : Advert)
     → advert.origin ≢ s
     → set (adverts_after_hearing others advert) s own ≡ adverts_after_hearing (set others s own) advert
-unfolding adverts_after_hearing is_news
+unfolding adverts_after_hearing is_advert_news
 hears_beside others own s advert other =
     rw (get_or-set_other others s advert.origin own None other) (by_test (nat_lt advert.origin 64
-    && option_map_or (is_newer advert) (held_advert others advert.origin) true))
+    && option_map_or (is_newer_advert advert) (held_advert others advert.origin) true))
   where
     by_test : (b : Bool) → set (if b then set others advert.origin (Some advert) else others) s own
         ≡ (if b then set (set others s own) advert.origin (Some advert) else set others s own)
@@ -173,7 +173,7 @@ hears_advert s w stamp collected tables others advert = by_origin (advert.origin
   kept : List (Option Advert) → SwitchValue
   kept database = record switch { database = database }
 
-  by_news : (b : Bool) → is_news switch.database advert ≡ b
+  by_news : (b : Bool) → is_advert_news switch.database advert ≡ b
       → kept (adverts_after_hearing switch.database advert)
       ≡ (if b then kept (adverts_after_hearing switch.database advert) else switch)
   by_news true is = refl
@@ -181,12 +181,12 @@ hears_advert s w stamp collected tables others advert = by_origin (advert.origin
 
   by_origin : (same : Bool) → (advert.origin == s) ≡ same → filled s w stamp collected tables
       (option_map_or (adverts_after_hearing others) (if same then None else Some advert) others)
-      ≡ (if not same && is_news switch.database advert
+      ≡ (if not same && is_advert_news switch.database advert
       then kept (adverts_after_hearing switch.database advert) else switch)
   by_origin true is = refl
   by_origin false is = ap kept (hears_beside others _ s advert
       (λ e. let yes : (advert.origin == s) ≡ true = eq-eqb advert.origin s e in absurd cc))
-      ∙ by_news (is_news switch.database advert) refl
+      ∙ by_news (is_advert_news switch.database advert) refl
 
 -- a body that lets the switch stamp with a version says what the version's change touches
 abbrev pub SaysTouched : (ℕ → List WordValue) → Body → Type 0
@@ -271,7 +271,7 @@ hears_facts setting touched_of s number w first body olds new says =
     others = others_by setting s first w.bodies
 
     after : ℕ
-    after = option_map_or (max stamp) (machine_stamp_message_version body) stamp
+    after = option_map_or (max stamp) (machine_version_to_stamp_with body) stamp
 
     mark_after : ℕ
     mark_after = option_map_or (max collected) (refined_collect_in body) collected

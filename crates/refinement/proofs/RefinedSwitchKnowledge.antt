@@ -1,13 +1,13 @@
 -- What a switch has and knows is what the journal says.
 use Rattle.std.proofs.Common.{[], ◌&&◌, ◌++◌, ◌-◌, ◌<◌, ◌==◌, ◌^◌, ◌||◌, ◌∙◌, ◌∷◌, ◌≡◌, ◌≤◌, All, Bool, IfSome, IsSomeAnd, IsTrue, List, None, Option, Some, ap, arith, eq-eqb, eqb-true, false, filter, filter_map, find, fold, get_or, if◌then◌else◌, is_some, length, map, not, refl, slice_get, subst, sym, true, unwrap_or, ℕ}
 use Rattle.base.proofs.Exports.{All-contains, All-from_recursion, AllByRecursion, and_parts, any_passes_from_place, each_kept, find-there, get_or-map, length-map, list_any, list_any-append, nat_tests, or-false, or_assoc, or_comm, recursion_from_All, slice_get-get_or}
-use Rattle.update_machine.specs.Exports.{Body, Exit, Header, Install, Item, Leg, Partition, Row, Seek, Setting, Tables, journal_boot_of, is_collect_message_of_version, heard, holds_version as holds_in, installs_version, is_cut_off_in_journal, is_up, lookup_at, journal_message_of, journal_plan_at, policy_at, journal_route_from, serves as serves_in, journal_stamp_of, journal_tables_at, machine_message_to_switch, journal_version_count}
+use Rattle.update_machine.specs.Exports.{Body, Exit, Header, Install, Item, Leg, Partition, Row, Seek, Setting, Tables, journal_boot_of, message_collects_version, heard, holds_version as holds_in, machine_body_installs_version, is_cut_off_in_journal, is_up, machine_lookup_at, journal_message_of, journal_plan_at, machine_policy_at, journal_route_from, serves as serves_in, journal_stamp_of, journal_tables_at, machine_message_to_switch, journal_version_count}
 use Rattle.partition.specs.Plan.{IsPartitionPlan}
-use Rattle.switch_core.specs.Exports.{CanSwitchLookUp, IsSwitchAuthorityForLeg, IsSoundSwitchBody, SwitchValue, held_tables, holds_version, no_switch_tables, own_part, serves}
-use Rattle.switch_table.specs.Exports.{AreSoundSwitchTables, Hosted, has_target, lookup_of, part_of, tables_of}
+use Rattle.switch_core.specs.Exports.{CanSwitchLookUp, MaySwitchEndLeg, IsSoundSwitchBody, SwitchValue, switch_held_tables, holds_version, no_switch_tables, switch_own_partition, serves}
+use Rattle.switch_table.specs.Exports.{AreSoundSwitchTables, HostedPolicyPartition, switch_table_part_has_target, switch_table_lookup_of, switch_table_part_of, tables_of}
 use Rattle.switch_table.proofs.SwitchTableLemmas.{tables_are_sound}
 use Rattle.update_machine.proofs.Exports.{begins_planned, first_plan_stays, version_is_planned}
-use Rattle.control_laws.specs.Exports.{MessageBringsPlannedTables, LegEndsAt, ServingHoldVersions}
+use Rattle.control_laws.specs.Exports.{ControlMessageBringsPlannedTables, ControlLegEndsAt, ControlServingHoldVersions}
 use Rattle.refinement.specs.Exports.{KnowledgeRefines, RefinementRequirementsHold, RefinementTablesAreKnown, refined_switch_of, refined_tables_in, refined_with_tables}
 use Rattle.refinement.proofs.RefinedSwitchFacts.{all_by, came_by, first_tables, stamp_shown, switch_is, with_each}
 use Rattle.policy_rules.specs.Exports.{ArePolicyPartitionsNumbered, is_in_policy_partition}
@@ -35,20 +35,20 @@ with_one v all tables =
 
 came_as : (v : ℕ) (all : List Tables) (bodies : List Body)
     → list_any (of_version v) (fold refined_with_tables all (filter_map refined_tables_in bodies))
-    ≡ (list_any (of_version v) all || list_any (installs_version v) bodies)
+    ≡ (list_any (of_version v) all || list_any (machine_body_installs_version v) bodies)
 came_as v all [] = sym (or-false (list_any (of_version v) all))
 came_as v all (Install boot tables ∷ bodies) = came_as v (refined_with_tables all tables) bodies
-    ∙ ap (λ b. b || list_any (installs_version v) bodies) (with_one v all tables)
+    ∙ ap (λ b. b || list_any (machine_body_installs_version v) bodies) (with_one v all tables)
     ∙ or_assoc (list_any (of_version v) all) (tables.version == v)
-    (list_any (installs_version v) bodies)
+    (list_any (machine_body_installs_version v) bodies)
 came_as v all (_ ∷ bodies) = came_as v all bodies
 
 all_came : (tables : Tables) (first : Bool) (bodies : List Body) (v : ℕ) → tables.version ≡ 1
     → list_any (of_version v) (all_by tables first bodies) ≡ came_by first bodies v
 all_came tables first bodies v one = came_as v (if first then tables ∷ [] else []) bodies
     ∙ or_comm (list_any (of_version v) (if first then tables ∷ [] else []))
-    (list_any (installs_version v) bodies)
-    ∙ ap (λ b. list_any (installs_version v) bodies || b) (begun first)
+    (list_any (machine_body_installs_version v) bodies)
+    ∙ ap (λ b. list_any (machine_body_installs_version v) bodies || b) (begun first)
   where
     begun : (b : Bool) → list_any (of_version v) (if b then tables ∷ [] else []) ≡ (v == 1 && b)
     begun true = or-false (tables.version == v) ∙ turned where
@@ -91,7 +91,7 @@ twice false b = refl
 
 holds_facts : (journal : List Item) (s v : ℕ) → holds_in journal s v
     ≡ (came_by (is_up journal s && journal_boot_of journal s == 1) (heard journal s) v
-    && not (list_any (is_collect_message_of_version v) (heard journal s)))
+    && not (list_any (message_collects_version v) (heard journal s)))
 unfolding holds_in
 holds_facts journal s v = refl
 
@@ -101,11 +101,11 @@ held_shown setting journal s v =
     let first : Bool = is_up journal s && journal_boot_of journal s == 1 in
     let bodies : List Body = heard journal s in
     let kept : ℕ → Bool = λ u. came_by first bodies u
-    && not (list_any (is_collect_message_of_version u) bodies) in
+    && not (list_any (message_collects_version u) bodies) in
     ap (λ (switch : SwitchValue). holds_version switch v) (switch_is setting journal s)
     ∙ found_in kept v (all_by (first_tables setting s) first bodies)
     ∙ ap (λ b. b && kept v) (all_came (first_tables setting s) first bodies v refl)
-    ∙ twice (came_by first bodies v) (not (list_any (is_collect_message_of_version v) bodies))
+    ∙ twice (came_by first bodies v) (not (list_any (message_collects_version v) bodies))
     ∙ sym (holds_facts journal s v)
 
 -- ---- plans
@@ -118,7 +118,7 @@ pub planned : (setting : Setting) (journal : List Item) (version : ℕ)
     → RefinementTablesAreKnown setting journal → 1 ≤ version → version ≤ journal_version_count journal
     → IsOfPlan setting journal version
 planned setting journal version known first last = record {
-  rows = policy_at setting journal version;
+  rows = machine_policy_at setting journal version;
   plan = version_is_planned setting journal version known.sound
       (known.versions.planned (begins_planned setting known.sound) version first last);
 }
@@ -128,7 +128,7 @@ pub tables_sound : (setting : Setting) (journal : List Item) (version s : ℕ)
     → AreSoundSwitchTables (journal_tables_at setting journal version s)
 tables_sound setting journal version s known first last =
     let of = planned setting journal version known first last in
-    let plan : List Hosted = journal_plan_at setting journal version in
+    let plan : List HostedPolicyPartition = journal_plan_at setting journal version in
     let few : length plan < 2 ^ 32 = omega (arith, of.plan.few) in
     let few_rules : All (λ hosted. length hosted.0.rules < 2 ^ 32) plan =
     λ k d within. omega (arith, of.plan.leaves k d within, known.sound.net.leaf_rules) in
@@ -143,7 +143,7 @@ record IsPlanned (setting : Setting) (journal : List Item) (s : ℕ) (tables : T
   planned : tables ≡ journal_tables_at setting journal tables.version s
 
 brought : (setting : Setting) (journal : List Item) (s : ℕ) (bodies : List Body)
-    → AllByRecursion (MessageBringsPlannedTables setting journal s) bodies
+    → AllByRecursion (ControlMessageBringsPlannedTables setting journal s) bodies
     → AllByRecursion (IsPlanned setting journal s) (filter_map refined_tables_in bodies)
 brought setting journal s [] all = tt
 brought setting journal s (Install boot tables ∷ bodies) all = (
@@ -169,10 +169,10 @@ all_planned setting journal s known =
     let P : Tables → Type 0 = IsPlanned setting journal s in
     subst (All P) (sym (ap (λ (switch : SwitchValue). switch.tables) (switch_is setting journal s)))
     (All-from_recursion P _ (each_kept P (λ tables. came_by first bodies tables.version
-    && not (list_any (is_collect_message_of_version tables.version) bodies)) (all_by (first_tables setting s)
+    && not (list_any (message_collects_version tables.version) bodies)) (all_by (first_tables setting s)
     first bodies) (with_each P (if first then first_tables setting s ∷ [] else [])
     (filter_map refined_tables_in bodies) (begun first) (brought setting journal s bodies
-    (recursion_from_All (MessageBringsPlannedTables setting journal s) bodies (known.tables.heard s))))))
+    (recursion_from_All (ControlMessageBringsPlannedTables setting journal s) bodies (known.tables.heard s))))))
   where
     begun : (b : Bool) → AllByRecursion (IsPlanned setting journal s)
         (if b then first_tables setting s ∷ [] else [])
@@ -182,7 +182,7 @@ all_planned setting journal s known =
 -- of a version that it has they are those of the plan
 pub planned_tables : (setting : Setting) (journal : List Item) (s version : ℕ) (tables : Tables)
     → RefinementTablesAreKnown setting journal
-    → held_tables (refined_switch_of setting journal s) version ≡ Some tables
+    → switch_held_tables (refined_switch_of setting journal s) version ≡ Some tables
     → (tables ≡ journal_tables_at setting journal version s) × (1 ≤ version)
     × (version ≤ journal_version_count journal)
 planned_tables setting journal s version tables known is =
@@ -197,13 +197,13 @@ planned_tables setting journal s version tables known is =
     )
 
 held_are : (setting : Setting) (journal : List Item) (s v : ℕ) → RefinementTablesAreKnown setting journal
-    → held_tables (refined_switch_of setting journal s) v
+    → switch_held_tables (refined_switch_of setting journal s) v
     ≡ (if holds_in journal s v then Some (journal_tables_at setting journal v s) else None)
 held_are setting journal s v known =
-    by_held (held_tables (refined_switch_of setting journal s) v) refl (held_shown setting journal s v)
+    by_held (switch_held_tables (refined_switch_of setting journal s) v) refl (held_shown setting journal s v)
   where
-    by_held : (o : Option Tables) → held_tables (refined_switch_of setting journal s) v ≡ o
-        → is_some (held_tables (refined_switch_of setting journal s) v) ≡ holds_in journal s v
+    by_held : (o : Option Tables) → switch_held_tables (refined_switch_of setting journal s) v ≡ o
+        → is_some (switch_held_tables (refined_switch_of setting journal s) v) ≡ holds_in journal s v
         → o ≡ (if holds_in journal s v then Some (journal_tables_at setting journal v s) else None)
     by_held None is holds = rw (sym holds ∙ ap (λ o. is_some o) is) refl
     by_held (Some tables) is holds =
@@ -213,14 +213,14 @@ held_are setting journal s v known =
 -- ---- what it knows
 
 pub knowledge_refines : KnowledgeRefines
-unfolding refined_switch_of lookup_at journal_route_from is_cut_off_in_journal
+unfolding refined_switch_of machine_lookup_at journal_route_from is_cut_off_in_journal
 knowledge_refines = record {
   held = held_shown;
   tables = held_are;
   lookup = λ setting journal s header known holds.
       let switch : SwitchValue = refined_switch_of setting journal s in
-      ap (λ tables. lookup_of switch.cache.entries tables header)
-      (ap (λ v. unwrap_or (held_tables switch v) no_switch_tables) (stamp_shown setting journal s)
+      ap (λ tables. switch_table_lookup_of switch.cache.entries tables header)
+      (ap (λ v. unwrap_or (switch_held_tables switch v) no_switch_tables) (stamp_shown setting journal s)
       ∙ ap (λ o. unwrap_or o no_switch_tables) (held_are setting journal s (journal_stamp_of journal s) known)
       ∙ ap (λ b. unwrap_or (if b then Some (journal_tables_at setting journal (journal_stamp_of journal s) s)
       else None) no_switch_tables) holds);
@@ -249,7 +249,7 @@ pub open_shown : (setting : Setting) (journal : List Item) (s : ℕ)
 unfolding refined_switch_of
 open_shown setting journal s = refl
 
-pub looks_up : (setting : Setting) (journal : List Item) (s : ℕ) → ServingHoldVersions setting journal
+pub looks_up : (setting : Setting) (journal : List Item) (s : ℕ) → ControlServingHoldVersions setting journal
     → s < length setting.net.switches → CanSwitchLookUp (refined_switch_of setting journal s)
 looks_up setting journal s hold there serving =
     let opened : IsTrue (serves_in journal s) =
@@ -261,81 +261,81 @@ looks_up setting journal s hold there serving =
 -- ---- at an authority
 
 -- what is true of each partition of the number is true of the switch's own one
-own_found : (P : Partition → Type 0) (s partition : ℕ) (plan : List Hosted)
-    → AllByRecursion (λ hosted. hosted.0.number ≡ partition → P (part_of hosted)) plan
-    → list_any (λ hosted. (hosted.0.number == partition) && has_target s hosted) plan ≡ true
+own_found : (P : Partition → Type 0) (s partition : ℕ) (plan : List HostedPolicyPartition)
+    → AllByRecursion (λ hosted. hosted.0.number ≡ partition → P (switch_table_part_of hosted)) plan
+    → list_any (λ hosted. (hosted.0.number == partition) && switch_table_part_has_target s hosted) plan ≡ true
     → IsSomeAnd (find (λ (part : Partition). part.number == partition)
-    (map part_of (filter (has_target s) plan))) P
+    (map switch_table_part_of (filter (switch_table_part_has_target s) plan))) P
 own_found P s partition [] all there = absurd cc
 own_found P s partition (hosted ∷ plan) all there = by_test (own_found P s partition plan all.1)
-    (hosted.0.number == partition) refl (has_target s hosted) refl there
+    (hosted.0.number == partition) refl (switch_table_part_has_target s hosted) refl there
   where
     Found : List Partition → Type 0
     Found parts = IsSomeAnd (find (λ (part : Partition). part.number == partition) parts) P
 
     rest : List Partition
-    rest = map part_of (filter (has_target s) plan)
+    rest = map switch_table_part_of (filter (switch_table_part_has_target s) plan)
 
     any : Bool
-    any = list_any (λ hosted. (hosted.0.number == partition) && has_target s hosted) plan
+    any = list_any (λ hosted. (hosted.0.number == partition) && switch_table_part_has_target s hosted) plan
 
     by_test : (any ≡ true → Found rest) → (own : Bool) → (hosted.0.number == partition) ≡ own
-        → (b : Bool) → has_target s hosted ≡ b → ((own && b) || any) ≡ true → Found (map part_of
-        (if b then hosted ∷ filter (has_target s) plan else filter (has_target s) plan))
+        → (b : Bool) → switch_table_part_has_target s hosted ≡ b → ((own && b) || any) ≡ true → Found (map switch_table_part_of
+        (if b then hosted ∷ filter (switch_table_part_has_target s) plan else filter (switch_table_part_has_target s) plan))
     by_test found true is true e there = rw is (all.0 (eqb-true hosted.0.number partition is))
     by_test found true is false e there = found there
     by_test found false is true e there = rw is (found there)
     by_test found false is false e there = found there
 
 -- a partition of this number is the one at its place
-one_of_number : (P : Partition → Type 0) (plan : List Hosted) (partition : ℕ) (hosted : Hosted)
-    → ArePolicyPartitionsNumbered (map part_of plan) → slice_get plan partition ≡ Some hosted
-    → P (part_of hosted) → All (λ each. each.0.number ≡ partition → P (part_of each)) plan
+one_of_number : (P : Partition → Type 0) (plan : List HostedPolicyPartition) (partition : ℕ) (hosted : HostedPolicyPartition)
+    → ArePolicyPartitionsNumbered (map switch_table_part_of plan) → slice_get plan partition ≡ Some hosted
+    → P (switch_table_part_of hosted) → All (λ each. each.0.number ≡ partition → P (switch_table_part_of each)) plan
 one_of_number P plan partition hosted numbers there holds k d within is =
-    let each : Hosted = get_or plan k d in
-    let fits : k < length (map part_of plan) = omega (arith, within, length-map plan part_of) in
+    let each : HostedPolicyPartition = get_or plan k d in
+    let fits : k < length (map switch_table_part_of plan) = omega (arith, within, length-map plan switch_table_part_of) in
     let number : each.0.number ≡ k =
-    ap (λ (p : Partition). p.number) (sym (get_or-map part_of plan k d (part_of d) within))
-    ∙ numbers k (part_of d) fits in
+    ap (λ (p : Partition). p.number) (sym (get_or-map switch_table_part_of plan k d (switch_table_part_of d) within))
+    ∙ numbers k (switch_table_part_of d) fits in
     let at = ap (slice_get plan) (sym is ∙ number) ∙ slice_get-get_or plan k d within in
     let both : Some hosted ≡ Some each = sym there ∙ at in
-    let same : hosted ≡ each = cc in subst (λ one. P (part_of one)) same holds
+    let same : hosted ≡ each = cc in subst (λ one. P (switch_table_part_of one)) same holds
 
 -- so what is true of a partition of a plan is true of the one that a target has by its number
-pub own_has : (P : Partition → Type 0) (plan : List Hosted) (s version partition : ℕ)
-    (hosted : Hosted) → ArePolicyPartitionsNumbered (map part_of plan)
+pub own_has : (P : Partition → Type 0) (plan : List HostedPolicyPartition) (s version partition : ℕ)
+    (hosted : HostedPolicyPartition) → ArePolicyPartitionsNumbered (map switch_table_part_of plan)
     → slice_get plan partition ≡ Some hosted → hosted.0.number ≡ partition
-    → IsTrue (has_target s hosted) → P (part_of hosted)
-    → IsSomeAnd (own_part (tables_of plan version s) partition) P
+    → IsTrue (switch_table_part_has_target s hosted) → P (switch_table_part_of hosted)
+    → IsSomeAnd (switch_own_partition (tables_of plan version s) partition) P
 own_has P plan s version partition hosted numbers there number target holds = own_found P s
-    partition plan (recursion_from_All (λ each. each.0.number ≡ partition → P (part_of each)) plan
+    partition plan (recursion_from_All (λ each. each.0.number ≡ partition → P (switch_table_part_of each)) plan
     (one_of_number P plan partition hosted numbers there holds))
-    (any_passes_from_place (λ each. (each.0.number == partition) && has_target s each) plan
+    (any_passes_from_place (λ each. (each.0.number == partition) && switch_table_part_has_target s each) plan
     partition hosted there (rw (eq-eqb hosted.0.number partition number) target))
 
 at_leg : (setting : Setting) (journal : List Item) (s : ℕ) (header : Header) (leg : Leg)
-    → RefinementTablesAreKnown setting journal → LegEndsAt setting journal s header leg
-    → IsSwitchAuthorityForLeg (refined_switch_of setting journal s) header leg
+    → RefinementTablesAreKnown setting journal → ControlLegEndsAt setting journal s header leg
+    → MaySwitchEndLeg (refined_switch_of setting journal s) header leg
 at_leg setting journal s header (Exit port) known ends = tt
 at_leg setting journal s header (Seek version partition) known sought =
-    by_held (held_tables (refined_switch_of setting journal s) version) refl
+    by_held (switch_held_tables (refined_switch_of setting journal s) version) refl
   where
-    plan : List Hosted
+    plan : List HostedPolicyPartition
     plan = journal_plan_at setting journal version
 
     own : (rows : List Row) → IsPartitionPlan rows setting.net plan
-        → IsSomeAnd (own_part (tables_of plan version s) partition)
+        → IsSomeAnd (switch_own_partition (tables_of plan version s) partition)
         (λ part. IsTrue (is_in_policy_partition header part))
     own rows holds = own_has (λ part. IsTrue (is_in_policy_partition header part)) plan s version partition
         sought.hosted holds.sound.numbers sought.found sought.number sought.target sought.holds
 
-    by_held : (o : Option Tables) → held_tables (refined_switch_of setting journal s) version ≡ o → IfSome o
-        (λ tables. IsSomeAnd (own_part tables partition) (λ part. IsTrue (is_in_policy_partition header part)))
+    by_held : (o : Option Tables) → switch_held_tables (refined_switch_of setting journal s) version ≡ o → IfSome o
+        (λ tables. IsSomeAnd (switch_own_partition tables partition) (λ part. IsTrue (is_in_policy_partition header part)))
     by_held None none = tt
     by_held (Some tables) is =
         let are = planned_tables setting journal s version tables known is in
         let of = planned setting journal version known are.1 are.2 in
-        subst (λ (t : Tables). IsSomeAnd (own_part t partition)
+        subst (λ (t : Tables). IsSomeAnd (switch_own_partition t partition)
         (λ part. IsTrue (is_in_policy_partition header part)))
         (sym are.0) (own of.rows of.plan)
 

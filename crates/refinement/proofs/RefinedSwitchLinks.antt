@@ -2,7 +2,7 @@
 use Rattle.std.proofs.Common.{[], ◌&&◌, ◌++◌, ◌+◌, ◌<◌, ◌==◌, ◌∙◌, ◌∷◌, ◌≡◌, ◌≤◌, ◌⊎◌, Bool, IsTrue, List, None, Option, Some, ap, arith, cond, count_by, eq-eqb, eqb-true, false, if◌then◌else◌, inl, inr, ne_eqb, not, option_map, refl, set, set-set, slice_get, sym, true, ℕ}
 use Rattle.base.proofs.Exports.{set-replicate, sum_by-cons}
 use Rattle.failover.specs.Exports.{no_adverts}
-use Rattle.update_machine.specs.Exports.{Advert, CacheEntry, JournalItemsHaveCauses, Item, Message, NoneConcern, Setting, Step, StepItems, Tables, journal_boot_of, journal_cache_of, item_concerns_calls, item_concerns_known, machine_expire_items, journal_handled_count, journal_step_changes_links, journal_usable_links_changed, journal_held_adverts, is_up, near, journal_next_message, nothing, own_advert, journal_own_advert_sent, journal_own_seq, send_items, machine_sent_items_from, journal_steps_in}
+use Rattle.update_machine.specs.Exports.{Advert, CacheEntry, JournalItemsHaveCauses, Item, Message, NoMachineItemConcerns, Setting, Step, MachineStepItems, Tables, journal_boot_of, journal_cache_of, machine_item_concerns_calls, machine_item_concerns_known, machine_expire_items, journal_handled_count, journal_step_changes_links, journal_usable_links_changed, journal_held_adverts, is_up, near, journal_next_message, nothing, own_advert, journal_own_advert_sent, journal_own_seq, machine_send_items, machine_sent_items_from, journal_steps_in}
 use Rattle.switch_core.specs.Exports.{SwitchValue, crashed_switch, switch_entry_expired, near_changed, switch_next_advert, restarted_switch}
 use Rattle.switch_table.specs.Exports.{cache_after_clear}
 use Rattle.update_machine.proofs.Exports.{calls_stay, start_laws, switch_keeps}
@@ -154,10 +154,10 @@ seq_more setting before row s step items none boot up = by_up (is_up before s) r
   now : List Item
   now = before ++ Item.Row row step ∷ items
 
-  first : StepItems
+  first : MachineStepItems
   first = record { before = before; items = Item.Row row step ∷ items }
 
-  test : StepItems → Bool
+  test : MachineStepItems → Bool
   test = journal_step_changes_links setting s (journal_boot_of before s)
 
   changed : Bool
@@ -282,7 +282,7 @@ advert_is setting s before row step items leaves changes =
 -- ---- items that do nothing to it
 
 pub kept_is : (setting : Setting) (s : ℕ) (before items : List Item)
-    → NoneConcern (item_concerns_known s) before items → NoneConcern (item_concerns_calls s) before items
+    → NoMachineItemConcerns (machine_item_concerns_known s) before items → NoMachineItemConcerns (machine_item_concerns_calls s) before items
     → refined_switch_of setting (before ++ items) s ≡ refined_switch_of setting before s
 kept_is setting s before items none calls =
     by_facts setting (before ++ items) s _ (facts_kept setting s before items none)
@@ -292,7 +292,7 @@ kept_is setting s before items none calls =
 -- messages concern no switch until they are delivered
 sent_apart : (concerns : List Item → Item → Bool)
     → ((before : List Item) (n : ℕ) (message : Message) → concerns before (Item.Sent n message)
-    ≡ false) → (messages : List Message) (before : List Item) (n : ℕ) → NoneConcern concerns before
+    ≡ false) → (messages : List Message) (before : List Item) (n : ℕ) → NoMachineItemConcerns concerns before
     (machine_sent_items_from n messages)
 unfolding machine_sent_items_from
 sent_apart concerns none [] before n = tt
@@ -309,7 +309,7 @@ links_refine = record {
   advert = advert_is;
   held = λ setting journal s. refl;
   told = λ setting before now s. refl;
-  sent = λ setting before messages s. kept_is setting s before (send_items before messages)
-      (sent_apart (item_concerns_known s) (λ js n message. refl) messages before (journal_next_message before))
-      (sent_apart (item_concerns_calls s) (λ js n message. refl) messages before (journal_next_message before));
+  sent = λ setting before messages s. kept_is setting s before (machine_send_items before messages)
+      (sent_apart (machine_item_concerns_known s) (λ js n message. refl) messages before (journal_next_message before))
+      (sent_apart (machine_item_concerns_calls s) (λ js n message. refl) messages before (journal_next_message before));
 }

@@ -1,7 +1,7 @@
 -- One more step of a journal, and the calls that it counts.
 use Rattle.std.proofs.Common.{[], if◌then◌else◌, ◌++◌, ◌+◌, ◌==◌, ◌∙◌, ◌∷◌, ◌≡◌, Bool, List, ap, append-nil, append_assoc, arith, cond, false, min, refl, sum_by, sym, true, ℕ}
 use Rattle.base.proofs.Exports.{sum_by-cons}
-use Rattle.update_machine.specs.Exports.{Header, Hop, Item, NoneConcern, Packet, Setting, Step, StepItems, item_changes_steps, item_concerns_known, count_of, folded_journal_from, journal_handled_count, journal_hop_calls, is_machine_entry_at, most_journal_handled, journal_hop_stays_on_way, journal_steps_in, journal_travels_at}
+use Rattle.update_machine.specs.Exports.{Header, Hop, Item, NoMachineItemConcerns, Packet, Setting, Step, MachineStepItems, machine_item_changes_steps, machine_item_concerns_known, machine_count_of, folded_journal_from, journal_handled_count, journal_hop_calls, is_machine_entry_at, most_journal_handled, journal_hop_stays_on_way, journal_steps_in, journal_travels_at}
 use Rattle.switch_core.specs.Exports.{SwitchValue, switch_call_counted}
 use Rattle.update_machine.proofs.Exports.{count_of_append, folded_append}
 use Rattle.refinement.specs.Exports.{AreRefinedInStep, CallsRefine, IsRefinedInStep, BeginsNoRefinedStep, NoRefinedRows, refined_switch_of}
@@ -10,8 +10,8 @@ use Rattle.refinement.proofs.RefinedSwitchFacts.{by_facts, switch_by, switch_is,
 
 -- ---- steps
 
-with_more : (before : List Item) (newest : StepItems) (steps : List StepItems) (items : List Item)
-    → NoRefinedRows items → folded_journal_from item_changes_steps before (newest ∷ steps) items
+with_more : (before : List Item) (newest : MachineStepItems) (steps : List MachineStepItems) (items : List Item)
+    → NoRefinedRows items → folded_journal_from machine_item_changes_steps before (newest ∷ steps) items
     ≡ record newest { items = newest.items ++ items } ∷ steps
 with_more before newest steps [] none = ap (λ items. (record newest { items = items }) ∷ steps)
     (sym (append-nil newest.items))
@@ -25,7 +25,7 @@ pub steps_more : (journal : List Item) (row : ℕ) (step : Step) (items : List I
     → journal_steps_in (journal ++ Item.Row row step ∷ items)
     ≡ record { before = journal; items = Item.Row row step ∷ items } ∷ journal_steps_in journal
 unfolding journal_steps_in
-steps_more journal row step items none = folded_append item_changes_steps [] journal
+steps_more journal row step items none = folded_append machine_item_changes_steps [] journal
     (Item.Row row step ∷ items) ∙ with_more (journal ++ Item.Row row step ∷ [])
     (record { before = journal; items = Item.Row row step ∷ [] }) (journal_steps_in journal) items none
 
@@ -34,7 +34,7 @@ steps_more journal row step items none = folded_append item_changes_steps [] jou
 -- the calls of the switch in a step
 abbrev pub calls_in : ℕ → List Item → List Item → ℕ
 calls_in s before items =
-    count_of (is_machine_entry_at s) items + journal_hop_calls s (record { before = before; items = items }) items
+    machine_count_of (is_machine_entry_at s) items + journal_hop_calls s (record { before = before; items = items }) items
 
 clipped : (a b : ℕ) (more other : ℕ) → min most_journal_handled (a + more + (other + b)) ≡ min most_journal_handled
     (min most_journal_handled (a + b) + (more + other))
@@ -46,15 +46,15 @@ pub handled_more : (s : ℕ) (journal : List Item) (row : ℕ) (step : Step) (it
 unfolding journal_handled_count
 handled_more s journal row step items none =
     let all : List Item = Item.Row row step ∷ items in
-    let calls : StepItems → ℕ = λ one. journal_hop_calls s one one.items in
-    let first : StepItems = record { before = journal; items = all } in
+    let calls : MachineStepItems → ℕ = λ one. journal_hop_calls s one one.items in
+    let first : MachineStepItems = record { before = journal; items = all } in
     ap (λ count. min most_journal_handled (count + sum_by calls (journal_steps_in (journal ++ all))))
     (count_of_append (is_machine_entry_at s) journal all)
-    ∙ ap (λ more. min most_journal_handled (count_of (is_machine_entry_at s) journal + count_of (is_machine_entry_at s) all
+    ∙ ap (λ more. min most_journal_handled (machine_count_of (is_machine_entry_at s) journal + machine_count_of (is_machine_entry_at s) all
     + more)) (ap (sum_by calls) (steps_more journal row step items none)
     ∙ sum_by-cons calls first (journal_steps_in journal))
-    ∙ clipped (count_of (is_machine_entry_at s) journal) (sum_by calls (journal_steps_in journal))
-    (count_of (is_machine_entry_at s) all) (journal_hop_calls s first all)
+    ∙ clipped (machine_count_of (is_machine_entry_at s) journal) (sum_by calls (journal_steps_in journal))
+    (machine_count_of (is_machine_entry_at s) all) (journal_hop_calls s first all)
 
 -- ---- items in a step
 
@@ -71,16 +71,16 @@ no_entry s (Item.Entered packet switch header) is = absurd is
 no_entry s (Item.Closed packet switch) is = absurd is
 no_entry s _ is = refl
 
-no_entries : (s : ℕ) (items : List Item) → AreRefinedInStep items → count_of (is_machine_entry_at s) items ≡ 0
+no_entries : (s : ℕ) (items : List Item) → AreRefinedInStep items → machine_count_of (is_machine_entry_at s) items ≡ 0
 no_entries s [] all = refl
 no_entries s (first ∷ items) all = sum_by-cons (λ x. cond (is_machine_entry_at s x) 1 0) first items
-    ∙ ap (λ b. cond b 1 0 + count_of (is_machine_entry_at s) items) (no_entry s first all.0)
+    ∙ ap (λ b. cond b 1 0 + machine_count_of (is_machine_entry_at s) items) (no_entry s first all.0)
     ∙ omega (arith, no_entries s items all.1)
 
 -- ---- the record of a switch in a step of packets
 
 called_by : (setting : Setting) (before : List Item) (row t : ℕ) (step : Step) (items : List Item)
-    → NoRefinedRows items → NoneConcern (item_concerns_known t) before (Item.Row row step ∷ items)
+    → NoRefinedRows items → NoMachineItemConcerns (machine_item_concerns_known t) before (Item.Row row step ∷ items)
     → refined_switch_of setting (before ++ Item.Row row step ∷ items) t
     ≡ record (refined_switch_of setting before t) {
       handled = min most_journal_handled ((refined_switch_of setting before t).handled
@@ -122,20 +122,20 @@ unfolding refined_switch_of journal_handled_count
 no_call setting before t calls none =
     ap (λ count. record (refined_switch_of setting before t) { handled = count })
     (ap (λ more. min most_journal_handled (journal_handled_count before t + more)) none
-    ∙ most_clips most_journal_handled (count_of (is_machine_entry_at t) before
+    ∙ most_clips most_journal_handled (machine_count_of (is_machine_entry_at t) before
     + sum_by (λ step. journal_hop_calls t step step.items) (journal_steps_in before)))
 
 -- ---- packets
 
 entry_calls : (s t : ℕ) (one : Item) (items : List Item) → AreRefinedInStep items
-    → is_machine_entry_at t one ≡ (s == t) → count_of (is_machine_entry_at t) (one ∷ items) ≡ cond (s == t) 1 0
+    → is_machine_entry_at t one ≡ (s == t) → machine_count_of (is_machine_entry_at t) (one ∷ items) ≡ cond (s == t) 1 0
 entry_calls s t one items all is = sum_by-cons (λ x. cond (is_machine_entry_at t x) 1 0) one items
-    ∙ ap (λ b. cond b 1 0 + count_of (is_machine_entry_at t) items) is ∙ omega (arith, no_entries)
+    ∙ ap (λ b. cond b 1 0 + machine_count_of (is_machine_entry_at t) items) is ∙ omega (arith, no_entries)
 
 came_in : (setting : Setting) (before : List Item) (row s t : ℕ) (header : Header)
     (one : Item) (items : List Item) → BeginsNoRefinedStep one → AreRefinedInStep items
     → is_machine_entry_at t one ≡ (s == t)
-    → NoneConcern (item_concerns_known t) before (Item.Row row (Packet s header) ∷ one ∷ items)
+    → NoMachineItemConcerns (machine_item_concerns_known t) before (Item.Row row (Packet s header) ∷ one ∷ items)
     → refined_switch_of setting (before ++ Item.Row row (Packet s header) ∷ one ∷ items) t
     ≡ (if s == t then switch_call_counted (refined_switch_of setting before t) else refined_switch_of setting before t)
 came_in setting before row s t header one items begins all is apart =
@@ -161,7 +161,7 @@ came_in setting before row s t header one items begins all is apart =
     by_test false e = no_call setting before t calls (calls_are ∙ ap (λ b. cond b 1 0) e)
 
 went_on : (setting : Setting) (before : List Item) (row i t : ℕ) (items : List Item)
-    → AreRefinedInStep items → NoneConcern (item_concerns_known t) before (Item.Row row (Hop i) ∷ items)
+    → AreRefinedInStep items → NoMachineItemConcerns (machine_item_concerns_known t) before (Item.Row row (Hop i) ∷ items)
     → refined_switch_of setting (before ++ Item.Row row (Hop i) ∷ items) t ≡ (if journal_travels_at before t i
     then (if journal_hop_stays_on_way items then switch_call_counted (refined_switch_of setting before t)
     else switch_call_counted (switch_call_counted (refined_switch_of setting before t))) else refined_switch_of setting before t)

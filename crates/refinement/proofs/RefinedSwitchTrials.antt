@@ -3,10 +3,10 @@ use Rattle.std.proofs.Common.{[], ◌++◌, ◌∙◌, ◌∷◌, ◌≡◌, Lis
 use Rattle.base.proofs.Exports.{list_any}
 use Rattle.update_machine.specs.Exports.{Body, Collect, Drop, Install, Item, Out, Seek, Step, journal_boot_of, journal_cache_of, journal_usable_links_changed, heard, holds_version, is_link_up_in_journal, is_up, journal_message_of, near, journal_own_seq, serves, journal_stamp_of, journal_steps_in}
 use Rattle.base.specs.Exports.{small_number_mask, number_set_where, switches}
-use Rattle.switch_table.specs.Exports.{Hosted}
+use Rattle.switch_table.specs.Exports.{HostedPolicyPartition}
 use Rattle.ternary.specs.Exports.{holds}
 use Rattle.update_machine.proofs.Exports.{any_word, first_plan, one, open_net, plan_p, rule, tables_of, to}
-use Rattle.control_laws.specs.Exports.{LegEndsAt}
+use Rattle.control_laws.specs.Exports.{ControlLegEndsAt}
 use Rattle.refinement.specs.Exports.{AreRefinedInStep, CanRefinedSwitchRestart, RefinementLeavesSwitch, refined_message_at, refined_switch_of, refined_tables_kept}
 
 -- switch a is told this
@@ -93,7 +93,7 @@ not_two_packets : AreRefinedInStep (Item.Entered 2 0 one ∷ []) → ⊥
 not_two_packets are = absurd are.0
 
 -- the partition is on b, so a isn't where its leg leads
-abbrev only : Hosted
+abbrev only : HostedPolicyPartition
 only = (
   record {
     number = 0;
@@ -103,7 +103,7 @@ only = (
   1 ∷ [],
 )
 
-ends_at_b : LegEndsAt open_net [] 1 one (Seek 1 0)
+ends_at_b : ControlLegEndsAt open_net [] 1 one (Seek 1 0)
 unfolding holds
 ends_at_b = record {
   hosted = only;
@@ -113,12 +113,12 @@ ends_at_b = record {
   target = refl;
 }
 
-not_at_a : LegEndsAt open_net [] 0 one (Seek 1 0) → ⊥
+not_at_a : ControlLegEndsAt open_net [] 0 one (Seek 1 0) → ⊥
 not_at_a ends =
     let found = sym (ap (λ plan. slice_get plan 0) (first_plan [])) ∙ ends.found in
     let same : only ≡ ends.hosted = cc in
     let target : list_any (nat_eq 0) (1 ∷ []) ≡ true =
-    subst (λ (hosted : Hosted). list_any (nat_eq 0) hosted.1 ≡ true) (sym same) ends.target in
+    subst (λ (hosted : HostedPolicyPartition). list_any (nat_eq 0) hosted.1 ≡ true) (sym same) ends.target in
     cc
 
 -- a switch that is up isn't restarted

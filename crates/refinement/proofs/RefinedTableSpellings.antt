@@ -1,15 +1,15 @@
 -- How long the spelling of small tables is.
 use Rattle.std.proofs.Common.{[], ◌++◌, ◌<◌, ◌^◌, ◌∙◌, ◌≡◌, ◌≤◌, All, List, Some, ap, arith, filter, flat_map, get_or, length, length-append, map, not, refl, subst, sym, ℕ}
 use Rattle.base.proofs.Exports.{All-filter, All-map, each_short, get_or-map, length-filter_both, length-map}
-use Rattle.update_machine.specs.Exports.{Advertise, Body, Hello, Install, Installed, IsJournalReached, IsSetting, Item, Net, PartRow, Partition, Place, Row, Rule, Setting, Stamp, Stamped, Tables, journal_message_of, journal_plan_at, machine_message_to_switch}
-use Rattle.wire.specs.Exports.{AreWireShort, AreSwitches, action, install_form, message, n1, n4, partition, region, rule, rule_name, wire_spelled_number, switch, tables, wire_target_count, targets, word}
+use Rattle.update_machine.specs.Exports.{Advertise, Body, Hello, Install, Installed, IsJournalReached, IsMachineSetting, Item, Net, PartRow, Partition, Place, Row, Rule, Setting, Stamp, Stamped, Tables, journal_message_of, journal_plan_at, machine_message_to_switch}
+use Rattle.wire.specs.Exports.{AreWireShort, AreWireSwitchNumbers, action, wire_install_form, message, n1, n4, partition, region, rule, wire_rule_name, wire_spelled_number, switch, tables, wire_target_count, targets, word}
 use Rattle.wire.proofs.WireFrameBytes.{length_n4}
 use Rattle.message_bag.proofs.BagSpellingLengths.{action_len, alone_short, length_message, rule_len, stamp_sent_short, word_len}
 use Rattle.net_file.specs.Exports.{IsNet}
-use Rattle.partition.specs.Plan.{Hosted, IsPartitionPlan}
-use Rattle.switch_table.specs.Exports.{has_target, part_of, row_of, tables_of}
+use Rattle.partition.specs.Plan.{HostedPolicyPartition, IsPartitionPlan}
+use Rattle.switch_table.specs.Exports.{switch_table_part_has_target, switch_table_part_of, switch_table_row_of_hosted, tables_of}
 use Rattle.message_bag.specs.Exports.{HasShortBagSpelling}
-use Rattle.control_laws.specs.Exports.{ControlAdvertsAreOfSwitches, ControlBodiesNameThere, IsControlMessageAddressed, StampsSayTouched, ControlTablesArePlanned, ControlVersionsArePlanned, control_stamp_message_to}
+use Rattle.control_laws.specs.Exports.{ControlAdvertsAreOfSwitches, ControlBodiesNameThere, IsControlMessageAddressed, ControlStampsSayTouched, ControlTablesArePlanned, ControlVersionsArePlanned, control_stamp_message_to}
 use Rattle.control_laws.proofs.Exports.{always, behind_both, bodies_named, of_switches, stamps_touched, tables_planned, versions_planned}
 use Rattle.update_machine.proofs.Exports.{begins_planned, touched_few}
 use Rattle.packet_laws.proofs.Exports.{version_planned}
@@ -48,9 +48,9 @@ unfolding rule
 one_rule r = omega (
   arith,
   length-append (word.spell r.word)
-      (n4.spell r.rank ++ (rule_name.spell r.rule ++ action.spell r.action)),
-  length-append (n4.spell r.rank) (rule_name.spell r.rule ++ action.spell r.action),
-  length-append (rule_name.spell r.rule) (action.spell r.action),
+      (n4.spell r.rank ++ (wire_rule_name.spell r.rule ++ action.spell r.action)),
+  length-append (n4.spell r.rank) (wire_rule_name.spell r.rule ++ action.spell r.action),
+  length-append (wire_rule_name.spell r.rule) (action.spell r.action),
   word_len r.word,
   length_n4 r.rank,
   rule_len r.rule,
@@ -104,12 +104,12 @@ tables_len t small = omega (
 
 -- ---- the tables of a version are small, and name switches of the network alone
 
-module _ (rows : List Row) (net : Net) (plan : List Hosted) (version s : ℕ)
+module _ (rows : List Row) (net : Net) (plan : List HostedPolicyPartition) (version s : ℕ)
     (net_is : IsNet net) (is : IsPartitionPlan rows net plan) where
   -- a partition has one target and its backups
-  targets_few : All (λ (hosted : Hosted). length hosted.1 ≤ 4) plan
+  targets_few : All (λ (hosted : HostedPolicyPartition). length hosted.1 ≤ 4) plan
   targets_few k d within =
-      let parts = map (λ (hosted : Hosted). hosted.0) plan in
+      let parts = map (λ (hosted : HostedPolicyPartition). hosted.0) plan in
       let sizes : length (map (λ (part : _). length part.rules) parts) ≡ length plan =
       length-map parts _ ∙ length-map plan _ in
       let due = is.placement.hosted k (omega (arith, within, sizes)) in
@@ -117,36 +117,36 @@ module _ (rows : List Row) (net : Net) (plan : List Hosted) (version s : ℕ)
         arith,
         net_is.backups,
         due.number,
-        ap length (get_or-map (λ (hosted : Hosted). hosted.1) plan k d [] within),
+        ap length (get_or-map (λ (hosted : HostedPolicyPartition). hosted.1) plan k d [] within),
       )
 
-  abbrev own : List Hosted
-  own = filter (has_target s) plan
+  abbrev own : List HostedPolicyPartition
+  own = filter (switch_table_part_has_target s) plan
 
   own_fewer : length own ≤ length plan
-  own_fewer = omega (arith, length-filter_both (has_target s) (λ p. not (has_target s p)) (λ p. refl) plan)
+  own_fewer = omega (arith, length-filter_both (switch_table_part_has_target s) (λ p. not (switch_table_part_has_target s p)) (λ p. refl) plan)
 
-  rules_few : All (λ (hosted : Hosted). length hosted.0.rules ≤ 8192) plan
+  rules_few : All (λ (hosted : HostedPolicyPartition). length hosted.0.rules ≤ 8192) plan
   rules_few k d within = omega (arith, is.leaves k d within, net_is.leaf_rules)
 
-  own_rules : All (λ part. length part.rules ≤ 8192) (map part_of own)
-  own_rules = All-map (λ part. length part.rules ≤ 8192) part_of own
-      (All-filter (has_target s) (λ hosted. length hosted.0.rules ≤ 8192) plan rules_few)
+  own_rules : All (λ part. length part.rules ≤ 8192) (map switch_table_part_of own)
+  own_rules = All-map (λ part. length part.rules ≤ 8192) switch_table_part_of own
+      (All-filter (switch_table_part_has_target s) (λ hosted. length hosted.0.rules ≤ 8192) plan rules_few)
 
   pub small : AreSmall (tables_of plan version s)
   small = record {
-    regions = omega (arith, is.few, length-map plan row_of);
-    targets = All-map (λ (row : PartRow). length row.targets ≤ 4) row_of plan targets_few;
-    partitions = omega (arith, is.few, own_fewer, length-map own part_of);
+    regions = omega (arith, is.few, length-map plan switch_table_row_of_hosted);
+    targets = All-map (λ (row : PartRow). length row.targets ≤ 4) switch_table_row_of_hosted plan targets_few;
+    partitions = omega (arith, is.few, own_fewer, length-map own switch_table_part_of);
     rules = own_rules;
   }
 
   pub short : AreWireShort (tables_of plan version s)
   short = record {
-    regions = omega (arith, is.few, length-map plan row_of);
-    targets = All-map AreSwitches row_of plan
+    regions = omega (arith, is.few, length-map plan switch_table_row_of_hosted);
+    targets = All-map AreWireSwitchNumbers switch_table_row_of_hosted plan
         (λ k d within j e there. omega (arith, is.targets k d within j e there, net_is.few_switches));
-    partitions = omega (arith, is.few, own_fewer, length-map own part_of);
+    partitions = omega (arith, is.few, own_fewer, length-map own switch_table_part_of);
     rules = λ k d within. omega (arith, own_rules k d within);
   }
 
@@ -154,7 +154,7 @@ module _ (rows : List Row) (net : Net) (plan : List Hosted) (version s : ℕ)
 
 tables_short : (to : Place) (boot : ℕ) (t : Tables) → AreSmall t
     → length (message.spell (record { to = to; body = Install boot t })) < 2 ^ 40
-unfolding install_form
+unfolding wire_install_form
 tables_short to boot t are = omega (
   arith,
   length_message (record { to = to; body = Install boot t }),
@@ -163,7 +163,7 @@ tables_short to boot t are = omega (
   tables_len t are,
 )
 
-module _ (setting : Setting) (journal : List Item) (is : IsSetting setting)
+module _ (setting : Setting) (journal : List Item) (is : IsMachineSetting setting)
     (reached : IsJournalReached setting journal) where
   names : ControlBodiesNameThere setting journal
   names = bodies_named.reached setting journal reached is.net
@@ -191,7 +191,7 @@ module _ (setting : Setting) (journal : List Item) (is : IsSetting setting)
             (small _ setting.net (journal_plan_at setting journal t.version) t.version s is.net plan.parts),
       )
 
-  touches : StampsSayTouched setting journal
+  touches : ControlStampsSayTouched setting journal
   touches = rw reached.written ((always _ stamps_touched).behind.ends.stepped setting reached.steps)
 
   few : (n s boot version : ℕ) (touched : List WordValue)

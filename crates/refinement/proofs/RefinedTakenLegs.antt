@@ -1,14 +1,14 @@
 -- A switch takes a leg as the journal's definitions say.
 use Rattle.std.proofs.Common.{[], ◌&&◌, ◌++◌, ◌<◌, ◌==◌, ◌||◌, ◌∙◌, ◌∷◌, ◌≡◌, Bool, Err, IsFalse, IsTrue, List, None, Ok, Option, Result, Some, ap, arith, ext_get_or, false, get_or, if◌then◌else◌, length, ltb-true, map, nat_lt, ok_or, option_map, refl, rules, sym, true, unwrap_or, ℕ}
 use Rattle.base.proofs.Exports.{get_or-map-range_with_len, list_all, range_with_len}
-use Rattle.controller.specs.Exports.{ControllerValue, PlanValue, controller_at_start, kept_plan_tables}
-use Rattle.switch_table.specs.Exports.{lookup_of, tables_of}
-use Rattle.update_machine.specs.Exports.{Action, Cause, Exit, Header, Item, JournalKnownKeeps, Leg, Net, NoAuthority, NoRoute, Ports, Seek, Setting, JournalSwitchKeeps, Tables, journal_stuck_cause_at, concerns_links, item_concerns_policies, concerns_switch, journal_decision_of, machine_end_items, journal_found_down, journal_packet_header, holds_version as holds_in, is_cut_off_in_journal, is_up, journal_leaving_item as left, machine_leg_items, lookup_at, near, no_switch, owner, journal_plan_at, journal_route_from, serves as serves_in, journal_stamp_of, journal_tables_at, machine_takes_route, journal_leg_targets}
+use Rattle.controller.specs.Exports.{ControllerValue, ControllerPlanValue, controller_at_start, controller_kept_plan_tables}
+use Rattle.switch_table.specs.Exports.{switch_table_lookup_of, tables_of}
+use Rattle.update_machine.specs.Exports.{Action, Cause, Exit, Header, Item, JournalKnownKeeps, Leg, Net, NoAuthority, NoRoute, Ports, Seek, Setting, JournalSwitchKeeps, Tables, journal_stuck_cause_at, machine_item_concerns_links, machine_item_concerns_policies, machine_item_concerns_switch, journal_decision_of, machine_end_items, journal_found_down, journal_packet_header, holds_version as holds_in, is_cut_off_in_journal, is_up, journal_leaving_item as left, machine_leg_items, machine_lookup_at, near, machine_no_switch, owner, journal_plan_at, journal_route_from, serves as serves_in, journal_stamp_of, journal_tables_at, machine_takes_route, journal_leg_targets}
 use Rattle.failover.proofs.FailoverHeldAdverts.{by_origin-first, held-first}
-use Rattle.failover.specs.Exports.{first_advert, first_adverts, first_of, is_isolated, route_of}
+use Rattle.failover.specs.Exports.{first_advert, first_adverts, first_failover_advert_below, is_failover_target_isolated, route_of}
 use Rattle.net_file.specs.Exports.{AreNetPortOwners, IsNet, links_of, net_port_owner, owner_in_net_ports}
 use Rattle.world_log.specs.Exports.{AreLogNearMasks, log_end_item, log_left_item, log_set_item}
-use Rattle.switch_core.specs.Exports.{SwitchValue, are_isolated, around, switch_call_counted, switch_stuck_cause, switch_exit_by_tunnel, held_tables, holds_version, switch_leave_by_port, next_of, no_switch_tables, serves, set_out, stamp_tables}
+use Rattle.switch_core.specs.Exports.{SwitchValue, are_switch_targets_isolated, switch_site_around, switch_call_counted, switch_stuck_cause, switch_exit_by_tunnel, switch_held_tables, holds_version, switch_leave_by_port, switch_next_of, no_switch_tables, serves, switch_set_out, switch_stamp_tables}
 use Rattle.refinement.specs.Exports.{refined_switch_of}
 use Rattle.refinement.proofs.RefinedSwitchKnowledge.{knowledge_refines, open_shown}
 use Rattle.refinement.proofs.RefinedSwitchFacts.{number_shown, stamp_shown}
@@ -16,7 +16,7 @@ use Rattle.update_machine.proofs.Exports.{known_keeps, known_link_laws, lookup_s
 use Rattle.refinement.proofs.RefinedSteps.{Known}
 use Rattle.switch_core.specs.declared.tunnel_calls.Packet.{Packet}
 use Rattle.tunnel.specs.Exports.{TunnelValue, tunnel_begun}
-use Rattle.travelling.specs.Travelling.{Standing}
+use Rattle.travelling.specs.Travelling.{TravellingStanding}
 use Rattle.switch_core.specs.declared.deciding.Decision.{Decision as Decided}
 use Rattle.switch_core.specs.declared.tunnel_calls.Next.TheVariants as next
 
@@ -25,7 +25,7 @@ use Rattle.switch_core.specs.declared.tunnel_calls.Next.TheVariants as next
 -- of the neighbours, those of the switches alone are told
 first_same : (near other : List ℕ) (count s : ℕ) (b : Bool) → nat_lt s count ≡ b
     → (s < count → get_or near s 0 ≡ get_or other s 0)
-    → first_of near count s ≡ first_of other count s
+    → first_failover_advert_below near count s ≡ first_failover_advert_below other count s
 first_same near other count s true is same =
     rw is (ap (λ up. Some (first_advert s up)) (same (ltb-true s count is)))
 first_same near other count s false is same = rw is refl
@@ -53,11 +53,11 @@ first_near net near sound are = all_first near
     (links_of net.links) 0 (length net.switches) s s 0 within (omega arith)))
 
 -- the first controller's tables of version 1 are those of its plan
-pub first_tables : (net : Net) (controller : ControllerValue) (plan : PlanValue)
+pub first_tables : (net : Net) (controller : ControllerValue) (plan : ControllerPlanValue)
     (tables : Tables) (s : ℕ) → controller ≡ controller_at_start (length net.switches) plan
-    → kept_plan_tables controller 1 s ≡ Some tables → tables ≡ tables_of plan.hosted 1 s
+    → controller_kept_plan_tables controller 1 s ≡ Some tables → tables ≡ tables_of plan.hosted 1 s
 first_tables net controller plan tables s is found =
-    cc (sym found ∙ ap (λ (c : ControllerValue). kept_plan_tables c 1 s) is)
+    cc (sym found ∙ ap (λ (c : ControllerValue). controller_kept_plan_tables c 1 s) is)
 
 -- ---- what a switch has and knows is what the journal says, also within a step
 
@@ -68,15 +68,15 @@ pub record Sees (setting : Setting) (journal : List Item) (s : ℕ) (w : SwitchV
   pub serving : serves w ≡ serves_in journal s
   pub stamp : w.stamp ≡ journal_stamp_of journal s
   pub held : (v : ℕ) → holds_version w v ≡ holds_in journal s v
-  pub tables : (v : ℕ) → held_tables w v
+  pub tables : (v : ℕ) → switch_held_tables w v
       ≡ (if holds_in journal s v then Some (journal_tables_at setting journal v s) else None)
   pub lookup : (header : Header) → IsTrue (serves_in journal s)
-      → lookup_of w.cache.entries (stamp_tables w) header ≡ lookup_at setting journal s header
+      → switch_table_lookup_of w.cache.entries (switch_stamp_tables w) header ≡ machine_lookup_at setting journal s header
   pub stamped : IsTrue (serves_in journal s)
-      → stamp_tables w ≡ journal_tables_at setting journal (journal_stamp_of journal s) s
+      → switch_stamp_tables w ≡ journal_tables_at setting journal (journal_stamp_of journal s) s
   pub route : (targets down : List ℕ) → route_of w.database w.number targets mask down
       ≡ journal_route_from setting journal s targets down
-  pub cut_off : (target : ℕ) (down : List ℕ) → is_isolated w.database w.number target mask down
+  pub cut_off : (target : ℕ) (down : List ℕ) → is_failover_target_isolated w.database w.number target mask down
       ≡ is_cut_off_in_journal setting journal s down target
   pub usable : mask ≡ near setting journal s
 
@@ -101,13 +101,13 @@ sees setting journal s knows there =
       tables = λ v. knowledge_refines.tables setting journal s v knows.tables;
       lookup = λ header serving. knowledge_refines.lookup setting journal s header knows.tables
           (knows.holds s there serving).stamp;
-      stamped = λ serving. ap (λ o. unwrap_or o no_switch_tables) (ap (held_tables w) stamp
+      stamped = λ serving. ap (λ o. unwrap_or o no_switch_tables) (ap (switch_held_tables w) stamp
           ∙ knowledge_refines.tables setting journal s (journal_stamp_of journal s) knows.tables
           ∙ ap (λ b. if b then Some (journal_tables_at setting journal (journal_stamp_of journal s) s) else None)
           (knows.holds s there serving).stamp);
       route = λ targets down. ap (λ n. route_of w.database n targets mask down) number
           ∙ knowledge_refines.route setting journal s targets down;
-      cut_off = λ target down. ap (λ n. is_isolated w.database n target mask down) number
+      cut_off = λ target down. ap (λ n. is_failover_target_isolated w.database n target mask down) number
           ∙ knowledge_refines.cut_off setting journal s target down;
       usable = refl;
     }
@@ -119,9 +119,9 @@ sees_counted setting journal s w mask sees = search (rules, sees.held, sees.tabl
 
 -- nor does an item that concerns neither the switch, nor links, nor policies
 pub record Spares (s : ℕ) (before : List Item) (next : Item) : Type 0 where
-  pub switch : IsFalse (concerns_switch s before next)
-  pub links : IsFalse (concerns_links before next)
-  pub policies : IsFalse (item_concerns_policies before next)
+  pub switch : IsFalse (machine_item_concerns_switch s before next)
+  pub links : IsFalse (machine_item_concerns_links before next)
+  pub policies : IsFalse (machine_item_concerns_policies before next)
 
 neither : (a b : Bool) → a ≡ false → b ≡ false → (a || b) ≡ false
 neither a b one other = rw (one, other) refl
@@ -158,7 +158,7 @@ sees_one setting before next s w mask spares sees =
 
 -- ---- taken legs
 
-abbrev pub at_switch : ℕ → Packet → Standing
+abbrev pub at_switch : ℕ → Packet → TravellingStanding
 at_switch s packet = record {
   packet = packet.number;
   header = packet.header;
@@ -176,10 +176,10 @@ pub cause_law : (setting : Setting) (journal : List Item) (s : ℕ) (w : SwitchV
     → Sees setting journal s w mask → (down : List ℕ) (leg : Leg)
     → journal_stuck_cause_at setting journal s down leg
     ≡ switch_stuck_cause w mask down leg (journal_leg_targets setting journal leg)
-unfolding switch_stuck_cause are_isolated
+unfolding switch_stuck_cause are_switch_targets_isolated
 cause_law setting journal s w mask sees down (Seek version partition) =
     ap (λ b. if b then NoAuthority else NoRoute) (all_same (is_cut_off_in_journal setting journal s down)
-    (λ target. is_isolated w.database w.number target mask down) (λ target. sym
+    (λ target. is_failover_target_isolated w.database w.number target mask down) (λ target. sym
     (sees.cut_off target down)) (journal_leg_targets setting journal (Seek version partition)))
 cause_law setting journal s w mask sees down (Exit port) = refl
 
@@ -198,9 +198,9 @@ by_route s packet leg targets cause (Some route) = refl
 pub leg_law : (setting : Setting) (journal : List Item) (s : ℕ) (w : SwitchValue) (mask : ℕ)
     → Sees setting journal s w mask → (packet : Packet) → journal_found_down journal packet.number
     ≡ packet.down → (leg : Leg) → machine_leg_items setting journal packet.number s leg
-    ≡ log_set_item (at_switch s packet) leg (set_out w mask packet leg (journal_leg_targets setting journal leg))
+    ≡ log_set_item (at_switch s packet) leg (switch_set_out w mask packet leg (journal_leg_targets setting journal leg))
     ∷ []
-unfolding machine_leg_items set_out
+unfolding machine_leg_items switch_set_out
 leg_law setting journal s w mask sees packet found leg =
     let targets : List ℕ = journal_leg_targets setting journal leg in
     let by : Cause → List ℕ → Option (List ℕ) → List Item = λ cause down route. elim route [
@@ -229,7 +229,7 @@ pub record IsDecided (journal : List Item) (packet : Packet) (decision : Decided
     action = decision.action;
   })
 
-exit_item : (at : Standing) (decision : Decided) (port : ℕ) (way : Result TunnelValue Cause)
+exit_item : (at : TravellingStanding) (decision : Decided) (port : ℕ) (way : Result TunnelValue Cause)
     → decision.action ≡ Action.Out port
     → log_set_item at (Exit port) way ≡ log_end_item at decision (switch_exit_by_tunnel way)
 exit_item at decision port (Ok tunnel) is = refl
@@ -245,7 +245,7 @@ out_law : (setting : Setting) (journal : List Item) (s : ℕ) (w : SwitchValue) 
 unfolding machine_end_items switch_leave_by_port
 out_law setting journal s w mask sees packet decision said port its acts owns true here =
     let i : ℕ = packet.number in
-    let way : Result TunnelValue Cause = set_out w mask packet (Exit port) (its ∷ []) in
+    let way : Result TunnelValue Cause = switch_set_out w mask packet (Exit port) (its ∷ []) in
     ap (λ b. elim b [
       | true ↦ left journal i port ∷ []
       | false ↦ machine_leg_items setting journal i s (Exit port)
@@ -254,15 +254,15 @@ out_law setting journal s w mask sees packet decision said port its acts owns tr
     ∙ sym (ap (λ b. log_end_item (at_switch s packet) decision
     (if b then next.Out port else switch_exit_by_tunnel way) ∷ []) (ap (λ n. its == n) sees.number ∙ here))
 out_law setting journal s w mask sees packet decision said port its acts owns false here =
-    let at : Standing = at_switch s packet in
+    let at : TravellingStanding = at_switch s packet in
     let i : ℕ = packet.number in
-    let way : Result TunnelValue Cause = set_out w mask packet (Exit port) (its ∷ []) in
+    let way : Result TunnelValue Cause = switch_set_out w mask packet (Exit port) (its ∷ []) in
     ap (λ b. elim b [
       | true ↦ left journal i port ∷ []
       | false ↦ machine_leg_items setting journal i s (Exit port)
     ]) (ap (λ o. o == s) owns ∙ here)
     ∙ leg_law setting journal s w mask sees packet said.found (Exit port)
-    ∙ ap (λ o. log_set_item at (Exit port) (set_out w mask packet (Exit port) (o ∷ [])) ∷ []) owns
+    ∙ ap (λ o. log_set_item at (Exit port) (switch_set_out w mask packet (Exit port) (o ∷ [])) ∷ []) owns
     ∙ ap (λ one. one ∷ []) (exit_item at decision port way acts)
     ∙ sym (ap (λ b. log_end_item at decision (if b then next.Out port else switch_exit_by_tunnel way) ∷ [])
     (ap (λ n. its == n) sees.number ∙ here))
@@ -285,8 +285,8 @@ pub end_law : (setting : Setting) (journal : List Item) (s : ℕ) (w : SwitchVal
     → s < 64 → (ports : Ports) → AreNetPortOwners setting.net.switches ports
     → (packet : Packet) (decision : Decided) → IsDecided journal packet decision
     → (what : Action) → decision.action ≡ what → machine_end_items setting packet.number s what journal
-    ≡ log_end_item (at_switch s packet) decision (next_of w (around mask ports) packet what) ∷ []
-unfolding machine_end_items next_of
+    ≡ log_end_item (at_switch s packet) decision (switch_next_of w (switch_site_around mask ports) packet what) ∷ []
+unfolding machine_end_items switch_next_of
 end_law setting journal s w mask sees there ports owners packet decision said Action.Drop acts =
     refl
 end_law setting journal s w mask sees there ports owners packet decision said (Action.Out port)
@@ -302,5 +302,5 @@ end_law setting journal s w mask sees there ports owners packet decision said (A
         portless_law setting journal s w mask there packet decision said port acts none
         ∙ ap (λ o. at_owner o ∷ []) (sym (owners port ∙ none))
     by_owner (Some its) is = out_law setting journal s w mask sees packet decision said port its
-        acts (ap (λ o. unwrap_or o no_switch) is) (its == s) refl
+        acts (ap (λ o. unwrap_or o machine_no_switch) is) (its == s) refl
         ∙ ap (λ o. at_owner o ∷ []) (sym (owners port ∙ is))

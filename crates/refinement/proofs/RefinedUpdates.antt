@@ -4,11 +4,11 @@ use Rattle.base.proofs.Exports.{All-nil, get_or-map-range_with_len, length-map-r
 use Rattle.refinement.specs.Exports.{AreRefinedActsWritten, IsRefinedBagOf, IsRefinedController, IsNextPlanRefined, RefinedNetworkState, RefineJournal, refined_flight_in, is_refined_up_link, refined_plan_to_keep, refined_switch_begun, refined_switch_of}
 use Rattle.refinement.proofs.RefinedControllerResends.{items_leave}
 use Rattle.refinement.proofs.RefinedSubmissions.{submits, too_many_live, too_many_versions}
-use Rattle.controller.specs.Exports.{ControllerValue, PlanValue, ControllerSubmitsPlan, controller_at_start, controller_newest_policy, next_kept_plan, controller_submit_acts}
+use Rattle.controller.specs.Exports.{ControllerValue, ControllerPlanValue, ControllerSubmitsPlan, controller_at_start, controller_newest_policy, controller_next_kept_plan, controller_submit_acts}
 use Rattle.controller.specs.declared.sends.Act.{Act}
-use Rattle.update_machine.specs.Exports.{Inapplicable, IsSetting, Item, LinkRow, NamesSettingPort, Net, JournalPoliciesKeep, PolicyFile, Row, Setting, Step, Update, Whole, machine_apply_code, journal_items_then, made_by, journal_next_packet, piece, journal_plan_at, machine_plan_code, policy_at, policy_in, setting_of, submitted_items, touched_of, travels, machine_update_code, machine_update_items, journal_version_count}
-use Rattle.partition.specs.Plan.{Hosted, partition_plan_of}
-use Rattle.policy_rules.specs.Exports.{PolicyFileRowsAre, IsPolicyRulesOrAmendment, NoPolicyPlan}
+use Rattle.update_machine.specs.Exports.{Inapplicable, IsMachineSetting, Item, LinkRow, NamesMachineSettingPort, Net, JournalPoliciesKeep, PolicyFile, Row, Setting, Step, Update, Whole, machine_apply_code, journal_items_then, machine_policy_made_by, journal_next_packet, piece, journal_plan_at, machine_plan_code, machine_policy_at, machine_policy_in, machine_setting_of, machine_submitted_items, machine_touched_of, travels_in_journal, machine_update_code, machine_update_items, journal_version_count}
+use Rattle.partition.specs.Plan.{HostedPolicyPartition, partition_plan_of}
+use Rattle.policy_rules.specs.Exports.{PolicyFileRowsAre, IsSoundPolicyFile, NoPolicyPlan}
 use Rattle.steps.specs.Exports.{IsStep}
 use Rattle.update_machine.proofs.Exports.{first_version_is, next_by, policies_keep, setting_begun, start_laws, unapplied_code, unplanned_code}
 use Rattle.world_log.specs.Exports.{AreLogNearMasks, LogMayNote, log_act_items, log_act_posts}
@@ -28,54 +28,54 @@ module _ {setting : Setting} {journal : List Item} {state : RefinedNetworkState}
   -- the policy of the newest version is the one that the controller keeps, and a row leaves it
   pub newest_refines : (row : ℕ) (step : Step) (newest : List Row)
       → controller_newest_policy state.controller ≡ Some newest
-      → (policy_in setting journal (journal_version_count journal) ≡ Some newest)
-      × (policy_in setting (journal ++ Item.Row row step ∷ [])
+      → (machine_policy_in setting journal (journal_version_count journal) ≡ Some newest)
+      × (machine_policy_in setting (journal ++ Item.Row row step ∷ [])
       (journal_version_count (journal ++ Item.Row row step ∷ [])) ≡ Some newest)
   newest_refines row step newest is =
       let here : List Item = journal ++ Item.Row row step ∷ [] in
       let keep = policies_keep journal (Item.Row row step ∷ []) (refl, tt) in
-      let own : policy_in setting journal (journal_version_count journal) ≡ Some newest =
+      let own : machine_policy_in setting journal (journal_version_count journal) ≡ Some newest =
       sym (newest_in setting journal state.controller refines.sound (reached_known setting journal
       refines.sound refines.reached).caused refines.controller) ∙ is in (
         own,
-        ap (policy_in setting here) keep.count ∙ keep.rows setting (journal_version_count journal) ∙ own,
+        ap (machine_policy_in setting here) keep.count ∙ keep.rows setting (journal_version_count journal) ∙ own,
       )
 
 -- a plan of what the file makes of it is that of the next version
 pub planned_next : (net : Net) (files : List PolicyFile) (journal : List Item) (file : ℕ)
-    (newest : List Row) (plan : PlanValue) (touched : List WordValue) → 1 ≤ file
-    → policy_in (setting_of net files) journal (journal_version_count journal) ≡ Some newest
-    → made_by (slice_get files (file - 1)) (Some newest) ≡ Ok plan.policy
+    (newest : List Row) (plan : ControllerPlanValue) (touched : List WordValue) → 1 ≤ file
+    → machine_policy_in (machine_setting_of net files) journal (journal_version_count journal) ≡ Some newest
+    → machine_policy_made_by (slice_get files (file - 1)) (Some newest) ≡ Ok plan.policy
     → partition_plan_of plan.policy net ≡ Ok plan.hosted
-    → touched ≡ touched_of (slice_get files (file - 1)) (Some newest)
-    → IsNextPlanRefined (setting_of net files) journal file plan touched
+    → touched ≡ machine_touched_of (slice_get files (file - 1)) (Some newest)
+    → IsNextPlanRefined (machine_setting_of net files) journal file plan touched
 planned_next net files journal file newest plan touched first is made planned told = record {
-  policy = next_by (setting_of net files) journal file newest first is ∙ made;
+  policy = next_by (machine_setting_of net files) journal file newest first is ∙ made;
   hosted = planned;
   touches = let later : (file == 0) ≡ false = grind (arith, nat_tests) in
-      told ∙ ap (touched_of (slice_get files (file - 1))) (sym is)
-      ∙ ap (λ b. touched_of (if b then None else slice_get files (file - 1))
-      (policy_in (setting_of net files) journal (journal_version_count journal))) (sym later);
+      told ∙ ap (machine_touched_of (slice_get files (file - 1))) (sym is)
+      ∙ ap (λ b. machine_touched_of (if b then None else slice_get files (file - 1))
+      (machine_policy_in (machine_setting_of net files) journal (journal_version_count journal))) (sym later);
 }
 
 -- where it makes none, or one without a plan, the update is refused with the code of the cause
 pub unapplied_next : (net : Net) (files : List PolicyFile) (journal : List Item) (file : ℕ)
     (newest : List Row) (why : Inapplicable) → 1 ≤ file
-    → policy_in (setting_of net files) journal (journal_version_count journal) ≡ Some newest
-    → made_by (slice_get files (file - 1)) (Some newest) ≡ Err why
-    → machine_update_code (setting_of net files) journal file ≡ Some (machine_apply_code why)
+    → machine_policy_in (machine_setting_of net files) journal (journal_version_count journal) ≡ Some newest
+    → machine_policy_made_by (slice_get files (file - 1)) (Some newest) ≡ Err why
+    → machine_update_code (machine_setting_of net files) journal file ≡ Some (machine_apply_code why)
 unapplied_next net files journal file newest why first is made =
-    unapplied_code (setting_of net files) journal file why
-    (next_by (setting_of net files) journal file newest first is ∙ made)
+    unapplied_code (machine_setting_of net files) journal file why
+    (next_by (machine_setting_of net files) journal file newest first is ∙ made)
 
 pub unplanned_next : (net : Net) (files : List PolicyFile) (journal : List Item) (file : ℕ)
     (newest rows : List Row) (why : NoPolicyPlan) → 1 ≤ file
-    → policy_in (setting_of net files) journal (journal_version_count journal) ≡ Some newest
-    → made_by (slice_get files (file - 1)) (Some newest) ≡ Ok rows → partition_plan_of rows net ≡ Err why
-    → machine_update_code (setting_of net files) journal file ≡ Some (machine_plan_code why)
+    → machine_policy_in (machine_setting_of net files) journal (journal_version_count journal) ≡ Some newest
+    → machine_policy_made_by (slice_get files (file - 1)) (Some newest) ≡ Ok rows → partition_plan_of rows net ≡ Err why
+    → machine_update_code (machine_setting_of net files) journal file ≡ Some (machine_plan_code why)
 unplanned_next net files journal file newest rows why first is made none =
-    unplanned_code (setting_of net files) journal file rows why
-    (next_by (setting_of net files) journal file newest first is ∙ made) none
+    unplanned_code (machine_setting_of net files) journal file rows why
+    (next_by (machine_setting_of net files) journal file newest first is ∙ made) none
 
 pub refused_piece : (setting : Setting) (journal : List Item) (row file code : ℕ)
     → machine_update_code setting (journal ++ Item.Row row (Update file) ∷ []) file ≡ Some code
@@ -87,7 +87,7 @@ refused_piece setting journal row file code is =
     ap (λ o. Item.Row row (Update file) ∷ elim o [
       | Some k ↦ Item.Refused file k ∷ []
       | None ↦ journal_items_then (Item.Submitted file (journal_version_count rowed + 1) ∷ [])
-          (submitted_items setting) rowed
+          (machine_submitted_items setting) rowed
     ]) is
 
 -- ---- the tie
@@ -113,11 +113,11 @@ module _ {setting : Setting} {journal : List Item} {state : RefinedNetworkState}
       (refines_told refines state row (Update file) (one ∷ []) []
       (search (rules, switches_stay, bag_on, links_stay, up_stay)))
 
-  module _ (plan : PlanValue) (touched : List WordValue) (new : ControllerValue)
+  module _ (plan : ControllerPlanValue) (touched : List WordValue) (new : ControllerValue)
       (of_next : IsNextPlanRefined setting journal file plan touched)
       (live : state.controller.marks.count - state.controller.marks.retired ≢ 8)
       (versions : state.controller.marks.count ≢ 64)
-      (submitted : ControllerSubmitsPlan state.controller (next_kept_plan state.controller plan touched) new)
+      (submitted : ControllerSubmitsPlan state.controller (controller_next_kept_plan state.controller plan touched) new)
     where
       abbrev version : ℕ
       version = state.controller.marks.count + 1
@@ -126,7 +126,7 @@ module _ {setting : Setting} {journal : List Item} {state : RefinedNetworkState}
       one = Item.Submitted file version
 
       abbrev acts : List Act
-      acts = controller_submit_acts state.controller.marks (next_kept_plan state.controller plan touched) new
+      acts = controller_submit_acts state.controller.marks (controller_next_kept_plan state.controller plan touched) new
 
       bag_behind : IsRefinedBagOf (grown journal row (Update file) one) state.posts
       bag_behind = bag_on journal (first one) state.posts (refl, (refl, tt)) refines.bag
@@ -157,7 +157,7 @@ module _ {setting : Setting} {journal : List Item} {state : RefinedNetworkState}
 -- ---- what the marks refuse
 
 module _ {setting : Setting} {journal : List Item} {state : RefinedNetworkState}
-    (refines : RefineJournal setting journal state) (row file : ℕ) (plan : PlanValue)
+    (refines : RefineJournal setting journal state) (row file : ℕ) (plan : ControllerPlanValue)
     (touched : List WordValue) (of_next : IsNextPlanRefined setting journal file plan touched) where
   pub live_piece : state.controller.marks.count - state.controller.marks.retired ≡ 8
       → piece setting journal row (Update file)
@@ -194,15 +194,15 @@ switch_first setting s there few = rw (
 ) refl
 
 -- the controller's plan is that of the first version
-of_first : (net : Net) (files : List PolicyFile) (plan : PlanValue)
+of_first : (net : Net) (files : List PolicyFile) (plan : ControllerPlanValue)
     → slice_get files 0 ≡ Some (Whole plan.policy) → partition_plan_of plan.policy net ≡ Ok plan.hosted
-    → plan ≡ (refined_plan_to_keep (setting_of net files) [] 1).plan
+    → plan ≡ (refined_plan_to_keep (machine_setting_of net files) [] 1).plan
 of_first net files plan whole is =
     let first = first_version_is net files plan.policy plan.hosted whole is in
     ap (λ policy. of policy plan.hosted) (sym first.0)
-    ∙ ap (of (policy_at (setting_of net files) [] 1)) (sym first.1)
+    ∙ ap (of (machine_policy_at (machine_setting_of net files) [] 1)) (sym first.1)
   where
-    of : List Row → List Hosted → PlanValue
+    of : List Row → List HostedPolicyPartition → ControllerPlanValue
     of policy hosted = record { policy = policy; hosted = hosted }
 
 -- all links are up
@@ -210,14 +210,14 @@ all_up : (links : List LinkRow) → filter (is_refined_up_link []) links ≡ lin
 all_up [] = refl
 all_up (link ∷ links) = cc (start_laws.links link.one link.two, all_up links)
 
-pub begun_refines : (net : Net) (files : List PolicyFile) (plan : PlanValue)
+pub begun_refines : (net : Net) (files : List PolicyFile) (plan : ControllerPlanValue)
     (switches : List SwitchValue) (controller : ControllerValue) (near : List ℕ) → IsNet net
-    → slice_get files 0 ≡ Some (Whole plan.policy) → All IsPolicyRulesOrAmendment files
-    → All (PolicyFileRowsAre (λ row. NamesSettingPort (setting_of net files) row.action)) files
+    → slice_get files 0 ≡ Some (Whole plan.policy) → All IsSoundPolicyFile files
+    → All (PolicyFileRowsAre (λ row. NamesMachineSettingPort (machine_setting_of net files) row.action)) files
     → partition_plan_of plan.policy net ≡ Ok plan.hosted
     → switches ≡ map (refined_switch_begun net plan.hosted) (range_with_len 0 (length net.switches))
     → controller ≡ controller_at_start (length net.switches) plan → AreLogNearMasks net near
-    → RefineJournal (setting_of net files) [] (record {
+    → RefineJournal (machine_setting_of net files) [] (record {
       switches = switches;
       travelling = [];
       packets = 0;
@@ -226,10 +226,10 @@ pub begun_refines : (net : Net) (files : List PolicyFile) (plan : PlanValue)
       links = near;
       near = near;
     })
-unfolding refined_flight_in travels journal_next_packet
+unfolding refined_flight_in travels_in_journal journal_next_packet
 begun_refines net files plan switches controller near sound whole given ports is made first_is
     masks =
-    let setting : Setting = setting_of net files in
+    let setting : Setting = machine_setting_of net files in
     let own = setting_begun net files plan.policy plan.hosted sound whole given ports is in
     let first : journal_plan_at setting [] 1 ≡ plan.hosted =
     (first_version_is net files plan.policy plan.hosted whole is).1 in

@@ -2,8 +2,8 @@
 -- whatever steps were taken.
 use Rattle.std.specs.Prelude.{◌-◌, ◌<◌, ◌^◌, ◌≡◌, IsFalse, IsTrue, List, Some, length, ℕ}
 use Rattle.update_machine.specs.Exports.{Body, Header, Item, Leg, Setting, is_up, journal_message_of, serves as serves_in, machine_message_to_switch}
-use Rattle.switch_core.specs.Exports.{CanSwitchLookUp, IsSwitchAuthorityForLeg, IsSoundSwitchBody, SwitchValue, serves, switch_with_message}
-use Rattle.control_laws.specs.Exports.{LegEndsAt, ControlNumbersFit, ServingHoldVersions, ServingIsKnown}
+use Rattle.switch_core.specs.Exports.{CanSwitchLookUp, MaySwitchEndLeg, IsSoundSwitchBody, SwitchValue, serves, switch_with_message}
+use Rattle.control_laws.specs.Exports.{ControlLegEndsAt, ControlNumbersFit, ControlServingHoldVersions, ControlServingIsKnown}
 use Rattle.refinement.specs.Knowing.{RefinementTablesAreKnown}
 use Rattle.refinement.specs.SwitchOf.{refined_switch_of}
 
@@ -11,7 +11,7 @@ use Rattle.refinement.specs.SwitchOf.{refined_switch_of}
 pub record RefinementCanReceive (switch : SwitchValue) (header : Header) (leg : Leg) : Type 0 where
   pub serving : IsTrue (serves switch)
   pub stamped : CanSwitchLookUp switch
-  pub authority : IsSwitchAuthorityForLeg switch header leg
+  pub authority : MaySwitchEndLeg switch header leg
 
 -- there is a next number for its own advert, now and after it hears any message
 pub record HasRefinedNextSeq (switch : SwitchValue) : Type 0 where
@@ -34,10 +34,10 @@ pub record RefinementRequirementsHold : Type 0 where
       ControlNumbersFit setting journal → IsFalse (is_up journal s) →
       CanRefinedSwitchRestart (refined_switch_of setting journal s)
   pub enter : (setting : Setting) (journal : List Item) (s : ℕ) →
-      ServingHoldVersions setting journal → s < length setting.net.switches →
+      ControlServingHoldVersions setting journal → s < length setting.net.switches →
       CanSwitchLookUp (refined_switch_of setting journal s)
   pub arrive : (setting : Setting) (journal : List Item) (s : ℕ) (header : Header) (leg : Leg) →
-      RefinementTablesAreKnown setting journal → ServingIsKnown journal → ServingHoldVersions setting journal →
+      RefinementTablesAreKnown setting journal → ControlServingIsKnown journal → ControlServingHoldVersions setting journal →
       s < length setting.net.switches → IsTrue (serves_in journal s) →
-      LegEndsAt setting journal s header leg →
+      ControlLegEndsAt setting journal s header leg →
       RefinementCanReceive (refined_switch_of setting journal s) header leg

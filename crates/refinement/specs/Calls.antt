@@ -1,6 +1,6 @@
 -- The items of one step, and which of them are calls of a switch.
 use Rattle.std.specs.Prelude.{[], if◌then◌else◌, ◌++◌, ◌==◌, ◌∷◌, ◌≡◌, List, ℕ, ⊤}
-use Rattle.update_machine.specs.Exports.{Header, Hop, Item, NoneConcern, Packet, Setting, item_concerns_known, journal_hop_stays_on_way, journal_travels_at}
+use Rattle.update_machine.specs.Exports.{Header, Hop, Item, NoMachineItemConcerns, Packet, Setting, machine_item_concerns_known, journal_hop_stays_on_way, journal_travels_at}
 use Rattle.journal.specs.declared.item.Item.TheVariants as item
 use Rattle.switch_core.specs.Exports.{switch_call_counted}
 use Rattle.refinement.specs.SwitchOf.{refined_switch_of}
@@ -31,7 +31,7 @@ pub record CallsRefine : Type 0 where
   pub entered : (setting : Setting) (before : List Item) (row i s t : ℕ) (header : Header)
       (items : List Item) → AreRefinedInStep items →
       let all = item.Row row (Packet s header) ∷ item.Entered i s header ∷ items in
-      NoneConcern (item_concerns_known t) before all →
+      NoMachineItemConcerns (machine_item_concerns_known t) before all →
       refined_switch_of setting (before ++ all) t
       ≡ (if s == t then switch_call_counted (refined_switch_of setting before t) else refined_switch_of setting before t)
   pub closed : (setting : Setting) (before : List Item) (row i s t : ℕ) (header : Header) →
@@ -39,7 +39,7 @@ pub record CallsRefine : Type 0 where
       ≡ (if s == t then switch_call_counted (refined_switch_of setting before t) else refined_switch_of setting before t)
   pub hopped : (setting : Setting) (before : List Item) (row i t : ℕ) (items : List Item) →
       AreRefinedInStep items → let all = item.Row row (Hop i) ∷ items in
-      NoneConcern (item_concerns_known t) before all →
+      NoMachineItemConcerns (machine_item_concerns_known t) before all →
       refined_switch_of setting (before ++ all) t
       ≡ (if journal_travels_at before t i then (if journal_hop_stays_on_way items
       then switch_call_counted (refined_switch_of setting before t)

@@ -9,7 +9,7 @@ unfoldable pub use Rattle.refinement.specs.Flights.{refined_flight_in, refined_f
 pub use Rattle.refinement.specs.Hearing.{HearingRefines, RefinementHearsOpening, RefinementHearsShut, IsRefinedSentTo, refined_journal_within_delivery}
 pub use Rattle.refinement.specs.Knowing.{KnowledgeRefines, RefinementTablesAreKnown}
 pub use Rattle.refinement.specs.Life.{LivesRefine, refined_expired_by, refined_message_at}
-pub use Rattle.refinement.specs.Links.{RefinementLeavesSwitch, LinksRefine, refined_link_messages, link_step, refined_relinked_switch}
+pub use Rattle.refinement.specs.Links.{RefinementLeavesSwitch, LinksRefine, refined_link_messages, refined_link_step, refined_relinked_switch}
 pub use Rattle.refinement.specs.Marks.{AreMarksRefined, IsKnownRefined}
 pub use Rattle.refinement.specs.PacketSteps.{BagsRefine, RefinedPacketComes, EntriesRefine, HopsRefine, IsRefinedJournalOfNet, refined_entry_at}
 pub use Rattle.refinement.specs.Refinement.{RefineUpLinks, RefineUsableLinks, RefinedNetworkState, RefineJournal, is_refined_up_link, refined_up_links}

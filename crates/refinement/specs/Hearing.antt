@@ -1,10 +1,10 @@
 -- What a delivered message does to a switch, and what the switch does in reply.
 use Rattle.std.specs.Prelude.{[], ◌++◌, ◌∷◌, ◌≡◌, IsFalse, IsTrue, List, None, Some, ℕ}
-use Rattle.update_machine.specs.Exports.{Body, Deliver, Item, Setting, machine_delivery_items, journal_usable_links_changed, is_journal_message_to, journal_items_then, journal_link_changes, journal_message_of, near, own_advert, send_items, machine_message_to_switch}
+use Rattle.update_machine.specs.Exports.{Body, Deliver, Item, Setting, machine_delivery_items, journal_usable_links_changed, is_journal_message_to, journal_items_then, journal_link_changes, journal_message_of, near, own_advert, machine_send_items, machine_message_to_switch}
 use Rattle.net_file.specs.Exports.{IsNet}
 use Rattle.journal.specs.declared.item.Item.TheVariants as item
 use Rattle.switch_core.specs.Exports.{switch_next_advert, switch_opening_stamp, replies, switch_with_message}
-use Rattle.control_laws.specs.Exports.{ControlBodiesNameThere, StampsSayTouched}
+use Rattle.control_laws.specs.Exports.{ControlBodiesNameThere, ControlStampsSayTouched}
 use Rattle.refinement.specs.Links.{refined_relinked_switch}
 use Rattle.refinement.specs.SwitchOf.{refined_switch_of}
 
@@ -13,7 +13,7 @@ use Rattle.refinement.specs.SwitchOf.{refined_switch_of}
 pub record IsRefinedSentTo (setting : Setting) (before : List Item) (n s : ℕ) (body : Body) : Type 0 where
   pub sent : journal_message_of before n ≡ Some (machine_message_to_switch s body)
   pub names : ControlBodiesNameThere setting before
-  pub touched : StampsSayTouched setting before
+  pub touched : ControlStampsSayTouched setting before
 
 -- the journal within the step that delivers the message
 abbrev pub refined_journal_within_delivery : List Item → ℕ → ℕ → List Item → List Item
@@ -24,7 +24,7 @@ pub record RefinementHearsShut (setting : Setting) (before : List Item) (n s : �
   pub record_of : (row : ℕ) → refined_switch_of setting (refined_journal_within_delivery before row n []) s
       ≡ switch_with_message (refined_switch_of setting before s) n body
   pub items : (row : ℕ) → machine_delivery_items setting before n (refined_journal_within_delivery before row n [])
-      ≡ send_items (refined_journal_within_delivery before row n [])
+      ≡ machine_send_items (refined_journal_within_delivery before row n [])
       (replies (refined_switch_of setting before s) (near setting before s) body)
 
 -- it hears the message and opens with this stamp, so that its own links may change too

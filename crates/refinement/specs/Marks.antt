@@ -4,7 +4,7 @@
 use Rattle.std.specs.Prelude.{◌<◌, ◌≡◌, ◌≤◌, IsFalse, IsTrue, List, length, ℕ}
 use Rattle.update_machine.specs.Exports.{Item, Setting, journal_version_count}
 use Rattle.update_machine.specs.Marks as machine
-use Rattle.version_update.specs.Exports.{MarksValue, has_acked, is_member, is_over, record_of}
+use Rattle.version_update.specs.Exports.{MarksValue, has_acked, is_member, is_over, update_record_of}
 use Rattle.version_update.specs.declared.record.SwitchRecord.{SwitchRecord}
 
 -- what the controller knows of a switch is what the journal says: its boot, and whether it is over
@@ -26,4 +26,4 @@ pub record AreMarksRefined (setting : Setting) (items : List Item) (marks : Mark
   pub current : marks.current ≡ machine.journal_current_mark items
   pub retired : marks.retired ≡ machine.journal_retired_mark items
   pub many : length marks.switches ≡ length setting.net.switches
-  pub each : (s : ℕ) → s < length marks.switches → IsKnownRefined items s (record_of marks s)
+  pub each : (s : ℕ) → s < length marks.switches → IsKnownRefined items s (update_record_of marks s)

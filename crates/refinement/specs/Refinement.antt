@@ -5,18 +5,18 @@ use Rattle.controller.specs.Exports.{ControllerValue}
 use Rattle.refinement.specs.Controller.{IsRefinedController}
 use Rattle.refinement.specs.Bags.{IsRefinedBagOf}
 use Rattle.refinement.specs.Flights.{refined_flight_in}
-use Rattle.update_machine.specs.Exports.{IsJournalReached, IsSetting, Item, LinkRow, Setting, is_link_up_in_journal, near as near_of, journal_next_packet}
+use Rattle.update_machine.specs.Exports.{IsJournalReached, IsMachineSetting, Item, LinkRow, Setting, is_link_up_in_journal, near as near_of, journal_next_packet}
 use Rattle.net_file.specs.Exports.{links_of}
 use Rattle.switch_core.specs.Exports.{SwitchValue}
 use Rattle.refinement.specs.SwitchOf.{refined_switch_of}
-use Rattle.travelling.specs.Travelling.{Flights, flight}
+use Rattle.travelling.specs.Travelling.{TravellingFlights, flight}
 
 -- all that a world has: the switches, the packets on their way, how many entered or were closed,
 -- the controller, and the messages that were sent. And, as masks, the switches to which each switch
 -- has a link that is up, and those to which it has a usable one
 pub record RefinedNetworkState : Type 0 where
   pub switches : List SwitchValue
-  pub travelling : Flights
+  pub travelling : TravellingFlights
   pub packets : ℕ
   pub controller : ControllerValue
   pub posts : List Post
@@ -43,7 +43,7 @@ RefineUsableLinks setting journal near = (s : ℕ) → s < 64 → slice_index ne
 -- controller, the messages and the links are as it says
 pub record RefineJournal (setting : Setting) (journal : List Item) (state : RefinedNetworkState)
     : Type 0 where
-  pub sound : IsSetting setting
+  pub sound : IsMachineSetting setting
   pub reached : IsJournalReached setting journal
   pub many : length state.switches ≡ length setting.net.switches
   pub each : (s : ℕ) (d : SwitchValue) → s < length state.switches →

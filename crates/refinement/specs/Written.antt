@@ -1,7 +1,7 @@
 -- What a controller does at a call, as items of the journal: marks that rise, and messages, each
 -- under the next number. The notion is our own.
 use Rattle.std.specs.Prelude.{[], ◌++◌, ◌∷◌, ◌≡◌, List, map, ℕ}
-use Rattle.controller.specs.Exports.{ControllerValue, resend_acts}
+use Rattle.controller.specs.Exports.{ControllerValue, controller_resend_acts}
 use Rattle.controller.specs.declared.sends.Act.{Act}
 use Rattle.controller.specs.declared.sends.Act.TheVariants.{Current, Retired, Post}
 use Rattle.update_machine.specs.Exports.{Item, Setting, journal_next_message, journal_resent_by_switch}
@@ -22,7 +22,7 @@ refined_acts_written journal (act ∷ acts) =
 -- at a resend the switch sends its messages, and then the controller sends its own
 abbrev pub refined_resend_acts : Setting → List Item → ℕ → ControllerValue → List Act
 refined_resend_acts setting journal s controller =
-    map Post (journal_resent_by_switch setting journal s) ++ resend_acts controller s
+    map Post (journal_resent_by_switch setting journal s) ++ controller_resend_acts controller s
 
 -- the items after the journal are these first ones and then what the acts write, and the
 -- controller is then as the longer journal says

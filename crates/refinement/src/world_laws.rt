@@ -1,23 +1,23 @@
 //! Laws about the controller, about packets that enter or move on, and about messages.
 ghost use Rattle.std.specs.Prelude.{List, ℕ, ◌≡◌, ◌≢◌, ◌+◌, ◌-◌, ◌<◌, ◌++◌, Some, [], ◌∷◌, length, map, IsFalse, IsTrue};
-ghost use Rattle.version_update.specs.Marks.{MarksValue, at_switch};
+ghost use Rattle.version_update.specs.Marks.{MarksValue, version_marks_with_switch_changed};
 ghost use Rattle.version_update.specs.Record.{mark_record_after_over};
-ghost use Rattle.ctrl_msg.specs.Kinds.{to_controller};
+ghost use Rattle.ctrl_msg.specs.Kinds.{message_to_controller};
 ghost use Rattle.ctrl_msg.specs.declared.message.Body.{Body};
 ghost use Rattle.ctrl_msg.specs.declared.message.Message.{Message};
-ghost use Rattle.controller.specs.Exports.{ControllerValue, ControllerReplyNamesExist, PlanValue, ControllerSettlesWith, ControllerSubmitsPlan, current_plan_touched, controller_at_start, controller_hear_acts, controller_marks_after, controller_newest_policy, next_kept_plan, resend_acts, controller_settling_acts, controller_submit_acts};
+ghost use Rattle.controller.specs.Exports.{ControllerValue, ControllerReplyNamesExist, ControllerPlanValue, ControllerSettlesWith, ControllerSubmitsPlan, controller_current_plan_touched, controller_at_start, controller_hear_acts, controller_marks_after, controller_newest_policy, controller_next_kept_plan, controller_resend_acts, controller_settling_acts, controller_submit_acts};
 ghost use Rattle.controller.specs.declared.sends.Act.{Act};
 ghost use Rattle.controller.specs.declared.sends.Act.TheVariants.{Post};
 ghost use Rattle.ternary.specs.Word.{WordValue};
 ghost use Rattle.steps.specs.declared.step.Step.TheVariants.{Confirm, Deliver, Resend, Update};
 ghost use Rattle.journal.specs.declared.item.Item.TheVariants.{Row, Delivered, Nothing, OverNow, Refused, Submitted};
-ghost use Rattle.update_machine.specs.Exports.{JournalItemsHaveCauses, IsJournalReached, IsSetting, Item, NoneConcern, Setting, Step, concerns_controller, is_deliverable, is_up, journal_message_of, piece, policy_in, journal_resent_by_controller, send_items, journal_version_count};
+ghost use Rattle.update_machine.specs.Exports.{JournalItemsHaveCauses, IsJournalReached, IsMachineSetting, Item, NoMachineItemConcerns, Setting, Step, machine_item_concerns_controller, is_deliverable, is_up, journal_message_of, piece, machine_policy_in, journal_resent_by_controller, machine_send_items, journal_version_count};
 ghost use Rattle.control_laws.specs.Exports.{ControlBodiesNameThere, HasControlItemCause, control_asks_controller};
 ghost use Rattle.refinement.specs.Exports.{AreMarksRefined, AreRefinedMessagesSpelled, AreRefinedActsWritten, BagsRefine, EntriesRefine, HopsRefine, IsRefinedController, IsNextPlanRefined, refined_plan_to_keep, refined_resend_acts, refined_acts_written};
 
 /// A new controller is as the empty journal says, if its plan is that of version 1.
 pub fn refined_controllers_begin()
-    ensures { (setting : Setting) (plan : PlanValue) → plan ≡ (refined_plan_to_keep setting [] 1).plan
+    ensures { (setting : Setting) (plan : ControllerPlanValue) → plan ≡ (refined_plan_to_keep setting [] 1).plan
         → IsRefinedController setting [] (controller_at_start (length setting.net.switches) plan) }
 {}
 
@@ -26,31 +26,31 @@ pub fn refined_controllers_begin()
 /// the journal's newest version.
 pub fn refined_controllers_submit()
     ensures taken { (setting : Setting) (before : List Item) (row file : ℕ)
-        (old new : ControllerValue) (plan : PlanValue) (touched : List WordValue)
+        (old new : ControllerValue) (plan : ControllerPlanValue) (touched : List WordValue)
         → JournalItemsHaveCauses (HasControlItemCause setting) [] before → IsRefinedController setting before old
         → IsNextPlanRefined setting before file plan touched → old.marks.count - old.marks.retired ≢ 8
-        → old.marks.count ≢ 64 → ControllerSubmitsPlan old (next_kept_plan old plan touched) new
+        → old.marks.count ≢ 64 → ControllerSubmitsPlan old (controller_next_kept_plan old plan touched) new
         → AreRefinedActsWritten setting before
         (Row row (Update file) ∷ Submitted file (old.marks.count + 1) ∷ [])
-        (controller_submit_acts old.marks (next_kept_plan old plan touched) new) new
+        (controller_submit_acts old.marks (controller_next_kept_plan old plan touched) new) new
         (piece setting before row (Update file)) }
     ensures live { (setting : Setting) (before : List Item) (row file : ℕ)
-        (old : ControllerValue) (plan : PlanValue) (touched : List WordValue)
+        (old : ControllerValue) (plan : ControllerPlanValue) (touched : List WordValue)
         → JournalItemsHaveCauses (HasControlItemCause setting) [] before → IsRefinedController setting before old
         → IsNextPlanRefined setting before file plan touched → old.marks.count - old.marks.retired ≡ 8
         → AreRefinedActsWritten setting before (Row row (Update file) ∷ Refused file 16 ∷ []) [] old
         (piece setting before row (Update file)) }
     ensures versions { (setting : Setting) (before : List Item) (row file : ℕ)
-        (old : ControllerValue) (plan : PlanValue) (touched : List WordValue)
+        (old : ControllerValue) (plan : ControllerPlanValue) (touched : List WordValue)
         → JournalItemsHaveCauses (HasControlItemCause setting) [] before → IsRefinedController setting before old
         → IsNextPlanRefined setting before file plan touched → old.marks.count - old.marks.retired ≢ 8
         → old.marks.count ≡ 64
         → AreRefinedActsWritten setting before (Row row (Update file) ∷ Refused file 17 ∷ []) [] old
         (piece setting before row (Update file)) }
     ensures newest { (setting : Setting) (before : List Item) (controller : ControllerValue)
-        → IsSetting setting → JournalItemsHaveCauses (HasControlItemCause setting) [] before
+        → IsMachineSetting setting → JournalItemsHaveCauses (HasControlItemCause setting) [] before
         → IsRefinedController setting before controller
-        → controller_newest_policy controller ≡ policy_in setting before (journal_version_count before) }
+        → controller_newest_policy controller ≡ machine_policy_in setting before (journal_version_count before) }
 {}
 
 /// What the controller does when it hears a message is what the delivery of that message writes.
@@ -60,14 +60,14 @@ pub fn controller_hearing_refines()
         (old new : ControllerValue)
         → JournalItemsHaveCauses (HasControlItemCause setting) [] before → IsRefinedController setting before old
         → IsTrue (is_deliverable before number)
-        → journal_message_of before number ≡ Some (to_controller body) → ControllerReplyNamesExist body old.marks
+        → journal_message_of before number ≡ Some (message_to_controller body) → ControllerReplyNamesExist body old.marks
         → ControllerSettlesWith (controller_marks_after body old.marks) old.plans new
         → AreRefinedActsWritten setting before (Row row (Deliver number) ∷ Delivered number ∷ [])
         (controller_hear_acts body old.marks new) new (piece setting before row (Deliver number)) }
     ensures there { (setting : Setting) (journal : List Item) (number : ℕ) (body : Body)
         (marks : MarksValue) → ControlBodiesNameThere setting journal
         → AreMarksRefined setting journal marks
-        → journal_message_of journal number ≡ Some (to_controller body) → ControllerReplyNamesExist body marks }
+        → journal_message_of journal number ≡ Some (message_to_controller body) → ControllerReplyNamesExist body marks }
 {}
 
 /// What the controller does when a switch is confirmed as down is what that step writes.
@@ -75,9 +75,9 @@ pub fn refined_controllers_confirm()
     ensures { (setting : Setting) (before : List Item) (row s : ℕ) (old new : ControllerValue)
         → JournalItemsHaveCauses (HasControlItemCause setting) [] before → IsRefinedController setting before old
         → IsFalse (is_up before s) → s < length old.marks.switches
-        → ControllerSettlesWith (at_switch s mark_record_after_over old.marks) old.plans new
+        → ControllerSettlesWith (version_marks_with_switch_changed s mark_record_after_over old.marks) old.plans new
         → AreRefinedActsWritten setting before (Row row (Confirm s) ∷ OverNow s ∷ [])
-        (controller_settling_acts (current_plan_touched new) (at_switch s mark_record_after_over old.marks) new.marks) new
+        (controller_settling_acts (controller_current_plan_touched new) (version_marks_with_switch_changed s mark_record_after_over old.marks) new.marks) new
         (piece setting before row (Confirm s)) }
 {}
 
@@ -87,7 +87,7 @@ pub fn refined_controllers_resend()
     ensures messages { (setting : Setting) (journal : List Item) (s : ℕ)
         (controller : ControllerValue) → JournalItemsHaveCauses (HasControlItemCause setting) [] journal
         → IsRefinedController setting journal controller → s < length controller.marks.switches
-        → resend_acts controller s ≡ map Post (journal_resent_by_controller setting journal s) }
+        → controller_resend_acts controller s ≡ map Post (journal_resent_by_controller setting journal s) }
     ensures nothing { (setting : Setting) (before : List Item) (row s : ℕ)
         (controller : ControllerValue) → JournalItemsHaveCauses (HasControlItemCause setting) [] before
         → IsRefinedController setting before controller → s < length controller.marks.switches
@@ -108,7 +108,7 @@ pub fn refined_controllers_resend()
 pub fn others_leave_controllers()
     ensures items { (setting : Setting) (before items : List Item) (controller : ControllerValue)
         → JournalItemsHaveCauses (HasControlItemCause setting) [] before
-        → NoneConcern concerns_controller before items
+        → NoMachineItemConcerns machine_item_concerns_controller before items
         → IsRefinedController setting before controller
         → IsRefinedController setting (before ++ items) controller }
     ensures steps { (setting : Setting) (before : List Item) (row : ℕ) (step : Step)
@@ -124,7 +124,7 @@ pub fn acts_write_in_turn()
         ≡ refined_acts_written journal first ++ refined_acts_written (journal ++ refined_acts_written journal first)
         later }
     ensures messages { (messages : List Message) (journal : List Item)
-        → refined_acts_written journal (map Post messages) ≡ send_items journal messages }
+        → refined_acts_written journal (map Post messages) ≡ machine_send_items journal messages }
 {}
 
 /// A packet enters at a switch that is as the journal says: the call may be made, and its result
@@ -149,6 +149,6 @@ pub fn refined_messages_are_kept()
 /// Each message that was sent in a network names switches below 64 and carries short lists, and
 /// its receiver suits its body: so it has an encoding, which is short enough for frames.
 pub fn refined_messages_have_spellings()
-    ensures { (setting : Setting) (journal : List Item) → IsSetting setting
+    ensures { (setting : Setting) (journal : List Item) → IsMachineSetting setting
         → IsJournalReached setting journal → AreRefinedMessagesSpelled journal }
 {}

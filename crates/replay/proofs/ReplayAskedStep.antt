@@ -1,9 +1,9 @@
 -- The step that an event asks for next: it may be played, and leaves the event fewer to ask for.
 use Rattle.std.proofs.Common.{◌++◌, ◌+◌, ◌-◌, ◌<◌, ◌^◌, ◌≡◌, ◌≤◌, Bool, List, None, Option, Some, arith, false, length, option_map, refl, subst, sym, true, ℕ}
-use Rattle.update_machine.specs.Exports.{Deliver, Drain, Event, Flush, HasRoom, Hop, IsJournalReached, IsSetting, Item, One, Packet, Setting, Step, journal_next_packet, next_travelling, next_waiting, piece}
-use Rattle.steps.specs.Exports.{IsEvent, IsStep, max_events}
+use Rattle.update_machine.specs.Exports.{Deliver, Drain, Event, Flush, MachineJournalHasRoom, Hop, IsJournalReached, IsMachineSetting, Item, One, Packet, Setting, Step, journal_next_packet, next_travelling, next_waiting, piece}
+use Rattle.steps.specs.Exports.{IsEventOfSteps, IsStep, max_events}
 use Rattle.packet_laws.specs.Exports.{packet_drain_left}
-use Rattle.world.specs.Exports.{WorldRefinesJournal, WorldValue, comes_in, world_setting_at}
+use Rattle.world.specs.Exports.{WorldRefinesJournal, WorldValue, world_packets_coming_in, world_setting_at}
 use Rattle.replay.specs.Playing.{replay_event_brings_in, replay_next_step}
 use Rattle.replay.proofs.ReplaySmallNumbers.{least_is_packet, least_is_small}
 use Rattle.replay.proofs.ReplayedWorld.{reached_of, tie_of}
@@ -11,7 +11,7 @@ use Rattle.replay.proofs.ReplayedWorld.{reached_of, tie_of}
 -- so many packets an event brought in, which began or has yet to
 abbrev pub brought_so_far : Event → Bool → ℕ
 brought_so_far (One step) false = 0
-brought_so_far (One step) true = comes_in step
+brought_so_far (One step) true = world_packets_coming_in step
 brought_so_far Flush is_begun = 0
 brought_so_far Drain is_begun = 0
 
@@ -31,13 +31,13 @@ steps_left Drain is_begun journal = packet_drain_left journal
 
 pub record Asked (setting : Setting) (row : ℕ) (event : Event) (is_begun : Bool)
     (journal : List Item) (step : Step) : Type 0 where
-  pub may : IsEvent setting.net (length setting.files) event
-      → journal_next_packet journal ≤ max_events + 1 → HasRoom journal
+  pub may : IsEventOfSteps setting.net (length setting.files) event
+      → journal_next_packet journal ≤ max_events + 1 → MachineJournalHasRoom journal
       → IsStep setting.net (length setting.files) step
   -- it is the first that may bring one in
   pub none : brought_so_far event is_begun ≡ 0
-  pub brought : comes_in step ≡ brought_so_far event true
-  pub fewer : HasRoom journal → steps_left event true (journal ++ piece setting journal row step)
+  pub brought : world_packets_coming_in step ≡ brought_so_far event true
+  pub fewer : MachineJournalHasRoom journal → steps_left event true (journal ++ piece setting journal row step)
       < steps_left event is_begun journal
 
 -- the step is of the number that was found
@@ -53,7 +53,7 @@ found_by make (Some number) step is = record { number = number; is = refl; made 
 
 -- the laws by which drains and flushes end
 abbrev pub DrainsEnd : Type 0
-DrainsEnd = (setting : Setting) (journal : List Item) (row i : ℕ) → IsSetting setting
+DrainsEnd = (setting : Setting) (journal : List Item) (row i : ℕ) → IsMachineSetting setting
     → IsJournalReached setting journal → next_travelling journal ≡ Some i
     → packet_drain_left (journal ++ piece setting journal row (Hop i)) < packet_drain_left journal
 
@@ -118,7 +118,7 @@ brought_all (One own) true journal is = refl
 brought_all Flush is_begun journal is = refl
 brought_all Drain is_begun journal is = refl
 
-comes_few : (step : Step) → comes_in step ≤ 1
+comes_few : (step : Step) → world_packets_coming_in step ≤ 1
 comes_few (Packet switch header) = omega arith
 comes_few _ = omega arith
 

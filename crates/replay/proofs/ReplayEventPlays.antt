@@ -1,6 +1,6 @@
 -- Plays that go on by the steps of events.
 use Rattle.std.proofs.Common.{[], ◌++◌, ◌+◌, ◌<◌, ◌∙◌, ◌∷◌, ◌≡◌, List, None, Option, Some, add-one, ap, append_assoc, drop, drop-cons, get_or, inl, inr, length, refl, subst, sym, ℕ}
-use Rattle.update_machine.specs.Exports.{AreJournalFirstSteps, AreMachineSteps, Event, MachineJournalsHaveRoom, IsMachineJournalFull, IsMachinePlay, Item, Setting, StepOfRow, journal_after_steps}
+use Rattle.update_machine.specs.Exports.{AreJournalFirstSteps, AreMachineSteps, Event, MachineJournalsHaveRoom, IsMachineJournalFull, IsMachinePlay, Item, Setting, MachineStepOfRow, journal_after_steps}
 use Rattle.update_machine.proofs.Exports.{after_append, rooms_append}
 use Rattle.replay.specs.Playing.{ReplayEventHappens, ReplayEventStopsWithin}
 
@@ -8,7 +8,7 @@ use Rattle.replay.specs.Playing.{ReplayEventHappens, ReplayEventStopsWithin}
 -- has this row; each began with room
 pub record GoesOn (setting : Setting) (before : List Item) (row : ℕ) (events : List Event)
     (journal : List Item) : Type 0 where
-  pub steps : List StepOfRow
+  pub steps : List MachineStepOfRow
   pub allowed : AreMachineSteps setting row events before steps
   pub room : MachineJournalsHaveRoom setting before steps
   pub written : journal ≡ journal_after_steps setting before steps
@@ -16,8 +16,8 @@ pub record GoesOn (setting : Setting) (before : List Item) (row : ℕ) (events :
 -- the same of first steps, in front of a step of a row that would begin full
 pub record StopsOn (setting : Setting) (before : List Item) (row : ℕ) (events : List Event)
     (journal : List Item) (at : ℕ) : Type 0 where
-  pub steps : List StepOfRow
-  pub next : StepOfRow
+  pub steps : List MachineStepOfRow
+  pub next : MachineStepOfRow
   pub allowed : AreJournalFirstSteps setting row events before (steps ++ next ∷ [])
   pub written : journal ≡ journal_after_steps setting before steps
   pub room : MachineJournalsHaveRoom setting before steps
@@ -31,13 +31,13 @@ PlaysOn setting before row events journal (Some at) = StopsOn setting before row
 
 -- ---- one more event
 
-room_on : (setting : Setting) (before after : List Item) (mine rest : List StepOfRow)
+room_on : (setting : Setting) (before after : List Item) (mine rest : List MachineStepOfRow)
     → after ≡ journal_after_steps setting before mine → MachineJournalsHaveRoom setting before mine
     → MachineJournalsHaveRoom setting after rest → MachineJournalsHaveRoom setting before (mine ++ rest)
 room_on setting before after mine rest written room more = rooms_append setting before mine rest
     room (subst (λ journal. MachineJournalsHaveRoom setting journal rest) written more)
 
-written_on : (setting : Setting) (before after whole : List Item) (mine rest : List StepOfRow)
+written_on : (setting : Setting) (before after whole : List Item) (mine rest : List MachineStepOfRow)
     → after ≡ journal_after_steps setting before mine → whole ≡ journal_after_steps setting after rest
     → whole ≡ journal_after_steps setting before (mine ++ rest)
 written_on setting before after whole mine rest written more =

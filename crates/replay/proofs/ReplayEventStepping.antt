@@ -1,18 +1,18 @@
 -- An event that takes its steps one after another.
 use Rattle.std.proofs.Common.{[], ◌++◌, ◌∙◌, ◌∷◌, ◌≡◌, ◌⊎◌, Bool, List, None, Option, Some, ap, append-nil, append_assoc, false, inl, inr, refl, subst, sym, true, ℕ}
-use Rattle.update_machine.specs.Exports.{AreAllMachineEventSteps, AreFirstMachineStepsOf, AreFirstMachineEventSteps, AreMachineStepsOf, Drain, Event, Flush, HasRoom, MachineJournalsHaveRoom, IsMachineJournalFull, Item, One, Setting, Step, StepOfRow, journal_after_steps, journal_next_delivery, journal_next_hop, piece}
+use Rattle.update_machine.specs.Exports.{AreAllMachineEventSteps, AreFirstMachineStepsOf, AreFirstMachineEventSteps, AreMachineStepsOf, Drain, Event, Flush, MachineJournalHasRoom, MachineJournalsHaveRoom, IsMachineJournalFull, Item, One, Setting, Step, MachineStepOfRow, journal_after_steps, journal_next_delivery, journal_next_hop, piece}
 use Rattle.update_machine.proofs.Exports.{after_append, rooms_append}
 use Rattle.world_log.specs.Exports.{IsLogPart}
 use Rattle.replay.specs.Playing.{BeginsReplayEvent, ReplayEventHappens, ReplayEventStopsWithin, replay_next_step}
 
-abbrev pub is_some_step : List StepOfRow → Bool
+abbrev pub is_some_step : List MachineStepOfRow → Bool
 is_some_step [] = false
 is_some_step (step ∷ steps) = true
 
 -- behind the one journal the event took first steps, which led to the other
 pub record Took (setting : Setting) (row : ℕ) (event : Event) (is_begun : Bool)
     (start here : List Item) : Type 0 where
-  pub steps : List StepOfRow
+  pub steps : List MachineStepOfRow
   pub first : AreFirstMachineStepsOf setting row event start steps
   pub room : MachineJournalsHaveRoom setting start steps
   pub written : here ≡ journal_after_steps setting start steps
@@ -40,11 +40,11 @@ took_none setting row event start = record {
 
 -- ---- the next step
 
-abbrev one : ℕ → Step → StepOfRow
+abbrev one : ℕ → Step → MachineStepOfRow
 one row step = record { row = row; step = step }
 
 some_on : (setting : Setting) (next : List Item → Option Step) (row : ℕ) (start : List Item)
-    (steps : List StepOfRow) (step : Step) → AreFirstMachineEventSteps setting next row start steps
+    (steps : List MachineStepOfRow) (step : Step) → AreFirstMachineEventSteps setting next row start steps
     → next (journal_after_steps setting start steps) ≡ Some step
     → AreFirstMachineEventSteps setting next row start (steps ++ one row step ∷ [])
 some_on setting next row start [] step some is = (refl, is, tt)
@@ -55,7 +55,7 @@ some_on setting next row start (x ∷ steps) step some is = (
 )
 
 first_on : (setting : Setting) (row : ℕ) (event : Event) (is_begun : Bool) (start : List Item)
-    (steps : List StepOfRow) (step : Step) → AreFirstMachineStepsOf setting row event start steps
+    (steps : List MachineStepOfRow) (step : Step) → AreFirstMachineStepsOf setting row event start steps
     → is_begun ≡ is_some_step steps
     → replay_next_step event is_begun (journal_after_steps setting start steps) ≡ Some step
     → AreFirstMachineStepsOf setting row event start (steps ++ one row step ∷ [])
@@ -68,7 +68,7 @@ first_on setting row Flush is_begun start steps step first begun is =
 first_on setting row Drain is_begun start steps step first begun is =
     some_on setting journal_next_hop row start steps step first is
 
-begun_on : (steps : List StepOfRow) (step : StepOfRow) → true ≡ is_some_step (steps ++ step ∷ [])
+begun_on : (steps : List MachineStepOfRow) (step : MachineStepOfRow) → true ≡ is_some_step (steps ++ step ∷ [])
 begun_on [] step = refl
 begun_on (x ∷ steps) step = refl
 
@@ -92,13 +92,13 @@ after_next setting row event is_begun start here step took =
 
 pub took_next : (setting : Setting) (row : ℕ) (event : Event) (is_begun : Bool)
     (start here after : List Item) (step : Step) → Took setting row event is_begun start here
-    → replay_next_step event is_begun here ≡ Some step → HasRoom here
+    → replay_next_step event is_begun here ≡ Some step → MachineJournalHasRoom here
     → after ≡ here ++ piece setting here row step → Took setting row event true start after
 took_next setting row event is_begun start here after step took is room written = record {
   steps = took.steps ++ one row step ∷ [];
   first = with_next setting row event is_begun start here step took is;
   room = rooms_append setting start took.steps (one row step ∷ []) took.room
-      (subst HasRoom took.written room, tt);
+      (subst MachineJournalHasRoom took.written room, tt);
   written = written ∙ sym (after_next setting row event is_begun start here step took);
   items = took.items ++ piece setting here row step;
   grown = written ∙ ap (λ journal. journal ++ piece setting here row step) took.grown
@@ -154,7 +154,7 @@ begins_next setting row event is_begun start here after step took is part = reco
 -- ---- behind its last step
 
 all_of : (setting : Setting) (next : List Item → Option Step) (row : ℕ) (start : List Item)
-    (steps : List StepOfRow) → AreFirstMachineEventSteps setting next row start steps
+    (steps : List MachineStepOfRow) → AreFirstMachineEventSteps setting next row start steps
     → next (journal_after_steps setting start steps) ≡ None → AreAllMachineEventSteps setting next row start steps
 all_of setting next row start [] some is = is
 all_of setting next row start (x ∷ steps) some is = (
@@ -163,14 +163,14 @@ all_of setting next row start (x ∷ steps) some is = (
   all_of setting next row (start ++ piece setting start x.row x.step) steps some.2 is,
 )
 
-one_of : (step : StepOfRow) (steps : List StepOfRow) → true ≡ is_some_step steps
+one_of : (step : MachineStepOfRow) (steps : List MachineStepOfRow) → true ≡ is_some_step steps
     → (steps ≡ []) ⊎ (steps ≡ step ∷ []) → steps ≡ step ∷ []
 one_of step [] begun (inl none) = absurd (cc begun)
 one_of step (x ∷ steps) begun (inl none) = absurd (cc none)
 one_of step steps begun (inr is) = is
 
 all_on : (setting : Setting) (row : ℕ) (event : Event) (is_begun : Bool) (start : List Item)
-    (steps : List StepOfRow) → AreFirstMachineStepsOf setting row event start steps
+    (steps : List MachineStepOfRow) → AreFirstMachineStepsOf setting row event start steps
     → is_begun ≡ is_some_step steps → replay_next_step event is_begun (journal_after_steps setting start steps)
     ≡ None → AreMachineStepsOf setting row event start steps
 all_on setting row (One own) false start steps first begun is = absurd (cc is)

@@ -1,7 +1,7 @@
 -- The numbers of the packet that hops next and of the message that is delivered next are small.
 use Rattle.std.proofs.Common.{◌+◌, ◌<◌, ◌≡◌, ◌≤◌, Bool, List, Option, Some, arith, cond, false, find, suc, true, zero, ℕ}
 use Rattle.base.proofs.Exports.{range_with_len}
-use Rattle.update_machine.specs.Exports.{HasRoom, Item, count_of, is_sending, is_waiting, journal_next_message, journal_next_packet, next_travelling, next_waiting, travels}
+use Rattle.update_machine.specs.Exports.{MachineJournalHasRoom, Item, machine_count_of, is_machine_sending_item, is_waiting, journal_next_message, journal_next_packet, next_travelling, next_waiting, travels_in_journal}
 use Rattle.update_machine.specs.declared.full.TheConstants.{FULL_AT}
 
 one_more : (from count i : ℕ) (found : Option ℕ) (b : Bool)
@@ -21,11 +21,11 @@ found_within test from (suc count) i is =
 pub least_is_packet : (journal : List Item) (i : ℕ) → next_travelling journal ≡ Some i
     → i < journal_next_packet journal
 unfolding next_travelling journal_next_packet
-least_is_packet journal i is = omega (arith, found_within (travels journal) 1 _ i is)
+least_is_packet journal i is = omega (arith, found_within (travels_in_journal journal) 1 _ i is)
 
 -- where there is room
 pub least_is_small : (journal : List Item) (n : ℕ) → next_waiting journal ≡ Some n
-    → HasRoom journal → n ≤ FULL_AT
+    → MachineJournalHasRoom journal → n ≤ FULL_AT
 unfolding next_waiting journal_next_message
 least_is_small journal n is room =
-    omega (arith, room, found_within (is_waiting journal) 1 (count_of is_sending journal) n is)
+    omega (arith, room, found_within (is_waiting journal) 1 (machine_count_of is_machine_sending_item journal) n is)

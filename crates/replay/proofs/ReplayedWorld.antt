@@ -2,11 +2,11 @@
 use Rattle.std.proofs.Common.{◌≤◌, arith, ℕ}
 use Rattle.steps.specs.Exports.{max_events}
 use Rattle.update_machine.specs.Exports.{IsJournalReached, journal_next_packet}
-use Rattle.world.specs.Exports.{WorldRefinesJournal, WorldValue, world_setting_at, state_at}
+use Rattle.world.specs.Exports.{WorldRefinesJournal, WorldValue, world_setting_at, world_state_at}
 use Rattle.refinement.specs.Exports.{RefineJournal}
 
 pub tie_of : (world : WorldValue) → WorldRefinesJournal world
-    → RefineJournal (world_setting_at world) world.journal (state_at world)
+    → RefineJournal (world_setting_at world) world.journal (world_state_at world)
 tie_of world refines = refines
 
 -- its journal is of steps of the network

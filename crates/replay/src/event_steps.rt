@@ -1,6 +1,6 @@
 ghost use Rattle.std.specs.Prelude.{◌≡◌, ◌+◌, ◌≤◌, false, length, IsErrOf, OnErr, OnOk, true};
-ghost use Rattle.meters.specs.Gone.{seen_board};
-ghost use Rattle.steps.specs.Steps.{IsEvent};
+ghost use Rattle.meters.specs.Gone.{seen_meter_board};
+ghost use Rattle.steps.specs.Steps.{IsEventOfSteps};
 ghost use Rattle.steps.specs.Limits.{max_events};
 ghost use Rattle.world.specs.NoStep.{no_world_step};
 ghost use Rattle.replay.specs.Leavings.{ReplayMetersKeepUp, ReplayMetersKeepUpWithin};
@@ -30,7 +30,7 @@ pub fn take_event_steps<M: Meter>(
 ) -> Result<(), StepError>
     requires able { world.old.is_spent ≡ false }
     requires few { world.old.packets ≤ max_events }
-    requires may { IsEvent world.old.net (length world.old.files) event.now }
+    requires may { IsEventOfSteps world.old.net (length world.old.files) event.now }
     ensures setting { world_setting_at world.new ≡ world_setting_at world.old }
     ensures able { OnOk result (world.new.is_spent ≡ false) }
     ensures able_full { IsErrOf result no_world_step → world.new.is_spent ≡ false }
@@ -44,11 +44,11 @@ pub fn take_event_steps<M: Meter>(
     ensures part { OnErr result (BeginsReplayEvent (world_setting_at world.old) row event.now world.old.journal
         world.new.journal) }
     ensures kept { OnOk result (ReplayMetersKeepUp world.old.journal world.new.journal
-        (seen_board M.seen board.old) (seen_board M.seen board.new)) }
+        (seen_meter_board M.seen board.old) (seen_meter_board M.seen board.new)) }
     ensures kept_full { IsErrOf result no_world_step → ReplayMetersKeepUp world.old.journal world.new.journal
-        (seen_board M.seen board.old) (seen_board M.seen board.new) }
+        (seen_meter_board M.seen board.old) (seen_meter_board M.seen board.new) }
     ensures kept_part { OnErr result (world.new.is_spent ≡ true → ReplayMetersKeepUpWithin world.old.journal
-        world.new.journal (seen_board M.seen board.old) (seen_board M.seen board.new)) }
+        world.new.journal (seen_meter_board M.seen board.old) (seen_meter_board M.seen board.new)) }
 {
     let mut is_begun = false;
     while let Some(next) = next_replay_step(world, event, is_begun) {

@@ -1,7 +1,7 @@
 //! Packets that left are recorded by the meters of their ports.
 ghost use Rattle.std.specs.Prelude.{OnOk};
-ghost use Rattle.meters.specs.Gone.{seen_board};
-ghost use Rattle.replay.specs.Leavings.{ReplayMetersStayOn, left_in};
+ghost use Rattle.meters.specs.Gone.{seen_meter_board};
+ghost use Rattle.replay.specs.Leavings.{ReplayMetersStayOn, replay_left_in};
 
 use journal::Item;
 use meters::{Board, Meter};
@@ -16,7 +16,7 @@ pub fn replay_note_left_packets<M: Meter>(
     items: &[Item],
 ) -> Result<(), AllocError>
     ensures { OnOk result
-        (ReplayMetersStayOn (left_in items.now) (seen_board M.seen board.old) (seen_board M.seen board.new)) }
+        (ReplayMetersStayOn (replay_left_in items.now) (seen_meter_board M.seen board.old) (seen_meter_board M.seen board.new)) }
 {
     for item in items {
         if let Item::Left { port, leaving, .. } = item {

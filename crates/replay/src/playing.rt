@@ -4,14 +4,14 @@ ghost use Rattle.meters.specs.Meters.{kept_meters};
 ghost use Rattle.net_file.specs.Exports.{IsNet, port_mask};
 ghost use Rattle.packet_laws.specs.Exports.{PacketLawsHeldThroughout};
 ghost use Rattle.partition.specs.Plan.{partition_plan_of};
-ghost use Rattle.policy_rules.specs.Exports.{PolicyFileRowsAre, IsPolicyRulesOrAmendment};
-ghost use Rattle.steps.specs.Steps.{IsEvent};
+ghost use Rattle.policy_rules.specs.Exports.{PolicyFileRowsAre, IsSoundPolicyFile};
+ghost use Rattle.steps.specs.Steps.{IsEventOfSteps};
 ghost use Rattle.steps.specs.Limits.{max_events};
-ghost use Rattle.update_machine.specs.Exports.{IsMachinePlay, NamesSettingPort, setting_of};
-ghost use Rattle.world.specs.Files.{first_policy};
+ghost use Rattle.update_machine.specs.Exports.{IsMachinePlay, NamesMachineSettingPort, machine_setting_of};
+ghost use Rattle.world.specs.Files.{world_first_file_policy};
 ghost use Rattle.world.specs.State.{IsWorldBegun, world_setting_at};
 ghost use Rattle.replay.specs.InForce.{IsReplayPlanInForce};
-ghost use Rattle.replay.specs.Leavings.{left_in};
+ghost use Rattle.replay.specs.Leavings.{replay_left_in};
 ghost use Rattle.replay.specs.Playing.{IsReplayPlanRefusal};
 
 use crate::error::ReplayError;
@@ -60,28 +60,28 @@ pub fn replay<M: Meter>(
     meters: Vec<M>,
 ) -> Result<Played<M>, ReplayError>
     requires net { IsNet net.now }
-    requires first { IsSome (first_policy files.items) }
-    requires sound { All IsPolicyRulesOrAmendment files.items }
-    requires ports { All (PolicyFileRowsAre (λ row. NamesSettingPort (setting_of net.now files.items)
+    requires first { IsSome (world_first_file_policy files.items) }
+    requires sound { All IsSoundPolicyFile files.items }
+    requires ports { All (PolicyFileRowsAre (λ row. NamesMachineSettingPort (machine_setting_of net.now files.items)
         row.action)) files.items }
-    requires events { All (IsEvent net.now (length files.items)) events.now }
+    requires events { All (IsEventOfSteps net.now (length files.items)) events.now }
     requires few { length events.now ≤ max_events }
     ensures play { IfOk result (λ played.
-        IsMachinePlay (setting_of net.now files.items) events.now played.journal played.full) }
+        IsMachinePlay (machine_setting_of net.now files.items) events.now played.journal played.full) }
     ensures held { IfOk result (λ played.
-        PacketLawsHeldThroughout (setting_of net.now files.items) played.journal) }
+        PacketLawsHeldThroughout (machine_setting_of net.now files.items) played.journal) }
     ensures kept { IfOk result (λ played. map M.seen played.meters.items
-        ≡ kept_meters (port_mask net.now.switches) (left_in played.journal)
+        ≡ kept_meters (port_mask net.now.switches) (replay_left_in played.journal)
         (map M.seen meters.items)) }
     ensures gone { IfOk result (λ played. played.gone
-        ≡ gone_meter_records (port_mask net.now.switches) (left_in played.journal)
+        ≡ gone_meter_records (port_mask net.now.switches) (replay_left_in played.journal)
         (map M.seen meters.items)) }
     ensures plan { IfOk result (λ played.
-        IsReplayPlanInForce (setting_of net.now files.items) played.journal played.plan) }
+        IsReplayPlanInForce (machine_setting_of net.now files.items) played.journal played.plan) }
     ensures planned { OnOk result
-        (IsOk (partition_plan_of (unwrap_or (first_policy files.items) []) net.now)) }
+        (IsOk (partition_plan_of (unwrap_or (world_first_file_policy files.items) []) net.now)) }
     ensures refused { IfErr result
-        (IsReplayPlanRefusal (partition_plan_of (unwrap_or (first_policy files.items) []) net.now)) }
+        (IsReplayPlanRefusal (partition_plan_of (unwrap_or (world_first_file_policy files.items) []) net.now)) }
 {
     let world = World::begin(alloc, net, files)?;
     world.refines();
@@ -101,15 +101,15 @@ pub fn play<M: Meter>(
     ports: u64,
 ) -> Result<Played<M>, AllocError>
     requires begun { IsWorldBegun (world_setting_at world) world }
-    requires events { All (IsEvent world.net (length world.files)) events.now }
+    requires events { All (IsEventOfSteps world.net (length world.files)) events.now }
     requires few { length events.now ≤ max_events }
     ensures play { IfOk result (λ played.
         IsMachinePlay (world_setting_at world) events.now played.journal played.full) }
     ensures held { IfOk result (λ played. PacketLawsHeldThroughout (world_setting_at world) played.journal) }
     ensures kept { IfOk result (λ played. map M.seen played.meters.items
-        ≡ kept_meters ports (left_in played.journal) (map M.seen meters.items)) }
+        ≡ kept_meters ports (replay_left_in played.journal) (map M.seen meters.items)) }
     ensures gone { IfOk result (λ played. played.gone
-        ≡ gone_meter_records ports (left_in played.journal) (map M.seen meters.items)) }
+        ≡ gone_meter_records ports (replay_left_in played.journal) (map M.seen meters.items)) }
     ensures plan { IfOk result (λ played.
         IsReplayPlanInForce (world_setting_at world) played.journal played.plan) }
 {

@@ -1,8 +1,8 @@
 -- The network of each load case is sound.
 use Rattle.std.proofs.Common.{[], ◌&&◌, ◌++◌, ◌+◌, ◌<◌, ◌==◌, ◌^◌, ◌∙◌, ◌∷◌, ◌≡◌, ◌≢◌, ◌≤◌, All, AllPairs, Bool, IsFalse, IsTrue, List, ap, arith, bytes_eq, eq-eqb, eqb-true, false, is_some, leb-true, length, ltb-true, map, nat_le, nat_lt, ne_eqb, not, refl, slice_index, suc, sym, true, true≢false, zero, ℕ}
 use Rattle.base.proofs.Exports.{All-cons, All-nil, AllPairs-cons, and_parts, bit_at, bit_at-pow_other, bytes_eq-Decides, list_all, map-range_with_len_more, not-true, range_with_len}
-use Rattle.net_file.specs.Exports.{AreApart, AreOther, IsNetLink, IsNet, IsNetSwitchRow, has_port, is_name, joins, net_port_owner}
-use Rattle.schedule.specs.Case.{load_links, load_case_net, load_case_room_of, case_switch_row}
+use Rattle.net_file.specs.Exports.{AreNetSwitchesApart, AreOtherNetLinks, IsNetLink, IsNet, IsNetSwitchRow, net_switch_has_port, is_net_name, net_link_joins, net_port_owner}
+use Rattle.schedule.specs.Case.{load_case_links, load_case_net, load_case_room_of, load_case_switch_row}
 
 -- ---- lists by a test that computes
 
@@ -30,18 +30,18 @@ module _ {A X : Type 0} (f : A → X) where
 -- ---- switches
 
 all_sound : All IsNetSwitchRow load_case_net.switches
-all_sound = all_by case_switch_row IsNetSwitchRow
-    (λ i. is_name (case_switch_row i).name && (nat_lt (2 ^ i) (2 ^ 64) && nat_le (load_case_room_of i) 8192))
-    (λ i e. let sizes = (and_parts (is_name (case_switch_row i).name) _ e).1 in
+all_sound = all_by load_case_switch_row IsNetSwitchRow
+    (λ i. is_net_name (load_case_switch_row i).name && (nat_lt (2 ^ i) (2 ^ 64) && nat_le (load_case_room_of i) 8192))
+    (λ i e. let sizes = (and_parts (is_net_name (load_case_switch_row i).name) _ e).1 in
     record {
-      name = (and_parts (is_name (case_switch_row i).name) _ e).0;
+      name = (and_parts (is_net_name (load_case_switch_row i).name) _ e).0;
       ports = ltb-true _ _ (and_parts (nat_lt (2 ^ i) (2 ^ 64)) _ sizes).0;
       room = leb-true _ _ (and_parts (nat_lt (2 ^ i) (2 ^ 64)) _ sizes).1;
     })
     (range_with_len 0 8) refl
 
-other_ports : (i j port : ℕ) → i ≢ j → IsTrue (has_port port (case_switch_row i))
-    → IsFalse (has_port port (case_switch_row j))
+other_ports : (i j port : ℕ) → i ≢ j → IsTrue (net_switch_has_port port (load_case_switch_row i))
+    → IsFalse (net_switch_has_port port (load_case_switch_row j))
 other_ports i j port apart has = ne_eqb _ _ (λ e. one_of (port == i) refl e) where
   one_of : (b : Bool) → (port == i) ≡ b → bit_at (2 ^ j) port ≡ 1 → ⊥
   one_of true is e = let same : port ≡ i = eqb-true port i is in
@@ -51,22 +51,22 @@ other_ports i j port apart has = ne_eqb _ _ (λ e. one_of (port == i) refl e) wh
       bit_at-pow_other i port (λ k. true≢false (sym (eq-eqb port i k) ∙ is)) in
       let some : bit_at (2 ^ i) port ≡ 1 = eqb-true _ _ has in absurd (omega (arith, some, none))
 
-other_names : (i j : ℕ) → i ≢ j → IsFalse (bytes_eq (case_switch_row i).name (case_switch_row j).name)
-other_names i j apart = go (bytes_eq (case_switch_row i).name (case_switch_row j).name) refl where
-  go : (b : Bool) → bytes_eq (case_switch_row i).name (case_switch_row j).name ≡ b → IsFalse b
+other_names : (i j : ℕ) → i ≢ j → IsFalse (bytes_eq (load_case_switch_row i).name (load_case_switch_row j).name)
+other_names i j apart = go (bytes_eq (load_case_switch_row i).name (load_case_switch_row j).name) refl where
+  go : (b : Bool) → bytes_eq (load_case_switch_row i).name (load_case_switch_row j).name ≡ b → IsFalse b
   go false e = refl
-  go true e = let same = (bytes_eq-Decides (case_switch_row i).name (case_switch_row j).name).0 e in
+  go true e = let same = (bytes_eq-Decides (load_case_switch_row i).name (load_case_switch_row j).name).0 e in
       absurd (apart (omega (arith, ap (λ name. slice_index name 1) same)))
 
-all_apart : AllPairs AreApart load_case_net.switches
-all_apart = pairs_by case_switch_row AreApart (λ i j. not (i == j))
+all_apart : AllPairs AreNetSwitchesApart load_case_net.switches
+all_apart = pairs_by load_case_switch_row AreNetSwitchesApart (λ i j. not (i == j))
     (λ i j e. let apart : i ≢ j = λ same. true≢false (sym (eq-eqb i j same) ∙ not-true _ e) in
     record { names = other_names i j apart; ports = λ port. other_ports i j port apart })
     (range_with_len 0 8) refl
 
 -- ---- links
 
-all_links : All (IsNetLink 8) load_links
+all_links : All (IsNetLink 8) load_case_links
 all_links = all_by (λ link. link) (IsNetLink 8)
     (λ link. nat_lt link.one 8 && (nat_lt link.two 8 && not (link.one == link.two)))
     (λ link e. record {
@@ -75,16 +75,16 @@ all_links = all_by (λ link. link) (IsNetLink 8)
       apart = λ same. true≢false (sym (eq-eqb link.one link.two same)
           ∙ not-true _ (and_parts (nat_lt link.two 8) _ (and_parts (nat_lt link.one 8) _ e).1).1);
     })
-    load_links refl
+    load_case_links refl
 
-other_links : AllPairs AreOther load_links
-other_links = pairs_by (λ link. link) AreOther (λ a b. not (joins b.one b.two a))
-    (λ a b e. not-true _ e) load_links refl
+other_links : AllPairs AreOtherNetLinks load_case_links
+other_links = pairs_by (λ link. link) AreOtherNetLinks (λ a b. not (net_link_joins b.one b.two a))
+    (λ a b e. not-true _ e) load_case_links refl
 
 pub load_net_sound : IsNet load_case_net
 load_net_sound =
     let size : length load_case_net.switches ≡ 8 = refl in
-    let links : length load_links ≡ 10 = refl in record {
+    let links : length load_case_links ≡ 10 = refl in record {
       some_switch = omega (arith, size);
       few_switches = omega (arith, size);
       switches = all_sound;
@@ -118,6 +118,6 @@ port_owned port below = in_range (λ k. is_some (net_port_owner load_case_net.sw
     (omega arith) (omega (arith, below))
 
 -- one more switch
-pub switches_more : (i : ℕ) → map case_switch_row (range_with_len 0 (i + 1))
-    ≡ map case_switch_row (range_with_len 0 i) ++ case_switch_row i ∷ []
-switches_more i = map-range_with_len_more case_switch_row 0 i i (omega arith)
+pub switches_more : (i : ℕ) → map load_case_switch_row (range_with_len 0 (i + 1))
+    ≡ map load_case_switch_row (range_with_len 0 i) ++ load_case_switch_row i ∷ []
+switches_more i = map-range_with_len_more load_case_switch_row 0 i i (omega arith)

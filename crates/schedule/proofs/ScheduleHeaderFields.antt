@@ -1,7 +1,7 @@
 -- Each field of a header that is read has the bits that it has in a packet.
 use Rattle.std.proofs.Common.{[], ◌&&◌, ◌*◌, ◌+◌, ◌^◌, ◌∷◌, ◌≡◌, ◌≤◌, Bool, List, None, Option, Some, arith, bytes_eq, codes, cond, false, nat_le, refl, true, ℕ}
 use Rattle.base.proofs.Exports.{digits_value, nat_tests}
-use Rattle.five_tuple.specs.Exports.{IsHeader, address_from_bytes, address_of, address_of_parts, tuple_fields_from, header_of, is_number, number_up_to, tuple_fields_of, text_parts_round_byte, proto_number_of}
+use Rattle.five_tuple.specs.Exports.{IsHeader, address_from_bytes, address_of, address_of_parts, tuple_fields_from, header_of, is_tuple_number_text, tuple_number_up_to, tuple_fields_of, tuple_text_parts_round_byte, proto_number_of}
 use Rattle.five_tuple.specs.declared.header.Fields.{Fields}
 
 checked : (number : Bool) (most value n : ℕ) → cond (number && nat_le value most) (Some value) None
@@ -14,9 +14,9 @@ checked true most value n is = tested (nat_le value most) refl is where
   tested false small is = cc is
 checked false most value n is = cc is
 
-pub number_bound : (most : ℕ) (text : List ℕ) (n : ℕ) → number_up_to most text ≡ Some n → n ≤ most
-unfolding number_up_to
-number_bound most text n is = checked (is_number text) most (digits_value 10 text) n is
+pub number_bound : (most : ℕ) (text : List ℕ) (n : ℕ) → tuple_number_up_to most text ≡ Some n → n ≤ most
+unfolding tuple_number_up_to
+number_bound most text n is = checked (is_tuple_number_text text) most (digits_value 10 text) n is
 
 -- what reads at most this much
 abbrev IsBelow : ℕ → Option ℕ → Type 0
@@ -30,14 +30,14 @@ address_bound-from (Some a) (Some b) (Some c) (Some d) ha hb hc hd n is =
 address_bound-from _ _ _ _ ha hb hc hd n is = cc is
 
 parts_bound : (parts : List (List ℕ)) → IsBelow 4294967295 (address_of_parts parts)
-parts_bound (a ∷ b ∷ c ∷ d ∷ []) = address_bound-from (number_up_to 255 a) (number_up_to 255 b)
-    (number_up_to 255 c) (number_up_to 255 d) (number_bound 255 a) (number_bound 255 b)
+parts_bound (a ∷ b ∷ c ∷ d ∷ []) = address_bound-from (tuple_number_up_to 255 a) (tuple_number_up_to 255 b)
+    (tuple_number_up_to 255 c) (tuple_number_up_to 255 d) (number_bound 255 a) (number_bound 255 b)
     (number_bound 255 c) (number_bound 255 d)
 parts_bound _ = λ n is. cc is
 
 pub address_bound : (text : List ℕ) → IsBelow 4294967295 (address_of text)
 unfolding address_of
-address_bound text = parts_bound (text_parts_round_byte 46 text)
+address_bound text = parts_bound (tuple_text_parts_round_byte 46 text)
 
 named : (is_name : Bool) (number : ℕ) (otherwise : Option ℕ) → number ≤ 255 → IsBelow 255 otherwise
     → IsBelow 255 (cond is_name (Some number) otherwise)
@@ -50,7 +50,7 @@ unfolding proto_number_of
 proto_bound text =
     named (bytes_eq text (codes "icmp")) 1 _ (omega arith)
     (named (bytes_eq text (codes "tcp")) 6 _ (omega arith)
-    (named (bytes_eq text (codes "udp")) 17 (number_up_to 255 text) (omega arith)
+    (named (bytes_eq text (codes "udp")) 17 (tuple_number_up_to 255 text) (omega arith)
     (number_bound 255 text)))
 
 fields_bound : (src dst sport dport proto : Option ℕ) → IsBelow 4294967295 src
@@ -75,6 +75,6 @@ fields_bound _ _ _ _ _ hs hd hp hq hr fields is = cc is
 pub header_bound : (src dst sport dport proto : List ℕ) (fields : Fields)
     → tuple_fields_of src dst sport dport proto ≡ Some fields → IsHeader (header_of fields)
 header_bound src dst sport dport proto = fields_bound (address_of src) (address_of dst)
-    (number_up_to 65535 sport) (number_up_to 65535 dport) (proto_number_of proto)
+    (tuple_number_up_to 65535 sport) (tuple_number_up_to 65535 dport) (proto_number_of proto)
     (address_bound src) (address_bound dst) (number_bound 65535 sport) (number_bound 65535 dport)
     (proto_bound proto)

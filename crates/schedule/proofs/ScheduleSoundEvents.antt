@@ -1,24 +1,24 @@
 -- The events of a text are such as the network can be asked for, and few.
 use Rattle.std.proofs.Common.{[], ◌+◌, ◌∷◌, ◌≡◌, ◌≤◌, Bool, Err, List, None, Ok, Option, Result, Some, arith, bytes_eq, cond, false, length, nat_le, nat_lt, ok_or, option_map, refl, slice_get, subst, suc, true, ℕ}
 use Rattle.base.proofs.Exports.{All-from_recursion, AllByRecursion, cons_option, nat_tests, option_map_or, position-Some, result_err, result_ok, some_of_ok_or}
-use Rattle.csv_records.specs.Texts.{is_heading}
-use Rattle.five_tuple.specs.Exports.{IsHeader, header_of, number_up_to, tuple_fields_of}
+use Rattle.csv_records.specs.Texts.{is_csv_heading}
+use Rattle.five_tuple.specs.Exports.{IsHeader, header_of, tuple_number_up_to, tuple_fields_of}
 use Rattle.five_tuple.specs.declared.header.Fields.{Fields}
 use Rattle.five_tuple.specs.declared.header.Header.{Header}
-use Rattle.net_file.specs.Exports.{are_linked_in_net, require_net_value, switch_number, with_toml_value}
+use Rattle.net_file.specs.Exports.{are_linked_in_net, require_net_value, net_switch_number_named, with_toml_value}
 use Rattle.net_file.specs.declared.net.LinkRow.{LinkRow}
 use Rattle.net_file.specs.declared.net.Net.{Net}
 use Rattle.net_file.specs.declared.net.SwitchRow.{SwitchRow}
 use Rattle.net_file.proofs.NetFileSoundness.{require_ok, with_value_ok}
-use Rattle.steps.specs.Exports.{HasLink, HasSwitch, IsEvent, IsStep}
+use Rattle.steps.specs.Exports.{StepLinkExists, StepSwitchExists, IsEventOfSteps, IsStep}
 use Rattle.steps.specs.declared.step.Event.{Event}
 use Rattle.steps.specs.declared.step.Event.TheVariants.{One, Flush, Drain}
 use Rattle.steps.specs.declared.step.Step.{Step}
 use Rattle.steps.specs.declared.step.Step.TheVariants as step
-use Rattle.schedule.specs.Kinds.{kind_of}
-use Rattle.schedule.specs.Reading.{AreSoundScheduleEvents, schedule_events_in, schedule_events_of, events_under_heading, no_schedule_heading, refused_schedule_row, schedule_refusals_from}
+use Rattle.schedule.specs.Kinds.{schedule_kind_of}
+use Rattle.schedule.specs.Reading.{AreSoundScheduleEvents, schedule_events_in, schedule_events_of, schedule_events_under_heading, no_schedule_heading, refused_schedule_row, schedule_refusals_from}
 use Rattle.base.specs.declared.row.InRow.{InRow}
-use Rattle.schedule.specs.Rows.{schedule_event_of, row_event_with, schedule_row_file_in, schedule_header_read, schedule_link_in, schedule_row_number_read, schedule_heading, schedule_switch_in}
+use Rattle.schedule.specs.Rows.{schedule_event_of, schedule_row_event_with, schedule_row_file_in, schedule_header_read, schedule_link_in, schedule_row_number_read, schedule_heading, schedule_switch_in}
 use Rattle.schedule.specs.declared.error.ScheduleRefusal.{ScheduleRefusal}
 use Rattle.schedule.specs.declared.error.ScheduleRefusal.TheVariants as why
 use Rattle.schedule.specs.declared.kind.Kind.{Kind}
@@ -31,19 +31,19 @@ no_switch : SwitchRow
 no_switch = record { name = []; ports = 0; room = 0 }
 
 switch_sound : (net : Net) (name : List ℕ) (switch : ℕ) → schedule_switch_in net name ≡ Ok switch
-    → HasSwitch net switch
+    → StepSwitchExists net switch
 switch_sound net name switch is =
     (position-Some (λ (row : SwitchRow). bytes_eq row.name name) net.switches switch no_switch
-    (some_of_ok_or (switch_number net.switches name) why.Switch switch is)).0
+    (some_of_ok_or (net_switch_number_named net.switches name) why.Switch switch is)).0
 
 number_sound : (text : List ℕ) (n : ℕ) → schedule_row_number_read text ≡ Ok n → n ≤ 999999999
 number_sound text n is = number_bound 999999999 text n
-    (some_of_ok_or (number_up_to 999999999 text) why.Number n is)
+    (some_of_ok_or (tuple_number_up_to 999999999 text) why.Number n is)
 
 file_sound : (files : ℕ) (text : List ℕ) (file : ℕ) → schedule_row_file_in files text ≡ Ok file → (1 ≤ file)
     × (file ≤ files)
 file_sound files text file is =
-    let (n, reads, rest) = with_value_ok (ok_or (number_up_to files text) why.File)
+    let (n, reads, rest) = with_value_ok (ok_or (tuple_number_up_to files text) why.File)
     (λ n. require_net_value (nat_le 1 n) why.File (Ok n)) file is in
     let (least, last) = require_ok (nat_le 1 n) why.File (Ok n) file rest in
     let same : n ≡ file = cc last in
@@ -52,12 +52,12 @@ file_sound files text file is =
       omega (
         arith,
         same,
-        number_bound files text n (some_of_ok_or (number_up_to files text) why.File n reads),
+        number_bound files text n (some_of_ok_or (tuple_number_up_to files text) why.File n reads),
       ),
     )
 
 link_sound : (net : Net) (one two : List ℕ) (link : LinkRow) → schedule_link_in net one two ≡ Ok link
-    → HasLink net link.one link.two
+    → StepLinkExists net link.one link.two
 link_sound net one two link is =
     let (s, _, rest) = with_value_ok (schedule_switch_in net one) (λ s. with_toml_value (schedule_switch_in net two)
     (λ x. require_net_value (are_linked_in_net net.links s x) why.NoLink (Ok (record { one = s; two = x })))) link
@@ -68,7 +68,7 @@ link_sound net one two link is =
     let (linked, same) = require_ok (are_linked_in_net net.links s x) why.NoLink
     (Ok (record { one = s; two = x })) link last in
     let second : x ≡ link.two = cc same in
-    subst (λ t. HasLink net link.one t) second (subst (λ t. HasLink net t x) (cc same) linked)
+    subst (λ t. StepLinkExists net link.one t) second (subst (λ t. StepLinkExists net t x) (cc same) linked)
 
 header_sound : (src dst sport dport proto : List ℕ) (header : Header)
     → schedule_header_read src dst sport dport proto ≡ Ok header → IsHeader header
@@ -90,11 +90,11 @@ module _ (net : Net) (files : ℕ) where
   IsSound Holds read = (event : Event) → read ≡ Ok event → Holds event
 
   abbrev Sound : Result Event ScheduleRefusal → Type 0
-  Sound = IsSound (IsEvent net files)
+  Sound = IsSound (IsEventOfSteps net files)
 
-  gives : (event : Event) → IsEvent net files event → Sound (Ok event)
+  gives : (event : Event) → IsEventOfSteps net files event → Sound (Ok event)
   gives event sound other is =
-      let same : event ≡ other = cc is in subst (IsEvent net files) same sound
+      let same : event ≡ other = cc is in subst (IsEventOfSteps net files) same sound
 
   follows : {X : Type 0} (read : Result X ScheduleRefusal) (next : X → Result Event ScheduleRefusal)
       → ((x : X) → read ≡ Ok x → Sound (next x)) → Sound (with_toml_value read next)
@@ -108,18 +108,18 @@ module _ (net : Net) (files : ℕ) where
       (λ n is. gives (One (make n)) (sound n (number_sound text n is)))
 
   one_switch : (name : List ℕ) (make : ℕ → Step)
-      → ((s : ℕ) → HasSwitch net s → IsStep net files (make s))
+      → ((s : ℕ) → StepSwitchExists net s → IsStep net files (make s))
       → Sound (with_toml_value (schedule_switch_in net name) (λ s. Ok (One (make s))))
   one_switch name make sound = follows (schedule_switch_in net name) (λ s. Ok (One (make s)))
       (λ s is. gives (One (make s)) (sound s (switch_sound net name s is)))
 
   one_link : (one two : List ℕ) (make : LinkRow → Step)
-      → ((link : LinkRow) → HasLink net link.one link.two → IsStep net files (make link))
+      → ((link : LinkRow) → StepLinkExists net link.one link.two → IsStep net files (make link))
       → Sound (with_toml_value (schedule_link_in net one two) (λ link. Ok (One (make link))))
   one_link one two make sound = follows (schedule_link_in net one two) (λ link. Ok (One (make link)))
       (λ link is. gives (One (make link)) (sound link (link_sound net one two link is)))
 
-  with_sound : (k : Kind) (fields : List (List ℕ)) → Sound (row_event_with net files k fields)
+  with_sound : (k : Kind) (fields : List (List ℕ)) → Sound (schedule_row_event_with net files k fields)
   with_sound kind.Packet (switch ∷ src ∷ dst ∷ sport ∷ dport ∷ proto ∷ []) =
       follows (schedule_switch_in net switch) (λ s. with_toml_value (schedule_header_read src dst sport dport proto)
       (λ header. Ok (One (step.Packet s header))))
@@ -149,19 +149,19 @@ module _ (net : Net) (files : ℕ) where
 
   row_sound : (fields : List (List ℕ)) → Sound (schedule_event_of net files fields)
   row_sound [] = λ event is. cc is
-  row_sound (keyword ∷ fields) = follows (ok_or (kind_of keyword) why.Kind)
-      (λ k. row_event_with net files k fields) (λ k is. with_sound k fields)
+  row_sound (keyword ∷ fields) = follows (ok_or (schedule_kind_of keyword) why.Kind)
+      (λ k. schedule_row_event_with net files k fields) (λ k is. with_sound k fields)
 
   -- ---- all rows
 
-  rows_sound : (records : List (List (List ℕ))) → AllByRecursion (IsEvent net files)
+  rows_sound : (records : List (List (List ℕ))) → AllByRecursion (IsEventOfSteps net files)
       (schedule_events_in net files records)
   rows_sound [] = tt
   rows_sound (fields ∷ records) = kept (schedule_event_of net files fields) (row_sound fields)
       (schedule_events_in net files records) (rows_sound records)
     where
       kept : (read : Result Event ScheduleRefusal) → Sound read → (events : List Event)
-          → AllByRecursion (IsEvent net files) events → AllByRecursion (IsEvent net files)
+          → AllByRecursion (IsEventOfSteps net files) events → AllByRecursion (IsEventOfSteps net files)
           (cons_option (result_ok read) events)
       kept (Ok event) sound events rest = (sound event refl, rest)
       kept (Err refusal) sound events rest = rest
@@ -213,15 +213,15 @@ module _ (net : Net) (files : ℕ) where
       let most : length (schedule_events_in net files records) ≤ 100000 = omega (arith, as_many) in
       subst (AreSoundScheduleEvents net files) same
       (record {
-        steps = All-from_recursion (IsEvent net files) (schedule_events_in net files records)
+        steps = All-from_recursion (IsEventOfSteps net files) (schedule_events_in net files records)
             (rows_sound records);
         few = most;
       })
 
   pub text_sound : (records : List (List (List ℕ))) (events : List Event)
-      → events_under_heading net files records ≡ Ok events → AreSoundScheduleEvents net files events
+      → schedule_events_under_heading net files records ≡ Ok events → AreSoundScheduleEvents net files events
   text_sound [] events is = cc is
-  text_sound (first ∷ records) events is = under (is_heading schedule_heading first) is where
+  text_sound (first ∷ records) events is = under (is_csv_heading schedule_heading first) is where
     under : (b : Bool) → cond b (schedule_events_of net files records) no_schedule_heading ≡ Ok events
         → AreSoundScheduleEvents net files events
     under true is = all_sound records events is

@@ -21,17 +21,17 @@ schedule_keyword_of kind.Resend = codes "resend"
 schedule_keyword_of kind.Flush = codes "flush"
 schedule_keyword_of kind.Drain = codes "drain"
 
-abbrev pub kinds : List Kind
-kinds = kind.Packet ∷ kind.Hop ∷ kind.Lose ∷ kind.Deliver ∷ kind.Forget ∷ kind.Expire ∷ kind.Update
+abbrev pub schedule_kinds : List Kind
+schedule_kinds = kind.Packet ∷ kind.Hop ∷ kind.Lose ∷ kind.Deliver ∷ kind.Forget ∷ kind.Expire ∷ kind.Update
     ∷ kind.LinkDown ∷ kind.LinkUp ∷ kind.Crash ∷ kind.Restart ∷ kind.Confirm ∷ kind.Resend
     ∷ kind.Flush ∷ kind.Drain ∷ []
 
 -- the kind that a keyword names
-unfoldable pub kind_of : List ℕ → Option Kind
-kind_of keyword = find (λ kind. bytes_eq (schedule_keyword_of kind) keyword) kinds
+unfoldable pub schedule_kind_of : List ℕ → Option Kind
+schedule_kind_of keyword = find (λ kind. bytes_eq (schedule_keyword_of kind) keyword) schedule_kinds
 
 -- kinds and their keywords correspond one to one
 pub record ScheduleKindLaws : Type 0 where
-  pub kind : (kind : Kind) → kind_of (schedule_keyword_of kind) ≡ Some kind
-  pub keyword : (keyword : List ℕ) (kind : Kind) → kind_of keyword ≡ Some kind
+  pub kind : (kind : Kind) → schedule_kind_of (schedule_keyword_of kind) ≡ Some kind
+  pub keyword : (keyword : List ℕ) (kind : Kind) → schedule_kind_of keyword ≡ Some kind
       → keyword ≡ schedule_keyword_of kind

@@ -1,9 +1,9 @@
 -- The events that a text states, as CSV records: a heading, and a record for each event.
 use Rattle.std.specs.Prelude.{[], if◌then◌else◌, ◌∷◌, ◌≡◌, ◌≤◌, All, Err, List, Ok, Option, Result, Some, filter_map, length, nat_lt, option_map, slice_get, ℕ}
 use Rattle.base.specs.Exports.{enumerate_from, option_map_or, result_err, result_ok}
-use Rattle.csv_records.specs.Texts.{is_heading, records_of}
+use Rattle.csv_records.specs.Texts.{is_csv_heading, csv_records_of}
 use Rattle.net_file.specs.declared.net.Net.{Net}
-use Rattle.steps.specs.Exports.{IsEvent, max_events}
+use Rattle.steps.specs.Exports.{IsEventOfSteps, max_events}
 use Rattle.steps.specs.declared.step.Event.{Event}
 use Rattle.base.specs.declared.row.InRow.{InRow}
 use Rattle.schedule.specs.Rows.{schedule_event_of, schedule_heading}
@@ -40,21 +40,21 @@ abbrev pub no_schedule_heading : Result (List Event) (InRow ScheduleRefusal)
 no_schedule_heading = Err (record { refusal = why.Header; row = 0 })
 
 -- the events under the heading
-abbrev pub events_under_heading : Net → ℕ → List (List (List ℕ))
+abbrev pub schedule_events_under_heading : Net → ℕ → List (List (List ℕ))
     → Result (List Event) (InRow ScheduleRefusal)
-events_under_heading net files [] = no_schedule_heading
-events_under_heading net files (first ∷ records) =
-    if is_heading schedule_heading first then schedule_events_of net files records else no_schedule_heading
+schedule_events_under_heading net files [] = no_schedule_heading
+schedule_events_under_heading net files (first ∷ records) =
+    if is_csv_heading schedule_heading first then schedule_events_of net files records else no_schedule_heading
 
 -- the events that a text states
 unfoldable pub schedule_of : Net → ℕ → List ℕ → Result (List Event) (InRow ScheduleRefusal)
-schedule_of net files bytes = events_under_heading net files (records_of bytes)
+schedule_of net files bytes = schedule_events_under_heading net files (csv_records_of bytes)
 
 -- ---- laws
 
 -- what is true of the events of any text
 pub record AreSoundScheduleEvents (net : Net) (files : ℕ) (events : List Event) : Type 0 where
-  pub steps : All (IsEvent net files) events
+  pub steps : All (IsEventOfSteps net files) events
   pub few : length events ≤ max_events
 
 pub record ScheduleLaws : Type 0 where

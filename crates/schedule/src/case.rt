@@ -1,5 +1,5 @@
 ghost use Rattle.std.specs.Prelude.{◌≡◌, ◌≤◌, All, IfOk};
-ghost use Rattle.schedule.specs.Case.{IsPlayableCase, case_seen, load_case};
+ghost use Rattle.schedule.specs.Case.{IsPlayableLoadCase, load_case_seen, load_case};
 ghost use Rattle.policy_rules.specs.Policy.{IsPolicy};
 
 use crate::case_events::events;
@@ -27,8 +27,8 @@ pub struct Case {
 /// Only out of memory.
 pub fn load_case(alloc: Global, n: u32) -> Result<Case, AllocError>
     requires { (1 ≤ n) × (n ≤ 1000) }
-    ensures case { IfOk result (λ case. case_seen case ≡ load_case n) }
-    ensures playable { IfOk result (λ case. IsPlayableCase (case_seen case)) }
+    ensures case { IfOk result (λ case. load_case_seen case ≡ load_case n) }
+    ensures playable { IfOk result (λ case. IsPlayableLoadCase (load_case_seen case)) }
     ensures policies { IfOk result (λ case. All IsPolicy case.policies.items) }
 {
     let case = draw_case(alloc, n)?;
@@ -37,7 +37,7 @@ pub fn load_case(alloc: Global, n: u32) -> Result<Case, AllocError>
 
 fn draw_case(alloc: Global, n: u32) -> Result<Case, AllocError>
     requires { n ≤ 1000 }
-    ensures case { IfOk result (λ case. case_seen case ≡ load_case n) }
+    ensures case { IfOk result (λ case. load_case_seen case ≡ load_case n) }
     ensures policies { IfOk result (λ case. All IsPolicy case.policies.items) }
 {
     let net = net(alloc)?;

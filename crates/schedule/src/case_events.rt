@@ -1,5 +1,5 @@
 ghost use Rattle.std.specs.Prelude.{◌≡◌, ◌++◌, ◌<◌, ◌^◌, IfOk, OnOk};
-ghost use Rattle.schedule.specs.Case.{case_address_at, draw_state_after, change_events, case_groups_from, header_drawn, case_packet_drawn};
+ghost use Rattle.schedule.specs.Case.{load_case_address_at, load_case_draw_state_after, load_case_change_events, load_case_groups_from, load_case_header_drawn, load_case_packet_drawn};
 
 use crate::draws::{CaseDraws, address};
 use five_tuple::{Fields, Header};
@@ -13,8 +13,8 @@ use steps::{Event, Step};
 /// Only out of memory.
 pub fn events(alloc: Global, draws: &mut CaseDraws, half: u32) -> Result<Vec<Event>, AllocError>
     ensures { IfOk result (λ events.
-        let early = case_groups_from half draws.old.state in
-        events.items ≡ early.0 ++ change_events ++ (case_groups_from half early.1).0) }
+        let early = load_case_groups_from half draws.old.state in
+        events.items ≡ early.0 ++ load_case_change_events ++ (load_case_groups_from half early.1).0) }
 {
     let mut events = Vec::new(alloc);
     push_load_case_groups(&mut events, draws, half)?;
@@ -34,8 +34,8 @@ fn push_load_case_groups(
     count: u32,
 ) -> Result<(), AllocError>
     ensures { OnOk result (
-        (events.new.items ≡ events.old.items ++ (case_groups_from count draws.old.state).0)
-        × (draws.new.state ≡ (case_groups_from count draws.old.state).1)) }
+        (events.new.items ≡ events.old.items ++ (load_case_groups_from count draws.old.state).0)
+        × (draws.new.state ≡ (load_case_groups_from count draws.old.state).1)) }
 {
     for _k in 0..count {
         let packet = draw_packet(draws);
@@ -47,8 +47,8 @@ fn push_load_case_groups(
 }
 
 fn draw_packet(draws: &mut CaseDraws) -> Step
-    ensures packet { result ≡ case_packet_drawn draws.old.state }
-    ensures state { draws.new.state ≡ draw_state_after 9 draws.old.state }
+    ensures packet { result ≡ load_case_packet_drawn draws.old.state }
+    ensures state { draws.new.state ≡ load_case_draw_state_after 9 draws.old.state }
 {
     let switch = draws.below(8);
     let header = draw_header(draws);
@@ -56,8 +56,8 @@ fn draw_packet(draws: &mut CaseDraws) -> Step
 }
 
 fn draw_header(draws: &mut CaseDraws) -> Header
-    ensures header { result ≡ header_drawn draws.old.state }
-    ensures state { draws.new.state ≡ draw_state_after 8 draws.old.state }
+    ensures header { result ≡ load_case_header_drawn draws.old.state }
+    ensures state { draws.new.state ≡ load_case_draw_state_after 8 draws.old.state }
 {
     let src = draw_address(draws);
     let dst = draw_address(draws);
@@ -73,8 +73,8 @@ fn draw_header(draws: &mut CaseDraws) -> Header
 }
 
 fn draw_address(draws: &mut CaseDraws) -> u32
-    ensures address { result ≡ case_address_at draws.old.state }
-    ensures state { draws.new.state ≡ draw_state_after 3 draws.old.state }
+    ensures address { result ≡ load_case_address_at draws.old.state }
+    ensures state { draws.new.state ≡ load_case_draw_state_after 3 draws.old.state }
     ensures fits { result < 2 ^ 32 }
 {
     let b = draws.below(4);

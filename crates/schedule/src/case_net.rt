@@ -1,5 +1,5 @@
 ghost use Rattle.std.specs.Prelude.{◌≡◌, ◌<◌, IfOk};
-ghost use Rattle.schedule.specs.Case.{load_links, load_case_net, case_switch_row};
+ghost use Rattle.schedule.specs.Case.{load_case_links, load_case_net, load_case_switch_row};
 ghost use Rattle.net_file.specs.Net.{IsNet};
 
 use net_file::{LinkRow, Links, Name, Net, SwitchRow, Switches};
@@ -37,7 +37,7 @@ fn schedule_load_case_ring(alloc: Global) -> Result<Net, AllocError>
 // The switch `ni`, which has the port i.
 fn switch(alloc: Global, i: u32) -> Result<SwitchRow, AllocError>
     requires { i < 8 }
-    ensures { IfOk result (λ row. row ≡ case_switch_row i) }
+    ensures { IfOk result (λ row. row ≡ load_case_switch_row i) }
 {
     let bytes = [b'n', b'0' + i as u8];
     let is_authority = i == 1 || i == 5;
@@ -49,7 +49,7 @@ fn switch(alloc: Global, i: u32) -> Result<SwitchRow, AllocError>
 }
 
 fn links(alloc: Global) -> Result<Links, AllocError>
-    ensures { IfOk result (λ links. links ≡ load_links) }
+    ensures { IfOk result (λ links. links ≡ load_case_links) }
 {
     let rows = [
         LinkRow { one: 0, two: 1 },

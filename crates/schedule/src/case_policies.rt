@@ -1,5 +1,5 @@
 ghost use Rattle.std.specs.Prelude.{◌≡◌, IfOk};
-ghost use Rattle.schedule.specs.Case.{load_case_action_at, load_case_action_ends, load_case_row_at, row_ends, case_rows_drawn};
+ghost use Rattle.schedule.specs.Case.{load_case_action_at, load_case_action_ends, load_case_row_at, load_case_row_ends, load_case_rows_drawn};
 ghost use Rattle.policy_rules.specs.Policy.{IsPolicy};
 
 use crate::draws::{CaseDraws, address};
@@ -14,8 +14,8 @@ use std::alloc::{AllocError, Global};
 /// Only out of memory.
 pub fn policy(alloc: Global, draws: &mut CaseDraws, rows: u32) -> Result<Policy, AllocError>
     ensures drawn { IfOk result (λ policy.
-        (policy ≡ (case_rows_drawn rows draws.old.state).0)
-        × (draws.new.state ≡ (case_rows_drawn rows draws.old.state).1)) }
+        (policy ≡ (load_case_rows_drawn rows draws.old.state).0)
+        × (draws.new.state ≡ (load_case_rows_drawn rows draws.old.state).1)) }
     ensures sound { IfOk result IsPolicy }
 {
     let rows = draw_rows(alloc, draws, rows)?;
@@ -29,8 +29,8 @@ pub fn policy(alloc: Global, draws: &mut CaseDraws, rows: u32) -> Result<Policy,
 #[tactic(auto, using(crate::proofs::LoadCaseDraws::rows_more))]
 fn draw_rows(alloc: Global, draws: &mut CaseDraws, count: u32) -> Result<Vec<Row>, AllocError>
     ensures { IfOk result (λ rows.
-        (rows.items ≡ (case_rows_drawn count draws.old.state).0)
-        × (draws.new.state ≡ (case_rows_drawn count draws.old.state).1)) }
+        (rows.items ≡ (load_case_rows_drawn count draws.old.state).0)
+        × (draws.new.state ≡ (load_case_rows_drawn count draws.old.state).1)) }
 {
     let mut rows = Vec::new(alloc);
     for k in 0..count {
@@ -41,7 +41,7 @@ fn draw_rows(alloc: Global, draws: &mut CaseDraws, count: u32) -> Result<Vec<Row
 
 fn draw_row(draws: &mut CaseDraws, priority: u32) -> Row
     ensures row { result ≡ load_case_row_at priority draws.old.state }
-    ensures state { draws.new.state ≡ row_ends draws.old.state }
+    ensures state { draws.new.state ≡ load_case_row_ends draws.old.state }
 {
     let b = draws.below(4);
     let c = draws.below(256);

@@ -1,5 +1,5 @@
 ghost use Rattle.std.specs.Prelude.{◌≡◌, find, bytes_eq, IfSome, IsTrue};
-ghost use Rattle.schedule.specs.Kinds.{kind_of, schedule_keyword_of};
+ghost use Rattle.schedule.specs.Kinds.{schedule_kind_of, schedule_keyword_of};
 
 /// The kinds of a schedule's rows, each named as its step or event.
 #[derive(Clone, Copy, Debug, PartialEq, Eq)]
@@ -76,9 +76,9 @@ fn first_named_schedule_kind(kinds: &[Kind], text: &[u8]) -> Option<Kind>
 }
 
 /// The kind that the keyword names; `None` for any other text.
-#[tactic(auto, unfolding(crate::specs::Kinds::kind_of))]
+#[tactic(auto, unfolding(crate::specs::Kinds::schedule_kind_of))]
 pub fn read_schedule_kind(text: &[u8]) -> Option<Kind>
-    ensures { result ≡ kind_of text.now }
+    ensures { result ≡ schedule_kind_of text.now }
 {
     match named(text) {
         Some(kind) => Some(kind),

@@ -1,6 +1,6 @@
 ghost use Rattle.std.specs.Prelude.{◌≡◌, ◌≤◌, Ok, IfOk, IfErr, All, vec_len};
 ghost use Rattle.net_file.specs.Net.{IsNet};
-ghost use Rattle.steps.specs.Steps.{IsEvent};
+ghost use Rattle.steps.specs.Steps.{IsEventOfSteps};
 ghost use Rattle.steps.specs.Limits.{max_events};
 ghost use Rattle.schedule.specs.Reading.{schedule_of};
 ghost use Rattle.base.specs.Refusals.{IsCallRefusal};
@@ -33,7 +33,7 @@ pub fn read_schedule(
     requires { IsNet net.now }
     ensures events { IfOk result (λ events.
         schedule_of net.now files bytes.now ≡ Ok events.items) }
-    ensures steps { IfOk result (λ events. All (IsEvent net.now files) events.items) }
+    ensures steps { IfOk result (λ events. All (IsEventOfSteps net.now files) events.items) }
     ensures few { IfOk result (λ events. vec_len events ≤ max_events) }
     ensures refused { IfErr result (IsCallRefusal (schedule_of net.now files bytes.now)) }
 {

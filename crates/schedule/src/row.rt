@@ -1,9 +1,9 @@
 ghost use Rattle.std.specs.Prelude.{◌≡◌, [], ◌∷◌, drop, length};
 ghost use Rattle.csv.specs.Records.{fields_of};
-ghost use Rattle.csv_records.specs.Texts.{is_heading};
+ghost use Rattle.csv_records.specs.Texts.{is_csv_heading};
 ghost use Rattle.net_file.specs.Net.{IsNet};
 ghost use Rattle.net_file.specs.Joins.{are_linked_in_net};
-ghost use Rattle.schedule.specs.Rows.{schedule_event_of, row_event_with, schedule_row_file_in, schedule_header_read, schedule_link_in, schedule_row_number_read, schedule_heading, schedule_switch_in};
+ghost use Rattle.schedule.specs.Rows.{schedule_event_of, schedule_row_event_with, schedule_row_file_in, schedule_header_read, schedule_link_in, schedule_row_number_read, schedule_heading, schedule_switch_in};
 
 use crate::error::ScheduleRefusal;
 use crate::kind::{Kind, read_schedule_kind};
@@ -15,7 +15,7 @@ use steps::{Event, MAX_NUMBER, Step};
 /// Whether the record is the heading.
 #[tactic(auto, using(crate::proofs::ScheduleEventFields::heading))]
 pub fn is_schedule_heading(fields: &ByteRecord) -> bool
-    ensures { result ≡ is_heading schedule_heading (fields_of fields.now) }
+    ensures { result ≡ is_csv_heading schedule_heading (fields_of fields.now) }
 {
     if fields.len() != 2 {
         return false;
@@ -90,7 +90,7 @@ fn read_schedule_header(
 
 // The event of a kind, if no fields follow it.
 fn read_keyword_event(net: &Net, files: u32, kind: Kind) -> Result<Event, ScheduleRefusal>
-    ensures { result ≡ row_event_with net.now files kind [] }
+    ensures { result ≡ schedule_row_event_with net.now files kind [] }
 {
     match kind {
         Kind::Flush => Ok(Event::Flush),
@@ -107,7 +107,7 @@ fn read_schedule_one_field_step(
     text: &[u8],
 ) -> Result<Event, ScheduleRefusal>
     requires { IsNet net.now }
-    ensures { result ≡ row_event_with net.now files kind (text.now ∷ []) }
+    ensures { result ≡ schedule_row_event_with net.now files kind (text.now ∷ []) }
 {
     let step = match kind {
         Kind::Hop => Step::Hop {
@@ -151,7 +151,7 @@ fn read_two_field_step(
     two: &[u8],
 ) -> Result<Event, ScheduleRefusal>
     requires { IsNet net.now }
-    ensures { result ≡ row_event_with net.now files kind (one.now ∷ two.now ∷ []) }
+    ensures { result ≡ schedule_row_event_with net.now files kind (one.now ∷ two.now ∷ []) }
 {
     let step = match kind {
         Kind::Expire => {
@@ -182,7 +182,7 @@ fn read_six_field_step(
 ) -> Result<Event, ScheduleRefusal>
     requires net { IsNet net.now }
     requires seven { length (fields_of fields.now) ≡ 7 }
-    ensures { result ≡ row_event_with net.now files kind (drop 1 (fields_of fields.now)) }
+    ensures { result ≡ schedule_row_event_with net.now files kind (drop 1 (fields_of fields.now)) }
 {
     if kind != Kind::Packet {
         return Err(ScheduleRefusal::Width);

@@ -1,7 +1,7 @@
 -- What a sink gained by several writes.
 use Rattle.std.proofs.Common.{[], ◌++◌, ◌+◌, ◌∙◌, ◌≡◌, Bool, Err, List, None, Ok, Option, Result, Some, ap, append-nil, arith, length, length-append, refl, subst, sym, take, ℕ}
 use Rattle.base.proofs.Exports.{take-append-add, take-append-le, ⊤}
-use Rattle.shelf.specs.Exports.{SinkGainedPart, IsAfterWrite, SinkState, gained-gained, sink_with_gained}
+use Rattle.shelf.specs.Exports.{SinkGainedPart, IsSinkAfterWrite, SinkState, gained-gained, sink_with_gained}
 use Rattle.shelf.specs.declared.output.SinkError.{SinkError}
 
 pub nothing_gained : (before : Option (List ℕ)) → before ≡ sink_with_gained before []
@@ -33,8 +33,8 @@ part_last before middle now front piece written part =
 -- two texts, one after the other
 pub both_written : (before middle now : SinkState) (text lines : List ℕ) (takes_memory : Bool)
     (result : Result (⊤) SinkError) → middle.bytes ≡ sink_with_gained before.bytes text
-    → middle.faults ≡ before.faults → IsAfterWrite lines takes_memory middle now result
-    → IsAfterWrite (text ++ lines) takes_memory before now result
+    → middle.faults ≡ before.faults → IsSinkAfterWrite lines takes_memory middle now result
+    → IsSinkAfterWrite (text ++ lines) takes_memory before now result
 both_written before middle now text lines takes_memory (Ok done) written same after = record {
   whole = after.whole ∙ ap (λ bytes. sink_with_gained bytes lines) written
       ∙ gained-gained before.bytes text lines;
@@ -55,8 +55,8 @@ both_written before middle now text lines takes_memory (Err why) written same af
 
 -- the first of them was cut short
 pub first_part : (before now : SinkState) (text lines : List ℕ) (takes_memory : Bool)
-    (why : SinkError) → IsAfterWrite text takes_memory before now (Err why)
-    → IsAfterWrite (text ++ lines) takes_memory before now (Err why)
+    (why : SinkError) → IsSinkAfterWrite text takes_memory before now (Err why)
+    → IsSinkAfterWrite (text ++ lines) takes_memory before now (Err why)
 first_part before now text lines takes_memory why after = record {
   whole = tt;
   part = SinkGainedPart-behind before.bytes before.bytes now.bytes [] text lines
@@ -70,9 +70,9 @@ first_part before now text lines takes_memory why after = record {
 -- a piece that was cut short, behind what was written and before the rest
 pub piece_cut : (before middle now : SinkState) (front piece rest whole : List ℕ)
     (takes_memory : Bool) (why : SinkError) → middle.bytes ≡ sink_with_gained before.bytes front
-    → middle.faults ≡ before.faults → IsAfterWrite piece takes_memory middle now (Err why)
-    → front ++ (piece ++ rest) ≡ whole → IsAfterWrite whole takes_memory before now (Err why)
+    → middle.faults ≡ before.faults → IsSinkAfterWrite piece takes_memory middle now (Err why)
+    → front ++ (piece ++ rest) ≡ whole → IsSinkAfterWrite whole takes_memory before now (Err why)
 piece_cut before middle now front piece rest whole takes_memory why written same after is =
-    subst (λ (bytes : List ℕ). IsAfterWrite bytes takes_memory before now (Err why)) is
+    subst (λ (bytes : List ℕ). IsSinkAfterWrite bytes takes_memory before now (Err why)) is
     (both_written before middle now front (piece ++ rest) takes_memory (Err why) written same
     (first_part middle now piece rest takes_memory why after))

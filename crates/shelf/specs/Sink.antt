@@ -3,12 +3,12 @@
 use Rattle.std.specs.Prelude.{◌++◌, ◌+◌, ◌-◌, ◌<◌, ◌^◌, ◌≡◌, ◌≤◌, List, None, Option, Some, length, min, take, ℕ}
 
 -- one more, or the greatest value
-abbrev pub next_count : ℕ → ℕ
-next_count n = min (n + 1) (2 ^ 64 - 1)
+abbrev pub next_sink_fault_count : ℕ → ℕ
+next_sink_fault_count n = min (n + 1) (2 ^ 64 - 1)
 
 -- the count rose, or is at its greatest value
-abbrev pub FaultsRose : ℕ → ℕ → Type 0
-FaultsRose before now = next_count before ≤ now
+abbrev pub SinkFaultsRose : ℕ → ℕ → Type 0
+SinkFaultsRose before now = next_sink_fault_count before ≤ now
 
 -- what contracts see of each sink: its bytes, if they are known, and how often it failed
 pub record SinkState : Type 0 where

@@ -4,7 +4,7 @@ use Rattle.std.proofs.Common.{ap, append_assoc}
 use Rattle.shelf.specs.declared.output.SinkError.{SinkError}
 use Rattle.shelf.specs.declared.output.SinkError.TheVariants.{Failed, NoMemory}
 use Rattle.shelf.specs.Scripts.{ShelfCallScript}
-use Rattle.shelf.specs.Sink.{SinkState, sink_with_gained, SinkGainedPart, FaultsRose}
+use Rattle.shelf.specs.Sink.{SinkState, sink_with_gained, SinkGainedPart, SinkFaultsRose}
 
 -- gaining two pieces is gaining both as one
 pub gained-gained : (before : Option (List ℕ)) (first next : List ℕ)
@@ -23,20 +23,20 @@ pub record IsSinkBlockGathered (text : List ℕ) (before now : Option (List ℕ)
 -- a sink after a write of these bytes: it gained all of them if the write succeeded, otherwise a
 -- part; and each error has its cause. Only a failed write counts a fault, so a write is not tried
 -- again after a fault
-pub record IsAfterWrite (bytes : List ℕ) (takes_memory : Bool) (old new : SinkState)
+pub record IsSinkAfterWrite (bytes : List ℕ) (takes_memory : Bool) (old new : SinkState)
     (result : Result (⊤) SinkError) : Type 0 where
   pub whole : OnOk result (new.bytes ≡ sink_with_gained old.bytes bytes)
   pub part : OnErr result (SinkGainedPart old.bytes bytes new.bytes)
   pub faults : old.faults ≤ new.faults
   pub calm : result ≢ Err Failed → new.faults ≡ old.faults
-  pub failed : IsErrOf result Failed → FaultsRose old.faults new.faults
+  pub failed : IsErrOf result Failed → SinkFaultsRose old.faults new.faults
   pub no_memory : IsErrOf result NoMemory → IsTrue takes_memory
 
 -- the result is a fault, or an Ok of nothing for a piece that has bytes
-abbrev pub is_write_fault : List ℕ → Result ℕ SinkError → Bool
-is_write_fault piece (Ok taken) = (taken == 0) && not (length piece == 0)
-is_write_fault piece (Err Failed) = true
-is_write_fault piece (Err NoMemory) = false
+abbrev pub is_sink_write_fault : List ℕ → Result ℕ SinkError → Bool
+is_sink_write_fault piece (Ok taken) = (taken == 0) && not (length piece == 0)
+is_sink_write_fault piece (Err Failed) = true
+is_sink_write_fault piece (Err NoMemory) = false
 
 -- bytes, the most that one call accepts, and the calls that are to fail
 pub record ScriptedSinkBytes : Type 0 where

@@ -6,7 +6,7 @@ use Rattle.std.specs.declared.io.ErrorKind.{ErrorKind}
 use Rattle.std.specs.declared.io.ErrorKind.TheVariants.{OutOfMemory}
 use Rattle.std.specs.IoError.{error_kind}
 use Rattle.std.specs.declared.io.Error.{Error}
-use Rattle.shelf.specs.Sink.{next_count}
+use Rattle.shelf.specs.Sink.{next_sink_fault_count}
 use Rattle.shelf.specs.declared.source.ShelfError.{ShelfError}
 use Rattle.shelf.specs.declared.source.ShelfError.TheVariants.{Missing, NoMemory, TooLong}
 
@@ -29,7 +29,7 @@ ShelfReaderHasFront known most before now (Err error) = ⊤
 -- the count of faults after an error: each is one, unless its kind is out of memory
 abbrev pub shelf_faults_by_kind : ErrorKind → ℕ → ℕ
 shelf_faults_by_kind OutOfMemory faults = faults
-shelf_faults_by_kind kind faults = next_count faults
+shelf_faults_by_kind kind faults = next_sink_fault_count faults
 
 -- the count of faults after one more call
 abbrev pub shelf_counted_fault : {T : Type 0} → ℕ → Result T Error → ℕ
@@ -46,7 +46,7 @@ IsShelfReadOf known limit (Err cause) = ⊤
 
 -- the bytes that a writer has, if they are known, grew by the first of a piece: by as many as an
 -- Ok says, and on an error by some or by none
-abbrev pub WriterGainsFront : {E : Type 0} → List ℕ → Result ℕ E → (before now : Option (List ℕ)) → Type 0
-WriterGainsFront piece (Ok taken) before now = Appends before now (take taken piece)
-WriterGainsFront piece (Err error) before now =
+abbrev pub SinkWriterGainsFront : {E : Type 0} → List ℕ → Result ℕ E → (before now : Option (List ℕ)) → Type 0
+SinkWriterGainsFront piece (Ok taken) before now = Appends before now (take taken piece)
+SinkWriterGainsFront piece (Err error) before now =
     (n : ℕ) × (n ≤ length piece) × Appends before now (take n piece)

@@ -1,7 +1,7 @@
 //! Pieces of a text that are gathered before they are written.
 ghost use Rattle.std.specs.Prelude.{◌≡◌, ◌≢◌, ◌≤◌, ◌+◌, ◌++◌, [], List, Option, ℕ, IsOk, IsErrOf, OnErr, OnOk, length, IsTrue};
-ghost use Rattle.shelf.specs.Sink.{SinkGainedPart, sink_with_gained, FaultsRose};
-ghost use Rattle.shelf.specs.SinkWrites.{IsAfterWrite, IsSinkBlockGathered};
+ghost use Rattle.shelf.specs.Sink.{SinkGainedPart, sink_with_gained, SinkFaultsRose};
+ghost use Rattle.shelf.specs.SinkWrites.{IsSinkAfterWrite, IsSinkBlockGathered};
 
 use crate::output::{Sink, SinkError, write_whole};
 use std::marker::Model;
@@ -70,7 +70,7 @@ impl ShelfBlock {
         ensures calm { result ≢ Err SinkError.Failed
             → (K.state sink.new).faults ≡ (K.state sink.old).faults }
         ensures failed { IsErrOf result SinkError.Failed
-            → FaultsRose (K.state sink.old).faults (K.state sink.new).faults }
+            → SinkFaultsRose (K.state sink.old).faults (K.state sink.new).faults }
         ensures no_memory { IsErrOf result SinkError.NoMemory → IsTrue K.takes_memory }
     {
         if piece.len() <= BLOCK_BYTES - self.len {
@@ -92,7 +92,7 @@ impl ShelfBlock {
             → IsSinkBlockGathered text before (K.state sink.old).bytes self
             → OnErr result (SinkGainedPart before text (K.state sink.new).bytes) }
         ensures no_bytes { self ≡ [] → IsOk result × (sink.new ≡ sink.old) }
-        ensures after { IsAfterWrite self K.takes_memory
+        ensures after { IsSinkAfterWrite self K.takes_memory
             (K.state sink.old) (K.state sink.new) result }
     {
         write_whole(sink, self.bytes())

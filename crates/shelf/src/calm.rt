@@ -1,6 +1,6 @@
 //! Files and bytes in memory that never fail.
 ghost use Rattle.std.specs.Prelude.{◌≡◌, ◌↔◌, [], Some, true, false, IfOk, IsErrOf};
-ghost use Rattle.shelf.specs.Sink.{next_count};
+ghost use Rattle.shelf.specs.Sink.{next_sink_fault_count};
 
 use crate::output::{Sink, SinkError};
 use crate::source::{HeldFiles, Shelf, ShelfError};
@@ -37,18 +37,18 @@ impl CalmShelf {
 }
 
 impl Shelf for CalmShelf {
-    ghost use Rattle.shelf.specs.Shelf.{ShelfHasFile, ShelfLacksFile, HasLongerFile, is_read_fault};
+    ghost use Rattle.shelf.specs.Shelf.{ShelfHasFile, ShelfLacksFile, ShelfHasLongerFile, is_shelf_read_fault};
 
     ghost state = { λ s. record { files = Some s.files; faults = 0; reads = s.reads } };
 
     fn read(&mut self, name: &str, limit: u64) -> Result<Vec<u8>, ShelfError>
-        ensures no_fault { is_read_fault result ≡ false }
-        ensures after { self.new ≡ record self.old { reads = next_count self.old.reads } }
+        ensures no_fault { is_shelf_read_fault result ≡ false }
+        ensures after { self.new ≡ record self.old { reads = next_sink_fault_count self.old.reads } }
         ensures content { IfOk result (λ content.
             ShelfHasFile self.old.files name.now limit content.items) }
         ensures missing { IsErrOf result ShelfError.Missing ↔ ShelfLacksFile self.old.files name.now }
         ensures too_long { IsErrOf result ShelfError.TooLong
-            ↔ HasLongerFile self.old.files name.now limit }
+            ↔ ShelfHasLongerFile self.old.files name.now limit }
     {
         self.reads = self.reads.saturating_add(1);
         self.files.copy(name, limit)

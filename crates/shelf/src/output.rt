@@ -1,9 +1,9 @@
 //! The sink of bytes, and a write of many bytes to it.
 ghost use Rattle.std.specs.Prelude.{◌≡◌, ◌≢◌, ◌≤◌, ◌<◌, Bool, IsTrue, [], length, take, IfOk, IsOk, OnErr, IsErrOf};
 ghost use Rattle.std.specs.List.{flat_map};
-ghost use Rattle.shelf.specs.Sink.{SinkState, sink_with_gained, FaultsRose};
+ghost use Rattle.shelf.specs.Sink.{SinkState, sink_with_gained, SinkFaultsRose};
 ghost use Rattle.shelf.specs.declared.output.SinkError.TheVariants.{NoMemory};
-ghost use Rattle.shelf.specs.SinkWrites.{IsAfterWrite};
+ghost use Rattle.shelf.specs.SinkWrites.{IsSinkAfterWrite};
 
 use std::alloc::AllocError;
 use thiserror::Error;
@@ -45,7 +45,7 @@ pub trait Sink {
 
         ensures faults { (state self.old).faults ≤ (state self.new).faults }
         ensures failed { IsErrOf result SinkError.Failed
-            → FaultsRose (state self.old).faults (state self.new).faults }
+            → SinkFaultsRose (state self.old).faults (state self.new).faults }
         ensures no_memory { IsErrOf result SinkError.NoMemory → IsTrue takes_memory }
 
         // A call that doesn't fail, and accepts some of a piece that has bytes, counts no fault.
@@ -54,7 +54,7 @@ pub trait Sink {
 
         // A call that accepts nothing of a piece that has bytes counts a fault, too.
         ensures stuck { result ≡ Ok 0 → 0 < length piece.now
-            → FaultsRose (state self.old).faults (state self.new).faults };
+            → SinkFaultsRose (state self.old).faults (state self.new).faults };
 }
 
 /// The most bytes that are given to one write.
@@ -65,7 +65,7 @@ const CHUNK_BYTES: usize = 65_536;
 /// On an error the sink has gained the bytes of the writes before it. A write that accepts nothing
 /// ends the call like a failed one.
 pub fn write_whole<K: Sink>(sink: &mut K, bytes: &[u8]) -> Result<(), SinkError>
-    ensures after { IsAfterWrite bytes.now K.takes_memory
+    ensures after { IsSinkAfterWrite bytes.now K.takes_memory
         (K.state sink.old) (K.state sink.new) result }
     ensures no_bytes { bytes.now ≡ [] → IsOk result × (sink.new ≡ sink.old) }
 {
@@ -86,7 +86,7 @@ pub fn write_whole<K: Sink>(sink: &mut K, bytes: &[u8]) -> Result<(), SinkError>
 ///
 /// On an error the sink has gained the pieces before the one that failed, and a part of that one.
 pub fn write_pieces<K: Sink>(sink: &mut K, pieces: &[&[u8]]) -> Result<(), SinkError>
-    ensures { IsAfterWrite (flat_map (λ piece. piece.now) pieces.now) K.takes_memory
+    ensures { IsSinkAfterWrite (flat_map (λ piece. piece.now) pieces.now) K.takes_memory
         (K.state sink.old) (K.state sink.new) result }
 {
     for piece in pieces {

@@ -1,6 +1,6 @@
 //! Files and bytes in memory, with calls that are made to fail.
 ghost use Rattle.std.specs.Prelude.{◌≡◌, ◌≤◌, ◌↔◌, ◌++◌, IsTrue, IfOk, OnErr, IsErrOf, Some, [], true, length, min, take};
-ghost use Rattle.shelf.specs.Sink.{next_count};
+ghost use Rattle.shelf.specs.Sink.{next_sink_fault_count};
 ghost use Rattle.shelf.specs.Scripts.{shelf_script_of, ShelfScriptFailsNext, shelf_script_after_call};
 
 use crate::output::{Sink, SinkError};
@@ -51,7 +51,7 @@ impl FaultScript {
 
     /// Raises the count of faults.
     fn raise(&mut self)
-        ensures after { self.new ≡ record self.old { faults = next_count self.old.faults } }
+        ensures after { self.new ≡ record self.old { faults = next_sink_fault_count self.old.faults } }
         ensures counts { self.old.faults ≤ self.new.faults }
     {
         self.faults = self.faults.saturating_add(1);
@@ -68,9 +68,9 @@ pub struct MemShelf {
 }
 
 impl Model for MemShelf {
-    ghost use Rattle.shelf.specs.Shelf.{ScriptedFiles};
+    ghost use Rattle.shelf.specs.Shelf.{ScriptedShelfFiles};
 
-    ghost Value = { ScriptedFiles };
+    ghost Value = { ScriptedShelfFiles };
 
     ghost view = { λ s. record { files = s.files; script = s.script } };
 }
@@ -93,7 +93,7 @@ impl MemShelf {
 }
 
 impl Shelf for MemShelf {
-    ghost use Rattle.shelf.specs.Shelf.{is_read_fault, ShelfHasFile, ShelfLacksFile, HasLongerFile, IsNoShelfFault};
+    ghost use Rattle.shelf.specs.Shelf.{is_shelf_read_fault, ShelfHasFile, ShelfLacksFile, ShelfHasLongerFile, IsNoShelfFault};
 
     ghost state = { λ s. record {
       files = Some s.files;
@@ -104,7 +104,7 @@ impl Shelf for MemShelf {
     fn read(&mut self, name: &str, limit: u64) -> Result<Vec<u8>, ShelfError>
         ensures fails { IsErrOf result ShelfError.Failed ↔ ShelfScriptFailsNext self.old.script }
         ensures after { self.new
-            ≡ record self.old { script = shelf_script_after_call self.old.script (is_read_fault result) } }
+            ≡ record self.old { script = shelf_script_after_call self.old.script (is_shelf_read_fault result) } }
         ensures faults { self.old.script.faults ≤ self.new.script.faults }
 
         ensures content { IfOk result (λ content.
@@ -112,7 +112,7 @@ impl Shelf for MemShelf {
         ensures missing { IsNoShelfFault result
             → (IsErrOf result ShelfError.Missing ↔ ShelfLacksFile self.old.files name.now) }
         ensures too_long { IsNoShelfFault result
-            → (IsErrOf result ShelfError.TooLong ↔ HasLongerFile self.old.files name.now limit) }
+            → (IsErrOf result ShelfError.TooLong ↔ ShelfHasLongerFile self.old.files name.now limit) }
     {
         if self.script.begin_call() {
             return Err(ShelfError::Failed);
@@ -161,7 +161,7 @@ impl MemSink {
 }
 
 impl Sink for MemSink {
-    ghost use Rattle.shelf.specs.SinkWrites.{is_write_fault};
+    ghost use Rattle.shelf.specs.SinkWrites.{is_sink_write_fault};
 
     ghost state = { λ s. record { bytes = Some s.bytes; faults = s.script.faults } };
 
@@ -175,7 +175,7 @@ impl Sink for MemSink {
         ensures err { OnErr result (self.new.bytes ≡ self.old.bytes) }
         ensures same_most { self.new.most ≡ self.old.most }
         ensures after { self.new.script
-            ≡ shelf_script_after_call self.old.script (is_write_fault piece.now result) }
+            ≡ shelf_script_after_call self.old.script (is_sink_write_fault piece.now result) }
 
         ensures faults { self.old.script.faults ≤ self.new.script.faults }
     {

@@ -2,8 +2,8 @@
 ghost use Rattle.std.specs.Prelude.{◌≡◌, ◌≤◌, ◌↔◌, IfOk, IsErrOf, false, find, length, string_bytes};
 ghost use Rattle.std.specs.Option.{ForSome, ForNone, option_copied};
 ghost use Rattle.std.specs.Str.{bytes_eq};
-ghost use Rattle.shelf.specs.Sink.{FaultsRose, next_count};
-ghost use Rattle.shelf.specs.Shelf.{ShelfState, ShelfHasFile, ShelfLacksFile, HasLongerFile, IsNoShelfFault, file_named, shelf_files_of, is_read_fault, is_shelf_refusal};
+ghost use Rattle.shelf.specs.Sink.{SinkFaultsRose, next_sink_fault_count};
+ghost use Rattle.shelf.specs.Shelf.{ShelfState, ShelfHasFile, ShelfLacksFile, ShelfHasLongerFile, IsNoShelfFault, shelf_file_named, shelf_files_of, is_shelf_read_fault, is_shelf_refusal};
 ghost use Rattle.shelf.specs.Streams.{shelf_cause_by_kind};
 ghost use Rattle.shelf.specs.declared.source.ShelfError.TheVariants.{Missing, NoMemory};
 ghost use Rattle.std.specs.IoError.{error_kind};
@@ -69,17 +69,17 @@ pub trait Shelf {
     /// Otherwise an error that says why not; any call may run out of memory.
     fn read(&mut self, name: &str, limit: u64) -> Result<Vec<u8>, ShelfError>
         ensures same_files { (state self.new).files ≡ (state self.old).files }
-        ensures reads { (state self.new).reads ≡ next_count (state self.old).reads }
+        ensures reads { (state self.new).reads ≡ next_sink_fault_count (state self.old).reads }
         ensures faults { (state self.old).faults ≤ (state self.new).faults }
         ensures failed { IsErrOf result ShelfError.Failed
-            → FaultsRose (state self.old).faults (state self.new).faults }
+            → SinkFaultsRose (state self.old).faults (state self.new).faults }
 
         // A call that succeeds or runs out of memory counts no fault; if the files are known, only
         // a failed call does.
         ensures calm { is_shelf_refusal result ≡ false
             → (state self.new).faults ≡ (state self.old).faults }
         ensures calm_known { ForSome (state self.old).files (λ _.
-            is_read_fault result ≡ false → (state self.new).faults ≡ (state self.old).faults) }
+            is_shelf_read_fault result ≡ false → (state self.new).faults ≡ (state self.old).faults) }
 
         ensures within { IfOk result (λ content. length content.items ≤ limit) }
 
@@ -91,15 +91,15 @@ pub trait Shelf {
             IsNoShelfFault result → (IsErrOf result ShelfError.Missing ↔ ShelfLacksFile files name.now)) }
         ensures too_long { ForSome (state self.old).files (λ files.
             IsNoShelfFault result
-            → (IsErrOf result ShelfError.TooLong ↔ HasLongerFile files name.now limit)) }
+            → (IsErrOf result ShelfError.TooLong ↔ ShelfHasLongerFile files name.now limit)) }
 
         // If they aren't known, `Missing` and `TooLong` count as faults.
         ensures missing_unknown { ForNone (state self.old).files
             (IsErrOf result ShelfError.Missing
-            → FaultsRose (state self.old).faults (state self.new).faults) }
+            → SinkFaultsRose (state self.old).faults (state self.new).faults) }
         ensures too_long_unknown { ForNone (state self.old).files
             (IsErrOf result ShelfError.TooLong
-            → FaultsRose (state self.old).faults (state self.new).faults) };
+            → SinkFaultsRose (state self.old).faults (state self.new).faults) };
 }
 
 /// Files in memory, of which the first of a name counts. Contracts see the names and the contents.
@@ -110,9 +110,9 @@ pub(crate) struct HeldFiles {
 }
 
 impl Model for HeldFiles {
-    ghost use Rattle.shelf.specs.Shelf.{Files, shelf_files_of};
+    ghost use Rattle.shelf.specs.Shelf.{ShelfFiles, shelf_files_of};
 
-    ghost Value = { Files };
+    ghost Value = { ShelfFiles };
 
     ghost view = { λ held. shelf_files_of held.files.items };
 }
@@ -128,7 +128,7 @@ fn find_shelf_file<'a>(files: &'a [(String, Vec<u8>)], name: &str) -> Option<&'a
 /// The content of the first of these files with this name.
 #[tactic(auto, using(crate::proofs::ShelfFileLookups::file_named_kept))]
 fn shelf_content_of<'a>(files: &'a [(String, Vec<u8>)], name: &str) -> Option<&'a [u8]>
-    ensures { option_copied result ≡ file_named (shelf_files_of files.now) name.now }
+    ensures { option_copied result ≡ shelf_file_named (shelf_files_of files.now) name.now }
 {
     match find_shelf_file(files, name) {
         Some(file) => Some(&file.1),
@@ -146,11 +146,11 @@ impl HeldFiles {
 
     /// A copy of the file; an error if there is none, if it is too long, or out of memory.
     pub(crate) fn copy(&self, name: &str, limit: u64) -> Result<Vec<u8>, ShelfError>
-        ensures no_fault { is_read_fault result ≡ false }
+        ensures no_fault { is_shelf_read_fault result ≡ false }
         ensures content { IfOk result (λ content. ShelfHasFile self.now name.now limit content.items) }
         ensures missing { IsErrOf result ShelfError.Missing ↔ ShelfLacksFile self.now name.now }
         ensures too_long { IsErrOf result ShelfError.TooLong
-            ↔ HasLongerFile self.now name.now limit }
+            ↔ ShelfHasLongerFile self.now name.now limit }
     {
         let mut content = shelf_content_of(&self.files, name).ok_or(ShelfError::Missing)?;
         // Before the copy, so that a file that is too long never runs out of memory.

@@ -6,9 +6,9 @@
 ghost use Rattle.std.specs.Prelude.{◌≡◌, ◌≢◌, ◌≤◌, ◌++◌, if◌then◌else◌, IfErr, IfOk, IfSome, OnOk, length};
 ghost use Rattle.std.specs.Io.KnownBytes.{Keeps, WriteAppends};
 ghost use Rattle.std.specs.IoError.{error_kind};
-ghost use Rattle.shelf.specs.Sink.{next_count};
-ghost use Rattle.shelf.specs.Shelf.{is_read_fault};
-ghost use Rattle.shelf.specs.Streams.{WriterGainsFront, ShelfReaderHasFront, IsShelfReadOf, ShelfReaderState, shelf_counted_fault};
+ghost use Rattle.shelf.specs.Sink.{next_sink_fault_count};
+ghost use Rattle.shelf.specs.Shelf.{is_shelf_read_fault};
+ghost use Rattle.shelf.specs.Streams.{SinkWriterGainsFront, ShelfReaderHasFront, IsShelfReadOf, ShelfReaderState, shelf_counted_fault};
 
 use crate::source::ShelfError;
 use std::alloc::Global;
@@ -70,7 +70,7 @@ impl<R: Read + Drop> CountedReader<R> {
 }
 
 // Reads all that a reader of std has left to the end of the content.
-fn append_left_from_shelf<R: Read + Drop>(mut reader: R, content: &mut Vec<u8>) -> io::Result<()>
+fn append_rest_of_reader<R: Read + Drop>(mut reader: R, content: &mut Vec<u8>) -> io::Result<()>
     ensures { OnOk result (IfSome (R.remaining reader) (λ left.
         content.new.items ≡ content.old.items ++ left)) }
 {
@@ -82,7 +82,7 @@ impl<R: Read + Drop> Reader for CountedReader<R> {
     ghost state = { λ r. r };
 
     fn read_front(&mut self, most: u64, content: &mut Vec<u8>) -> io::Result<()> {
-        match append_left_from_shelf(Read::take(&mut self.reader, most), content) {
+        match append_rest_of_reader(Read::take(&mut self.reader, most), content) {
             Ok(()) => Ok(()),
             Err(error) => {
                 if error.kind() != ErrorKind::OutOfMemory {
@@ -108,7 +108,7 @@ pub fn read_stream_up_to<R: Reader>(
     ensures read { IsShelfReadOf (R.state reader.old).left limit result }
     ensures within { IfOk result (λ content. length content.items ≤ limit) }
     ensures faults { (R.state reader.new).faults
-        ≡ (if is_read_fault result then next_count (R.state reader.old).faults
+        ≡ (if is_shelf_read_fault result then next_sink_fault_count (R.state reader.old).faults
         else (R.state reader.old).faults) }
 {
     let mut content = Vec::new(alloc);
@@ -124,7 +124,7 @@ pub fn read_stream_up_to<R: Reader>(
 /// call that a signal interrupts is tried again.
 pub fn write_stream_through<W: Write>(stream: &mut W, piece: &[u8]) -> io::Result<usize>
     ensures within { IfOk result (λ taken. taken ≤ length piece.now) }
-    ensures gains { WriterGainsFront piece.now result (W.contents stream.old) (W.contents stream.new) }
+    ensures gains { SinkWriterGainsFront piece.now result (W.contents stream.old) (W.contents stream.new) }
     ensures not_interrupted { IfErr result (λ error. error_kind error ≢ ErrorKind.Interrupted) }
 {
     let taken = write_stream_front(stream, piece)?;

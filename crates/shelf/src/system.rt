@@ -4,7 +4,7 @@
 //! and writers of known bytes it is proved what `read_stream_up_to` returns and what a `StdSink`
 //! accepts.
 ghost use Rattle.std.specs.Prelude.{◌≡◌, ◌≤◌, None, false, length, IfOk, ◌≢◌, if◌then◌else◌};
-ghost use Rattle.shelf.specs.Sink.{next_count};
+ghost use Rattle.shelf.specs.Sink.{next_sink_fault_count};
 
 use crate::output::{Sink, SinkError};
 use crate::source::{Shelf, ShelfError};
@@ -62,8 +62,8 @@ impl<R: Files + AllocGlobal + Drop> Shelf for DiskShelf<R> {
 
     fn read(&mut self, name: &str, limit: u64) -> Result<Vec<u8>, ShelfError>
         ensures after { self.new ≡ record {
-          faults = (if is_shelf_refusal result then next_count self.old.faults else self.old.faults);
-          reads = next_count self.old.reads;
+          faults = (if is_shelf_refusal result then next_sink_fault_count self.old.faults else self.old.faults);
+          reads = next_sink_fault_count self.old.reads;
         } }
         ensures faults { self.old.faults ≤ self.new.faults }
         ensures within { IfOk result (λ content. length content.items ≤ limit) }
@@ -110,8 +110,8 @@ impl<W: Write + Drop> StdSink<W> {
 }
 
 impl<W: Write + Drop> Sink for StdSink<W> {
-    ghost use Rattle.shelf.specs.SinkWrites.{is_write_fault};
-    ghost use Rattle.shelf.specs.Streams.{WriterGainsFront};
+    ghost use Rattle.shelf.specs.SinkWrites.{is_sink_write_fault};
+    ghost use Rattle.shelf.specs.Streams.{SinkWriterGainsFront};
 
     ghost state = { λ s. record { bytes = None; faults = s.faults } };
 
@@ -120,9 +120,9 @@ impl<W: Write + Drop> Sink for StdSink<W> {
     fn write(&mut self, piece: &[u8]) -> Result<u64, SinkError>
         ensures within { IfOk result (λ taken. taken ≤ length piece.now) }
         ensures no_memory { result ≢ Err SinkError.NoMemory }
-        ensures gains { WriterGainsFront piece.now result self.old.bytes self.new.bytes }
-        ensures after { self.new.faults ≡ (if is_write_fault piece.now result
-            then next_count self.old.faults else self.old.faults) }
+        ensures gains { SinkWriterGainsFront piece.now result self.old.bytes self.new.bytes }
+        ensures after { self.new.faults ≡ (if is_sink_write_fault piece.now result
+            then next_sink_fault_count self.old.faults else self.old.faults) }
         ensures faults { self.old.faults ≤ self.new.faults }
     {
         match write_stream_through(&mut self.stream, piece) {

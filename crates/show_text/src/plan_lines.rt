@@ -1,5 +1,5 @@
 ghost use Rattle.std.specs.Prelude.{◌≡◌, ◌≤◌, ◌<◌, ◌^◌, ◌++◌, OnOk, length};
-ghost use Rattle.show_text.specs.Text.{shown_with_line_feed, plan_part_text, plan_region_text, rule_lines, shown_rule_text, plan_targets_text};
+ghost use Rattle.show_text.specs.Text.{shown_with_line_feed, shown_plan_part_text, shown_plan_region_text, shown_rule_lines, shown_rule_text, shown_plan_targets_text};
 ghost use Rattle.lines.specs.Pushes.{line_with};
 
 use lines::{Line, push_line_action, push_line_word, push_names, push_rule};
@@ -11,7 +11,7 @@ use ternary::Word;
 /// Adds the start of a partition's line: its number and its region.
 #[tactic(auto, using(lines::proofs::LinesCallerLemmas::pushed_append))]
 pub fn show_region(entry: &mut Line, number: u64, region: &Word)
-    ensures { entry.new ≡ line_with entry.old (plan_region_text number region.now) }
+    ensures { entry.new ≡ line_with entry.old (shown_plan_region_text number region.now) }
 {
     entry.push("part ");
     entry.push_number(number);
@@ -22,7 +22,7 @@ pub fn show_region(entry: &mut Line, number: u64, region: &Word)
 /// Adds a partition with the number of its rules.
 #[tactic(auto, using(lines::proofs::LinesCallerLemmas::pushed_append))]
 pub fn show_part(entry: &mut Line, part: &Partition)
-    ensures text { entry.new ≡ line_with entry.old (plan_part_text part.now) }
+    ensures text { entry.new ≡ line_with entry.old (shown_plan_part_text part.now) }
     ensures of_type { (part.now.number < 2 ^ 64) × (length part.now.rules < 2 ^ 64) }
 {
     show_region(entry, u64::from(part.number), &part.region);
@@ -33,7 +33,7 @@ pub fn show_part(entry: &mut Line, part: &Partition)
 /// Adds the names of targets, each after a blank.
 #[tactic(auto, using(lines::proofs::LinesCallerLemmas::pushed_append))]
 pub fn show_targets(entry: &mut Line, net: &Net, targets: &Targets)
-    ensures text { entry.new ≡ line_with entry.old (plan_targets_text net.now targets.now) }
+    ensures text { entry.new ≡ line_with entry.old (shown_plan_targets_text net.now targets.now) }
     ensures few { length targets.now ≤ 4 }
 {
     entry.push(" targets");
@@ -58,7 +58,7 @@ fn show_rule_line(entry: &mut Line, rule: &Rule)
 
 /// Appends the lines of rules to the text; fails only out of memory.
 pub fn show_rules(text: &mut Vec<u8>, entry: &mut Line, rules: &[Rule]) -> Result<(), AllocError>
-    ensures { OnOk result (text.new.items ≡ text.old.items ++ rule_lines rules.now) }
+    ensures { OnOk result (text.new.items ≡ text.old.items ++ shown_rule_lines rules.now) }
 {
     for rule in rules {
         show_rule_line(entry, rule);

@@ -1,8 +1,8 @@
 ghost use Rattle.std.specs.Prelude.{◌≡◌, ◌≤◌, ◌++◌, IfOk, OnOk, codes, decimal, length};
 ghost use Rattle.std.specs.List.{flat_map, enumerate_from};
-ghost use Rattle.net_file.specs.Net.{IsNet, switch_name_of};
+ghost use Rattle.net_file.specs.Net.{IsNet, net_switch_name_of};
 ghost use Rattle.switch_table.specs.Tables.{tables_of};
-ghost use Rattle.show_text.specs.Text.{compile_text, shown_with_line_feed, own_part_lines, plan_part_text, hosted_lines, table_row_line, table_text, plan_targets_text};
+ghost use Rattle.show_text.specs.Text.{compile_text, shown_with_line_feed, shown_own_part_lines, shown_plan_part_text, shown_hosted_lines, shown_table_row_line, table_text, shown_plan_targets_text};
 
 use crate::plan_lines::{show_part, show_region, show_rules, show_targets};
 use controller::{Plan, tables_of};
@@ -49,7 +49,7 @@ pub fn table_text(alloc: Global, plan: &Plan, net: &Net, s: u32) -> Result<Vec<u
     text_of_tables(alloc, net, s, &tables)
 }
 
-#[tactic(auto, unfolding(crate::specs::Text::own_parts_text, crate::specs::Text::regions_text))]
+#[tactic(auto, unfolding(crate::specs::Text::shown_own_parts_text, crate::specs::Text::shown_regions_text))]
 fn text_of_tables(alloc: Global, net: &Net, s: u32, tables: &Tables) -> Result<Vec<u8>, AllocError>
     requires { IsNet net.now }
     ensures { IfOk result (λ bytes. bytes.items ≡ table_text s tables.now net.now) }
@@ -72,7 +72,7 @@ fn text_of_tables(alloc: Global, net: &Net, s: u32, tables: &Tables) -> Result<V
 fn show_switch_line(entry: &mut Line, net: &Net, s: u32, version: u32)
     requires { IsNet net.now }
     ensures { entry.new
-        ≡ shown_with_line_feed (codes "switch " ++ switch_name_of net.now s ++ codes " version " ++ decimal version) }
+        ≡ shown_with_line_feed (codes "switch " ++ net_switch_name_of net.now s ++ codes " version " ++ decimal version) }
 {
     switch_name_laws();
     entry.clear();
@@ -112,7 +112,7 @@ fn add_shown_count(
 #[tactic(auto, using(lines::proofs::LinesCallerLemmas::pushed_append, lines::proofs::LinesCallerLemmas::pushed_whole, crate::proofs::PlanTextLengths::hosted_fits))]
 fn show_hosted_line(entry: &mut Line, net: &Net, part: &Partition, targets: &Targets)
     requires { IsNet net.now }
-    ensures { entry.new ≡ shown_with_line_feed (plan_part_text part.now ++ plan_targets_text net.now targets.now) }
+    ensures { entry.new ≡ shown_with_line_feed (shown_plan_part_text part.now ++ shown_plan_targets_text net.now targets.now) }
 {
     switch_name_laws();
     entry.clear();
@@ -129,7 +129,7 @@ fn show_hosted(
 ) -> Result<(), AllocError>
     requires { IsNet net.now }
     ensures { OnOk result (text.new.items
-        ≡ text.old.items ++ flat_map (hosted_lines net.now) hosted.now) }
+        ≡ text.old.items ++ flat_map (shown_hosted_lines net.now) hosted.now) }
 {
     for (part, targets) in hosted {
         show_hosted_line(entry, net, part, targets);
@@ -142,7 +142,7 @@ fn show_hosted(
 // Sets the line to that of a partition.
 #[tactic(auto, using(lines::proofs::LinesCallerLemmas::pushed_append, lines::proofs::LinesCallerLemmas::pushed_whole, crate::proofs::PlanTextLengths::part_fits))]
 fn show_part_line(entry: &mut Line, part: &Partition)
-    ensures { entry.new ≡ shown_with_line_feed (plan_part_text part.now) }
+    ensures { entry.new ≡ shown_with_line_feed (shown_plan_part_text part.now) }
 {
     entry.clear();
     show_part(entry, part);
@@ -154,7 +154,7 @@ fn show_own_parts(
     entry: &mut Line,
     parts: &[Partition],
 ) -> Result<(), AllocError>
-    ensures { OnOk result (text.new.items ≡ text.old.items ++ flat_map own_part_lines parts.now) }
+    ensures { OnOk result (text.new.items ≡ text.old.items ++ flat_map shown_own_part_lines parts.now) }
 {
     for part in parts {
         show_part_line(entry, part);
@@ -168,7 +168,7 @@ fn show_own_parts(
 #[tactic(auto, using(lines::proofs::LinesCallerLemmas::pushed_append, lines::proofs::LinesCallerLemmas::pushed_whole, crate::proofs::PlanTextLengths::row_fits))]
 fn show_table_row_line(entry: &mut Line, net: &Net, number: u64, row: &PartRow)
     requires { IsNet net.now }
-    ensures { entry.new ≡ table_row_line net.now (number, row.now) }
+    ensures { entry.new ≡ shown_table_row_line net.now (number, row.now) }
 {
     switch_name_laws();
     entry.clear();
@@ -185,7 +185,7 @@ fn show_table_rows(
 ) -> Result<(), AllocError>
     requires { IsNet net.now }
     ensures { OnOk result (text.new.items
-        ≡ text.old.items ++ flat_map (table_row_line net.now) (enumerate_from 0 rows.now)) }
+        ≡ text.old.items ++ flat_map (shown_table_row_line net.now) (enumerate_from 0 rows.now)) }
 {
     for (number, row) in rows.iter().enumerate() {
         show_table_row_line(entry, net, number as u64, row);

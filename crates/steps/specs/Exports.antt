@@ -1,3 +1,3 @@
 -- The definitions of this crate that others use, passed on from the files that define them.
 pub use Rattle.steps.specs.Limits.{max_events}
-pub use Rattle.steps.specs.Steps.{HasLink, HasSwitch, IsEvent, IsStep, max_step_number}
+pub use Rattle.steps.specs.Steps.{StepLinkExists, StepSwitchExists, IsEventOfSteps, IsStep, max_step_number}

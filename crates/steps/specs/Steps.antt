@@ -14,31 +14,31 @@ abbrev pub max_step_number : ℕ
 max_step_number = 999_999_999
 
 -- the network has a switch of this number
-abbrev pub HasSwitch : Net → ℕ → Type 0
-HasSwitch net switch = switch < length net.switches
+abbrev pub StepSwitchExists : Net → ℕ → Type 0
+StepSwitchExists net switch = switch < length net.switches
 
 -- one of its links joins these switches
-abbrev pub HasLink : Net → ℕ → ℕ → Type 0
-HasLink net one two = IsTrue (are_linked_in_net net.links one two)
+abbrev pub StepLinkExists : Net → ℕ → ℕ → Type 0
+StepLinkExists net one two = IsTrue (are_linked_in_net net.links one two)
 
 -- a step of this network, if this many policy files are named
 abbrev pub IsStep : Net → ℕ → Step → Type 0
-IsStep net files (step.Packet switch header) = HasSwitch net switch × IsHeader header
+IsStep net files (step.Packet switch header) = StepSwitchExists net switch × IsHeader header
 IsStep net files (step.Hop packet) = packet ≤ max_step_number
 IsStep net files (step.Lose packet) = packet ≤ max_step_number
 IsStep net files (step.Deliver message) = message ≤ max_step_number
 IsStep net files (step.Forget message) = message ≤ max_step_number
-IsStep net files (step.Expire switch place) = HasSwitch net switch × (place ≤ max_step_number)
+IsStep net files (step.Expire switch place) = StepSwitchExists net switch × (place ≤ max_step_number)
 IsStep net files (step.Update file) = (1 ≤ file) × (file ≤ files)
-IsStep net files (step.LinkDown one two) = HasLink net one two
-IsStep net files (step.LinkUp one two) = HasLink net one two
-IsStep net files (step.Crash switch) = HasSwitch net switch
-IsStep net files (step.Restart switch) = HasSwitch net switch
-IsStep net files (step.Confirm switch) = HasSwitch net switch
-IsStep net files (step.Resend switch) = HasSwitch net switch
+IsStep net files (step.LinkDown one two) = StepLinkExists net one two
+IsStep net files (step.LinkUp one two) = StepLinkExists net one two
+IsStep net files (step.Crash switch) = StepSwitchExists net switch
+IsStep net files (step.Restart switch) = StepSwitchExists net switch
+IsStep net files (step.Confirm switch) = StepSwitchExists net switch
+IsStep net files (step.Resend switch) = StepSwitchExists net switch
 
 -- an event whose steps are of this network
-abbrev pub IsEvent : Net → ℕ → Event → Type 0
-IsEvent net files (One step) = IsStep net files step
-IsEvent net files Flush = ⊤
-IsEvent net files Drain = ⊤
+abbrev pub IsEventOfSteps : Net → ℕ → Event → Type 0
+IsEventOfSteps net files (One step) = IsStep net files step
+IsEventOfSteps net files Flush = ⊤
+IsEventOfSteps net files Drain = ⊤

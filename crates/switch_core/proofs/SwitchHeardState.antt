@@ -5,7 +5,7 @@ use Rattle.failover.specs.declared.advert.Advert.{Advert}
 use Rattle.failover.specs.Exports.{adverts_after_hearing}
 use Rattle.failover.proofs.FailoverHeldAdverts.{after_no_news}
 use Rattle.switch_table.specs.declared.tables.Tables.{Tables}
-use Rattle.switch_core.specs.Exports.{SwitchValue, switch_collected_to, held_tables, is_news_to_switch, switch_stamp_raised_to, switch_stamped_with, switch_after_advert, switch_with_installed}
+use Rattle.switch_core.specs.Exports.{SwitchValue, switch_collected_to, switch_held_tables, is_news_to_switch, switch_stamp_raised_to, switch_stamped_with, switch_after_advert, switch_with_installed}
 use Rattle.ternary.specs.Exports.{WordValue}
 
 -- ---- tables
@@ -26,8 +26,8 @@ found_above : (mark version : ℕ) (list : List Tables) →
 found_above mark version [] = search rules
 found_above mark version (first ∷ list) = search (rules, eqb-true, found_above mark version list)
 
-pub held_once_collected : (s : SwitchValue) (mark version : ℕ) → held_tables (switch_collected_to s mark)
-    version ≡ cond (nat_lt (max s.collected mark) version) (held_tables s version) None
+pub held_once_collected : (s : SwitchValue) (mark version : ℕ) → switch_held_tables (switch_collected_to s mark)
+    version ≡ cond (nat_lt (max s.collected mark) version) (switch_held_tables s version) None
 unfolding switch_collected_to
 held_once_collected s mark version = found_above (max s.collected mark) version s.tables
 
@@ -38,7 +38,7 @@ some_or : (o other : Option Tables) → is_some o ≡ true → o ≡ option_or o
 some_or o other is = search rules
 
 pub held_once_installed : (s : SwitchValue) (tables : Tables) (version : ℕ)
-    → held_tables (switch_with_installed s tables) version ≡ option_or (held_tables s version)
+    → switch_held_tables (switch_with_installed s tables) version ≡ option_or (switch_held_tables s version)
     (cond ((tables.version == version) && nat_lt s.collected version) (Some tables) None)
 unfolding switch_with_installed
 held_once_installed s tables version = search (rules, nat_tests, eqb-true, find-append)

@@ -4,11 +4,11 @@ use Rattle.base.proofs.Exports.{get_or_from_slice_get, get_or_past, has-zero}
 use Rattle.policy_rules.specs.declared.packet.Cause.{Cause}
 use Rattle.failover.proofs.FailoverKnownLinks.{has_known}
 use Rattle.failover.proofs.RouteSearch.{known_route_is_route}
-use Rattle.failover.specs.Exports.{IsPath, IsRoute, is_route_link, known_links, neighbours_by_adverts, route_of}
+use Rattle.failover.specs.Exports.{IsFailoverPath, IsRoute, is_known_route_link, failover_known_links, neighbours_by_adverts, route_of}
 use Rattle.base.specs.Exports.{has}
 use Rattle.failover.specs.declared.advert.Advert.{Advert}
-use Rattle.tunnel.specs.Exports.{TunnelValue, here, tunnel_marked_down, next, on_route, tunnel_route_from_here}
-use Rattle.switch_core.specs.Exports.{IsSwitchPacketSame, Moved, SwitchStandsAtRoutePlace, SwitchValue, switch_stuck_cause, switch_found_down_with, switch_hop_answer, switch_hopped_to, switch_found_link_down, switch_move_answer, switch_moved_along_route, switch_rerouted_here, switch_route_around}
+use Rattle.tunnel.specs.Exports.{TunnelValue, here, tunnel_marked_down, next, tunnel_on_route, tunnel_route_from_here}
+use Rattle.switch_core.specs.Exports.{IsSwitchPacketSame, SwitchPacketMoved, SwitchStandsAtRoutePlace, SwitchValue, switch_stuck_cause, switch_found_down_with, switch_hop_answer, switch_hopped_to, switch_found_link_down, switch_move_answer, switch_moved_along_route, switch_rerouted_here, switch_route_around}
 use Rattle.switch_core.specs.declared.tunnel_calls.HopEnd.TheVariants.{Arrive, Move, Stuck}
 
 -- ---- a link that is found down
@@ -63,7 +63,7 @@ hop_turns s near t other way found some =
     by_second (slice_get way 1) (hop_around s near t other (Some way) found some)
   where
     by_second : (second : Option ℕ) →
-        switch_hop_answer s near t ≡ switch_move_answer (on_route (tunnel_marked_down t other) way) second →
+        switch_hop_answer s near t ≡ switch_move_answer (tunnel_on_route (tunnel_marked_down t other) way) second →
         IsTurned s near t other way second
     by_second None is = is
     by_second (Some second) is = is
@@ -76,7 +76,7 @@ same_but : (t : TunnelValue) (route : List ℕ) (place : ℕ) (down : List ℕ) 
 same_but t route place down = refl
 
 -- what is true of each move, and where a packet is stuck, is true of a hop
-each_hop : (s : SwitchValue) (near : ℕ) (t : TunnelValue) (P : Moved → Type 0) →
+each_hop : (s : SwitchValue) (near : ℕ) (t : TunnelValue) (P : SwitchPacketMoved → Type 0) →
     ((on : TunnelValue) → IsSwitchPacketSame t on → P (switch_move_answer on (next on))) →
     ((other : ℕ) (cause : Cause) → P (record { end = Stuck cause; tunnel = tunnel_marked_down t other })) →
     P (switch_hop_answer s near t)
@@ -84,7 +84,7 @@ unfolding switch_hop_answer switch_rerouted_here
 each_hop s near t P moves stuck = by_found (switch_found_link_down near (next t)) where
   by_way : (other : ℕ) (way : Option (List ℕ)) → P (switch_moved_along_route s near (tunnel_marked_down t other) way)
   by_way other None = stuck other _
-  by_way other (Some way) = moves (on_route (tunnel_marked_down t other) way) (same_but t way 0 _)
+  by_way other (Some way) = moves (tunnel_on_route (tunnel_marked_down t other) way) (same_but t way 0 _)
 
   by_found : (found : Option ℕ) → P (switch_hopped_to s near t found)
   by_found None = moves t (same_but t t.route t.place t.down)
@@ -128,16 +128,16 @@ hop_same s near t = each_hop s near t (λ m. IsSwitchPacketSame t m.tunnel)
 
 -- the first link of a path
 first_link : (links : List ℕ) (from target : ℕ) (way : List ℕ) (second : ℕ) →
-    IsPath links from target way → slice_get way 1 ≡ Some second →
+    IsFailoverPath links from target way → slice_get way 1 ≡ Some second →
     (from < 64) × (second < 64) × IsTrue (has (slice_index links from) second)
-unfolding IsPath
+unfolding IsFailoverPath
 first_link links from target [] second path is = absurd path
 first_link links from target (first ∷ []) second path is = absurd (cc)
 first_link links from target (first ∷ other ∷ rest) second path is = search rules
 
 -- a route is a path to some target
 path_of : (links : List ℕ) (from : ℕ) (targets way : List ℕ) →
-    IsRoute links from targets (Some way) → (target : ℕ) × IsPath links from target way
+    IsRoute links from targets (Some way) → (target : ℕ) × IsFailoverPath links from target way
 unfolding IsRoute
 path_of links from [] way route = absurd (cc)
 path_of links from (target ∷ targets) way route = elim route [
@@ -157,17 +157,17 @@ second_of_four a b c d is = search rules
 -- a way is a path to some target by the links that are known
 way_leads : (adverts : List (Option Advert)) (from near : ℕ) (down targets way : List ℕ) →
     route_of adverts from targets near down ≡ Some way →
-    (target : ℕ) × IsPath (known_links adverts from near down) from target way
-way_leads adverts from near down targets way is = let links = known_links adverts from near down in
+    (target : ℕ) × IsFailoverPath (failover_known_links adverts from near down) from target way
+way_leads adverts from near down targets way is = let links = failover_known_links adverts from near down in
     path_of links from targets way (rw is at (known_route_is_route adverts from targets near down))
 
 way_is_usable : (adverts : List (Option Advert)) (from near : ℕ) (down targets way : List ℕ)
     (second : ℕ) → route_of adverts from targets near down ≡ Some way →
     slice_get way 1 ≡ Some second → IsTrue (has near second)
-unfolding is_route_link
+unfolding is_known_route_link
 way_is_usable adverts from near down targets way second is next =
     let path = way_leads adverts from near down targets way is in
-    let link = first_link (known_links adverts from near down) from path.0 way second path.1 next in
+    let link = first_link (failover_known_links adverts from near down) from path.0 way second path.1 next in
     seen adverts from near second
     (second_of_four _ _ _ _
     (sym (has_known adverts from near down from second link.0 link.1) ∙ link.2))
@@ -181,8 +181,8 @@ hop_usable s near t other = search (rules, way_is_usable)
 
 -- a path begins where it leaves
 path_begins : (links : List ℕ) (from target : ℕ) (way : List ℕ) →
-    IsPath links from target way → slice_get way 0 ≡ Some from
-unfolding IsPath
+    IsFailoverPath links from target way → slice_get way 0 ≡ Some from
+unfolding IsFailoverPath
 path_begins links from target way path = search rules
 
 -- a packet that is here and arrives is still here

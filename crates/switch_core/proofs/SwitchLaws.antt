@@ -2,7 +2,7 @@
 use Rattle.std.proofs.Common.{[], ◌<◌, ◌↔◌, ◌≡◌, ◌≤◌, All, Bool, IsErr, IsTrue, List, None, Option, cond, false, refl, true, ℕ, rules}
 use Rattle.base.proofs.Exports.{AllPass-from_list_all, list_all-from_AllPass, nat_tests}
 use Rattle.failover.specs.declared.advert.Advert.{Advert}
-use Rattle.failover.specs.Exports.{first_adverts, is_isolated, route_of}
+use Rattle.failover.specs.Exports.{first_adverts, is_failover_target_isolated, route_of}
 use Rattle.failover.proofs.FailoverHeldAdverts.{held-first}
 use Rattle.policy_rules.specs.declared.packet.Leg.{Leg}
 use Rattle.policy_rules.specs.declared.packet.Cause.TheVariants.{NoAuthority}
@@ -11,21 +11,21 @@ use Rattle.ctrl_msg.specs.declared.message.Body.TheVariants.{Install, OpenAt, St
 use Rattle.switch_table.specs.Exports.{CacheValue}
 use Rattle.switch_table.specs.declared.tables.Tables.{Tables}
 use Rattle.switch_core.specs.declared.tunnel_calls.Packet.{Packet}
-use Rattle.switch_core.specs.Exports.{HasSwitchAdvertUpTo, IsSwitchAfterHearing, SwitchValue, switch_after_body, are_isolated, switch_stuck_cause, switch_collected_to, is_switch_seek_leg, obeys, switch_stamp_raised_to, set_out, switch_stamped_with, switch_after_advert, switch_with_installed, switch_with_message}
+use Rattle.switch_core.specs.Exports.{HasSwitchAdvertUpTo, IsSwitchAfterHearing, SwitchValue, switch_after_body, are_switch_targets_isolated, switch_stuck_cause, switch_collected_to, is_switch_seek_leg, switch_obeys, switch_stamp_raised_to, switch_set_out, switch_stamped_with, switch_after_advert, switch_with_installed, switch_with_message}
 use Rattle.ternary.specs.Exports.{WordValue}
 
 -- ---- packets
 
 pub stuck_without_route : (s : SwitchValue) (near : ℕ) (packet : Packet) (leg : Leg)
-    (targets : List ℕ) → IsErr (set_out s near packet leg targets) ↔
+    (targets : List ℕ) → IsErr (switch_set_out s near packet leg targets) ↔
     (route_of s.database s.number targets near packet.down ≡ None)
-unfolding set_out
+unfolding switch_set_out
 stuck_without_route s near packet leg targets = search rules
 
 pub no_authority_left : (s : SwitchValue) (near : ℕ) (down : List ℕ) (leg : Leg) (targets : List ℕ)
     → (switch_stuck_cause s near down leg targets ≡ NoAuthority) ↔ (IsTrue (is_switch_seek_leg leg)
-    × All (λ target. IsTrue (is_isolated s.database s.number target near down)) targets)
-unfolding switch_stuck_cause are_isolated
+    × All (λ target. IsTrue (is_failover_target_isolated s.database s.number target near down)) targets)
+unfolding switch_stuck_cause are_switch_targets_isolated
 no_authority_left s near down leg targets =
     search (rules, AllPass-from_list_all, list_all-from_AllPass)
 
@@ -79,9 +79,9 @@ heard_body s number _ = same s
 
 pub heard_keeps : (s : SwitchValue) (number : ℕ) (body : Body) → IsSwitchAfterHearing s (switch_with_message s number body)
 unfolding switch_with_message
-heard_keeps s number body = either s _ _ (obeys s body) (heard_body s number body) (same s)
+heard_keeps s number body = either s _ _ (switch_obeys s body) (heard_body s number body) (same s)
 
-pub not_obeyed : (s : SwitchValue) (number : ℕ) (body : Body) → obeys s body ≡ false →
+pub not_obeyed : (s : SwitchValue) (number : ℕ) (body : Body) → switch_obeys s body ≡ false →
     switch_with_message s number body ≡ s
 unfolding switch_with_message
 not_obeyed s number body other = rw other refl

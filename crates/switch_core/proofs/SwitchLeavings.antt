@@ -8,7 +8,7 @@ use Rattle.policy_rules.specs.declared.policy.Action.{Action}
 use Rattle.policy_rules.specs.declared.policy.Action.TheVariants.{Drop, Out as OutBy}
 use Rattle.net_file.specs.Exports.{owner_in_net_ports}
 use Rattle.tunnel.specs.Exports.{TunnelValue}
-use Rattle.switch_core.specs.Exports.{SwitchSite, SwitchValue, switch_stuck_cause, switch_exit_by_tunnel, switch_leave_by_port, next_of, switch_route_known, set_out, switch_setting_out}
+use Rattle.switch_core.specs.Exports.{SwitchSite, SwitchValue, switch_stuck_cause, switch_exit_by_tunnel, switch_leave_by_port, switch_next_of, switch_route_known, switch_set_out, switch_setting_out}
 use Rattle.switch_core.specs.declared.tunnel_calls.Next.{Next}
 use Rattle.switch_core.specs.declared.tunnel_calls.Next.TheVariants.{Dropped, Exit, Out, Stuck}
 use Rattle.switch_core.specs.declared.tunnel_calls.Packet.{Packet}
@@ -23,7 +23,7 @@ leaves_here s near packet port owner is = search (rules, eq-eqb)
 
 leaves_for : (s : SwitchValue) (near : ℕ) (packet : Packet) (port owner : ℕ) →
     owner ≢ s.number → switch_leave_by_port s near packet port (Some owner)
-    ≡ switch_exit_by_tunnel (set_out s near packet (ExitLeg port) (owner ∷ []))
+    ≡ switch_exit_by_tunnel (switch_set_out s near packet (ExitLeg port) (owner ∷ []))
 unfolding switch_leave_by_port
 leaves_for s near packet port owner other = search (rules, nat_tests)
 
@@ -33,7 +33,7 @@ exits : (s : SwitchValue) (near : ℕ) (packet : Packet) (port owner : ℕ) (P :
     ((cause : Cause) → P (Stuck cause)) → P (switch_leave_by_port s near packet port (Some owner))
 unfolding switch_leave_by_port
 exits s near packet port owner P here on stuck = by_test (owner == s.number) refl
-    (set_out s near packet (ExitLeg port) (owner ∷ []))
+    (switch_set_out s near packet (ExitLeg port) (owner ∷ []))
   where
     by_test : (test : Bool) → (owner == s.number) ≡ test → (way : Result TunnelValue Cause) →
         P (cond test (Out port) (switch_exit_by_tunnel way))
@@ -49,8 +49,8 @@ unfolding switch_leave_by_port
 not_dropped s near packet port owner is = search rules
 
 pub next_dropped : (s : SwitchValue) (site : SwitchSite) (packet : Packet) (action : Action) →
-    (next_of s site packet action ≡ Dropped) ↔ (action ≡ Drop)
-unfolding next_of
+    (switch_next_of s site packet action ≡ Dropped) ↔ (action ≡ Drop)
+unfolding switch_next_of
 next_dropped s site packet action = search (rules, not_dropped)
 
 out_by_owner : (s : SwitchValue) (near : ℕ) (packet : Packet) (by port : ℕ) (owner : Option ℕ)
@@ -59,19 +59,19 @@ unfolding switch_leave_by_port
 out_by_owner s near packet by port owner is = search rules
 
 pub next_out : (s : SwitchValue) (site : SwitchSite) (packet : Packet) (action : Action) (port : ℕ)
-    → (next_of s site packet action ≡ Out port) ↔
+    → (switch_next_of s site packet action ≡ Out port) ↔
     ((action ≡ OutBy port) × (owner_in_net_ports site.ports port ≡ Some s.number))
-unfolding next_of
+unfolding switch_next_of
 next_out s site packet action port = search (rules, out_by_owner, leaves_here)
 
 pub next_exit : (s : SwitchValue) (site : SwitchSite) (packet : Packet) (action : Action) (port owner : ℕ)
     → action ≡ OutBy port → owner_in_net_ports site.ports port ≡ Some owner
     → owner ≢ s.number → MatchOption (switch_route_known s site.near packet (owner ∷ []))
-    (next_of s site packet action ≡ Stuck NoRoute) (λ route. next_of s site packet action
+    (switch_next_of s site packet action ≡ Stuck NoRoute) (λ route. switch_next_of s site packet action
     ≡ Exit (switch_setting_out packet (ExitLeg port) (owner ∷ []) route))
-unfolding next_of switch_stuck_cause
+unfolding switch_next_of switch_stuck_cause
 next_exit s site packet action port owner by has other =
-    let is = ap (next_of s site packet) by ∙ ap (switch_leave_by_port s site.near packet port) has
+    let is = ap (switch_next_of s site packet) by ∙ ap (switch_leave_by_port s site.near packet port) has
     ∙ leaves_for s site.near packet port owner other in
     MatchOption-weaker (switch_route_known s site.near packet (owner ∷ []))
     (λ none. is ∙ ap switch_exit_by_tunnel none) (λ way some. is ∙ ap switch_exit_by_tunnel some)
@@ -79,6 +79,6 @@ next_exit s site packet action port owner by has other =
 
 pub next_no_owner : (s : SwitchValue) (site : SwitchSite) (packet : Packet) (action : Action)
     (port : ℕ) → action ≡ OutBy port → owner_in_net_ports site.ports port ≡ None →
-    next_of s site packet action ≡ Stuck NoRoute
-unfolding next_of switch_leave_by_port
+    switch_next_of s site packet action ≡ Stuck NoRoute
+unfolding switch_next_of switch_leave_by_port
 next_no_owner s site packet action port by none = cc (by, none)

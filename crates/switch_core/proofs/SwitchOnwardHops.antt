@@ -4,7 +4,7 @@ use Rattle.base.proofs.Exports.{get_or_from_slice_get, slice_get_within}
 use Rattle.failover.specs.Exports.{IsRouteList}
 use Rattle.tunnel.specs.Exports.{TunnelValue, tunnel_marked_down, next}
 use Rattle.tunnel.proofs.TunnelOnwardSwitch.{next_is_other}
-use Rattle.switch_core.specs.Exports.{SwitchValue, are_isolated, switch_call_counted, switch_stuck_cause, switch_hop_answer, switch_found_link_down, switch_hop_onward, switch_rerouted_here}
+use Rattle.switch_core.specs.Exports.{SwitchValue, are_switch_targets_isolated, switch_call_counted, switch_stuck_cause, switch_hop_answer, switch_found_link_down, switch_hop_onward, switch_rerouted_here}
 use Rattle.switch_core.specs.declared.packet.Onward.TheVariants.{AtEnd, Next, LinkDown}
 
 -- the next switch is another, and below 64
@@ -33,5 +33,5 @@ module _ (near : ℕ) where
 pub hop_down : (s : SwitchValue) (near : ℕ) (t : TunnelValue) (other : ℕ) →
     switch_found_link_down near (next t) ≡ Some other →
     switch_rerouted_here (switch_call_counted s) near (tunnel_marked_down t other) ≡ switch_hop_answer s near t
-unfolding switch_hop_answer switch_rerouted_here switch_stuck_cause are_isolated
+unfolding switch_hop_answer switch_rerouted_here switch_stuck_cause are_switch_targets_isolated
 hop_down s near t other found = search rules

@@ -2,7 +2,7 @@
 use Rattle.std.proofs.Common.{◌&&◌, ◌+◌, ◌<◌, ◌==◌, ◌||◌, ◌≡◌, ◌≢◌, Bool, List, None, Option, Some, arith, false, get_or-set_same, inl, inr, length-set, nat_lt, set, true, ℕ, rules}
 use Rattle.base.proofs.Exports.{cases_lt, get_or-replicate, get_or_past, nat_tests}
 use Rattle.failover.specs.declared.advert.Advert.{Advert}
-use Rattle.failover.specs.Exports.{adverts_after_hearing, held_advert, is_news, no_adverts}
+use Rattle.failover.specs.Exports.{adverts_after_hearing, held_advert, is_advert_news, no_adverts}
 use Rattle.failover.proofs.FailoverHeldAdverts.{held_others}
 use Rattle.failover.proofs.FailoverNewestAdvert.{not_newer}
 use Rattle.switch_core.specs.Exports.{HasSwitchAdvertUpTo, SwitchValue, is_news_to_switch, own_advert}
@@ -32,8 +32,8 @@ own_none number boot seq advert is = elim (cases_lt number 64) [
 -- the next advert of its own is news
 pub next_is_news : (adverts : List (Option Advert)) (number boot seq up : ℕ) → number < 64 →
     HasSwitchAdvertUpTo adverts number boot seq →
-    is_news adverts (own_advert number boot (seq + 1) up) ≡ true
-unfolding is_news
+    is_advert_news adverts (own_advert number boot (seq + 1) up) ≡ true
+unfolding is_advert_news
 next_is_news adverts number boot seq up below own = search (rules, below_then, newer_next)
 
 -- once it is held, none is newer

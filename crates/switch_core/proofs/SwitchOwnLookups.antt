@@ -1,16 +1,16 @@
 -- What a lookup in sound tables finds, and a partition of its own by the number.
 use Rattle.std.proofs.Common.{[], ◌-◌, ◌==◌, ◌∙◌, ◌∷◌, ◌≡◌, ◌≢◌, AllPairs, Bool, Contains, IsSome, IsSomeAnd, IsTrue, List, None, Option, Some, ap, arith, cond, eqb-true, false, find, get_or, inl, inr, option_and_then, position, refl, subst, suc, sym, true, ℕ, rules}
 use Rattle.base.proofs.Exports.{All-contains, cases_lt, find-position, find-there, nat_tests, option_map_or, same_Some}
-use Rattle.five_tuple.specs.Exports.{IsHeader, number_of}
+use Rattle.five_tuple.specs.Exports.{IsHeader, header_number_of}
 use Rattle.five_tuple.specs.declared.header.Header.{Header}
-use Rattle.policy_rules.specs.Exports.{LastRuleCovers, first_rule, is_held, is_in_policy_partition}
+use Rattle.policy_rules.specs.Exports.{LastPolicyRuleCovers, first_policy_rule, is_held_by_policy_rule, is_in_policy_partition}
 use Rattle.policy_rules.specs.declared.rules.Partition.{Partition}
 use Rattle.switch_table.proofs.SwitchTableLemmas.{decides_all}
-use Rattle.switch_table.specs.Exports.{AreSoundSwitchTables, table_authority_of, first_entry, lookup_of, table_redirect_of, table_lookup}
+use Rattle.switch_table.specs.Exports.{AreSoundSwitchTables, switch_table_authority_of, first_cache_entry, switch_table_lookup_of, switch_table_redirect_of, switch_table_lookup}
 use Rattle.switch_table.specs.declared.cache.CacheEntry.{CacheEntry}
 use Rattle.switch_table.specs.declared.tables.Tables.{Tables}
 use Rattle.switch_table.specs.declared.search.Found.TheVariants.{Cached}
-use Rattle.switch_core.specs.Exports.{IsSwitchFirstHit, IsSwitchFindingFirstHit, own_part, switch_core_partition_numbered, switch_own_rule_place}
+use Rattle.switch_core.specs.Exports.{IsSwitchFirstHit, IsSwitchFindingFirstHit, switch_own_partition, switch_core_partition_numbered, switch_own_rule_place}
 
 -- ---- a switch's own partitions
 
@@ -53,27 +53,27 @@ find_numbered (first ∷ parts) part distinct there =
 
 -- where some rule holds the header, the first place is that of the first such rule
 first_hit : (header : Header) (part : Partition) → IsTrue (is_in_policy_partition header part) →
-    IsSome (first_rule part.rules header) → IsSwitchFirstHit header part (switch_own_rule_place header part)
+    IsSome (first_policy_rule part.rules header) → IsSwitchFirstHit header part (switch_own_rule_place header part)
 first_hit header part held some = search (rules, find-position)
 
 -- a partition of one's own has a first hit for each header of its region
 pub own_hit : (tables : Tables) (number : ℕ) (part : Partition) (header : Header) →
-    AreSoundSwitchTables tables → IsHeader header → own_part tables number ≡ Some part →
+    AreSoundSwitchTables tables → IsHeader header → switch_own_partition tables number ≡ Some part →
     IsTrue (is_in_policy_partition header part) → IsSwitchFirstHit header part (switch_own_rule_place header part)
 own_hit tables number part header sound is found held =
     let there = (find-there (λ (p : Partition). p.number == number) tables.auth part found).0 in
     first_hit header part held
-    (decides_all part (All-contains LastRuleCovers tables.auth part sound.covers there) header is held)
+    (decides_all part (All-contains LastPolicyRuleCovers tables.auth part sound.covers there) header is held)
 
 -- what a lookup in sound tables finds
 pub lookup_is_found : (entries : List CacheEntry) (tables : Tables) (header : Header) →
     AreSoundSwitchTables tables → IsHeader header →
-    IsSwitchFindingFirstHit tables header (lookup_of entries tables header)
+    IsSwitchFindingFirstHit tables header (switch_table_lookup_of entries tables header)
 lookup_is_found entries tables header sound is =
-    by_entry (first_entry tables.version (number_of header) entries)
+    by_entry (first_cache_entry tables.version (header_number_of header) entries)
   where
     by_part : (part : Option Partition) → find (is_in_policy_partition header) tables.auth ≡ part → IsSwitchFindingFirstHit tables
-        header (option_map_or (table_authority_of header) part (table_redirect_of header tables.parts))
+        header (option_map_or (switch_table_authority_of header) part (switch_table_redirect_of header tables.parts))
     by_part None none = tt
     by_part (Some part) found =
         let there = find-there (is_in_policy_partition header) tables.auth part found in
@@ -83,7 +83,7 @@ lookup_is_found entries tables header sound is =
         (own_hit tables part.number part header sound is own there.1)
 
     by_entry : (entry : Option CacheEntry) →
-        IsSwitchFindingFirstHit tables header (option_map_or Cached entry (table_lookup tables header))
+        IsSwitchFindingFirstHit tables header (option_map_or Cached entry (switch_table_lookup tables header))
     by_entry (Some entry) = tt
     by_entry None = by_part (find (is_in_policy_partition header) tables.auth) refl
 
@@ -96,9 +96,9 @@ pub record IsOwnFirst (tables : Tables) (number : ℕ) (header : Header) (found 
 
 pub own_first : (tables : Tables) (number : ℕ) (header : Header) (found : Option ℕ) →
     AreSoundSwitchTables tables → IsHeader header →
-    IsSomeAnd (own_part tables number) (λ part. IsTrue (is_in_policy_partition header part)) →
-    found ≡ option_and_then (λ part. position (is_held (number_of header)) part.rules)
-    (own_part tables number) → IsOwnFirst tables number header found
+    IsSomeAnd (switch_own_partition tables number) (λ part. IsTrue (is_in_policy_partition header part)) →
+    found ≡ option_and_then (λ part. position (is_held_by_policy_rule (header_number_of header)) part.rules)
+    (switch_own_partition tables number) → IsOwnFirst tables number header found
 own_first tables number header found sound is own searched = search (rules, own_hit)
 
 pub same_place : (place : ℕ) (found : Option ℕ) (first : ℕ) → found ≡ Some place →

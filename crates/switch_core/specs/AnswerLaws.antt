@@ -1,9 +1,9 @@
 -- What a switch returns for packets, as relations in terms of lookups, rules, routes and tunnels: a
 -- law of `src` ensures that the relation of each call allows its result, and no other.
 use Rattle.std.specs.Prelude.{[], if◌then◌else◌, ◌+◌, ◌==◌, ◌↔◌, ◌∷◌, ◌≡◌, ◌≢◌, ◌⊎◌, Bool, IsFalse, IsSome, IsTrue, List, MatchOption, None, Option, Some, false, map, slice_get, true, ℕ}
-use Rattle.five_tuple.specs.Exports.{IsHeader, number_of}
+use Rattle.five_tuple.specs.Exports.{IsHeader, header_number_of}
 use Rattle.five_tuple.specs.declared.header.Header.{Header}
-use Rattle.policy_rules.specs.Exports.{AreSoundPolicyPartitions, Hosted, first_rule, scan}
+use Rattle.policy_rules.specs.Exports.{AreSoundPolicyPartitions, HostedPolicyPartition, first_policy_rule, scan}
 use Rattle.policy_rules.specs.declared.packet.Cause.TheVariants.{NoRoute}
 use Rattle.policy_rules.specs.declared.packet.How.{How}
 use Rattle.policy_rules.specs.declared.packet.How.TheVariants.{Authority as ByAuthority}
@@ -15,23 +15,23 @@ use Rattle.policy_rules.specs.declared.policy.Row.{Row}
 use Rattle.policy_rules.specs.declared.rules.Partition.{Partition}
 use Rattle.policy_rules.specs.declared.rules.Rule.{Rule}
 use Rattle.net_file.specs.Exports.{owner_in_net_ports}
-use Rattle.failover.specs.Exports.{route_of, with_link}
+use Rattle.failover.specs.Exports.{route_of, with_failover_link}
 use Rattle.base.specs.Exports.{has}
 use Rattle.tunnel.specs.Exports.{TunnelValue, here, next, tunnel_begun}
 use Rattle.cache_maker.specs.Independent.{widen}
-use Rattle.switch_table.specs.Exports.{first_entry, lookup_of, part_of, tables_of}
+use Rattle.switch_table.specs.Exports.{first_cache_entry, switch_table_lookup_of, switch_table_part_of, tables_of}
 use Rattle.switch_table.specs.declared.cache.CacheEntry.{CacheEntry}
 use Rattle.switch_table.specs.declared.search.Found.{Found}
 use Rattle.switch_table.specs.declared.search.Found.TheVariants.{Cached, Authority, Redirect}
 use Rattle.switch_table.specs.declared.tables.Tables.{Tables}
 use Rattle.ctrl_msg.specs.declared.message.Body.{Body}
 use Rattle.ctrl_msg.specs.declared.message.Body.TheVariants.{CacheRule}
-use Rattle.switch_core.specs.Answering.{IsSwitchAuthorityForLeg, admitted, arrive_answer, enter_answer, looked_up, switch_packet_of}
-use Rattle.switch_core.specs.Deciding.{IsSwitchFirstHit, by_entry, by_rule, own_part}
-use Rattle.switch_core.specs.Ends.{SwitchSite, switch_stuck_cause, next_of}
-use Rattle.switch_core.specs.Moving.{Moved, SwitchStandsAtRoutePlace, switch_found_link_down, switch_hop_answer}
-use Rattle.switch_core.specs.State.{IsSoundSwitch, SwitchValue, held_tables, holds_version, serves, stamp_tables}
-use Rattle.switch_core.specs.Answers.{Answer, Decided, Seek, Stuck, switch_arrived_with, switch_entered_with}
+use Rattle.switch_core.specs.Answering.{MaySwitchEndLeg, switch_admitted, arrive_answer, enter_answer, switch_looked_up, switch_packet_of}
+use Rattle.switch_core.specs.Deciding.{IsSwitchFirstHit, switch_decision_by_entry, switch_decision_by_rule, switch_own_partition}
+use Rattle.switch_core.specs.Ends.{SwitchSite, switch_stuck_cause, switch_next_of}
+use Rattle.switch_core.specs.Moving.{SwitchPacketMoved, SwitchStandsAtRoutePlace, switch_found_link_down, switch_hop_answer}
+use Rattle.switch_core.specs.State.{IsSoundSwitch, SwitchValue, switch_held_tables, holds_version, serves, switch_stamp_tables}
+use Rattle.switch_core.specs.Answers.{SwitchAnswer, Decided, Seek, Stuck, switch_arrived_with, switch_entered_with}
 use Rattle.switch_core.specs.declared.tunnel_calls.Arrived.{Arrived}
 use Rattle.switch_core.specs.declared.tunnel_calls.Arrived.TheVariants as arrival
 use Rattle.switch_core.specs.declared.deciding.Decision.{Decision}
@@ -55,21 +55,21 @@ pub record IsSwitchReady (s : SwitchValue) (header : Header) : Type 0 where
 -- leg's partition is one of its own, and that partition has the header
 pub record IsSwitchReadyAsAuthority (s : SwitchValue) (t : TunnelValue) : Type 0 where
   pub ready : IsSwitchReady s t.header
-  pub authority : IsSwitchAuthorityForLeg s t.header t.leg
+  pub authority : MaySwitchEndLeg s t.header t.leg
 
 -- what the cache and the tables of the stamp say about a header
 abbrev pub switch_lookup_by_stamp : SwitchValue → Header → Found
-switch_lookup_by_stamp s header = lookup_of s.cache.entries (stamp_tables s) header
+switch_lookup_by_stamp s header = switch_table_lookup_of s.cache.entries (switch_stamp_tables s) header
 
 -- a rule of one of the tables' own partitions: the first there to hold a header of its region
 pub record SwitchFindsOwnRule (tables : Tables) (header : Header) : Type 0 where
   pub part : Partition
   pub place : ℕ
   pub rule : Rule
-  pub own : own_part tables part.number ≡ Some part
+  pub own : switch_own_partition tables part.number ≡ Some part
   pub hit : IsSwitchFirstHit header part place
   pub at_place : slice_get part.rules place ≡ Some rule
-  pub first : first_rule part.rules header ≡ Some rule
+  pub first : first_policy_rule part.rules header ≡ Some rule
 
 -- the route to the first of these targets that the switch reaches, by the links that it knows,
 -- except those that the packet found down
@@ -84,15 +84,15 @@ switch_setting_out packet leg targets route =
 -- the first entry of the cache to hold the header, among those of the stamp's version, decides
 pub record IsSwitchCacheDecision (s : SwitchValue) (header : Header) (decision : Decision) : Type 0 where
   pub entry : CacheEntry
-  pub first : first_entry s.stamp (number_of header) s.cache.entries ≡ Some entry
-  pub decided : decision ≡ by_entry entry
+  pub first : first_cache_entry s.stamp (header_number_of header) s.cache.entries ≡ Some entry
+  pub decided : decision ≡ switch_decision_by_entry entry
 
 -- one of the switch's own rules decides, by the tables of the decision's version
 pub record IsSwitchOwnRuleDecision (s : SwitchValue) (header : Header) (decision : Decision) : Type 0 where
   pub tables : Tables
-  pub held : held_tables s decision.version ≡ Some tables
+  pub held : switch_held_tables s decision.version ≡ Some tables
   pub own : SwitchFindsOwnRule tables header
-  pub decided : decision ≡ by_rule s.number decision.version own.part.number own.rule
+  pub decided : decision ≡ switch_decision_by_rule s.number decision.version own.part.number own.rule
 
 -- ---- the result of a lookup
 
@@ -100,35 +100,35 @@ pub record IsSwitchOwnRuleDecision (s : SwitchValue) (header : Header) (decision
 -- is the widened one
 abbrev pub switch_rule_to_cache : {tables : Tables} {header : Header} → ℕ → SwitchFindsOwnRule tables header → Body
 switch_rule_to_cache {tables} {header} version own =
-    CacheRule version (widen (number_of header) own.part.region own.part.rules own.place)
+    CacheRule version (widen (header_number_of header) own.part.region own.part.rules own.place)
     own.rule.rule own.rule.action
 
 -- one of these rules decides, by tables of a version, and is sent to the cache of the switch where
 -- the packet entered, unless that is this one
 abbrev pub decided_by_switch : (s : SwitchValue) → SwitchSite → (packet : Packet) → ℕ →
-    {tables : Tables} → SwitchFindsOwnRule tables packet.header → Answer
+    {tables : Tables} → SwitchFindsOwnRule tables packet.header → SwitchAnswer
 decided_by_switch s site packet version own =
-    Decided (by_rule s.number version own.part.number own.rule)
+    Decided (switch_decision_by_rule s.number version own.part.number own.rule)
     (if packet.ingress == s.number then None else Some (switch_rule_to_cache version own))
-    (next_of s site packet own.rule.action)
+    (switch_next_of s site packet own.rule.action)
 
 -- the partition of this number decides by its first rule to hold the header
 pub record IsSwitchAnswerByPartition (s : SwitchValue) (site : SwitchSite) (packet : Packet)
-    (version : ℕ) (tables : Tables) (partition : ℕ) (answer : Answer) : Type 0 where
+    (version : ℕ) (tables : Tables) (partition : ℕ) (answer : SwitchAnswer) : Type 0 where
   pub own : SwitchFindsOwnRule tables packet.header
   pub numbered : own.part.number ≡ partition
   pub answered : answer ≡ decided_by_switch s site packet version own
 
 -- a switch that is ready looks a packet up under its stamp
 pub record IsRightSwitchAnswer (s : SwitchValue) (site : SwitchSite) (packet : Packet)
-    (answer : Answer) : Type 0 where
+    (answer : SwitchAnswer) : Type 0 where
   -- a cached rule decides with its version, its rule and its action
   pub cached : (entry : CacheEntry) → switch_lookup_by_stamp s packet.header ≡ Cached entry →
-      answer ≡ Decided (by_entry entry) None (next_of s site packet entry.action)
+      answer ≡ Decided (switch_decision_by_entry entry) None (switch_next_of s site packet entry.action)
   -- an authority rule decides with the stamp's version: its partition's first to hold the header
   pub authority : (partition place : ℕ) →
       switch_lookup_by_stamp s packet.header ≡ Authority partition place →
-      (by : IsSwitchAnswerByPartition s site packet s.stamp (stamp_tables s) partition answer)
+      (by : IsSwitchAnswerByPartition s site packet s.stamp (switch_stamp_tables s) partition answer)
       × (by.own.place ≡ place)
   -- a partition rule sends it to exactly its targets, and it is stuck on that leg exactly if no
   -- route leads to them
@@ -143,10 +143,10 @@ pub record IsRightSwitchAnswer (s : SwitchValue) (site : SwitchSite) (packet : P
 pub record SwitchLookupLaws : Type 0 where
   pub is : (s : SwitchValue) (site : SwitchSite) (packet : Packet) →
       IsSwitchReady s packet.header →
-      IsRightSwitchAnswer s site packet (looked_up s site packet)
+      IsRightSwitchAnswer s site packet (switch_looked_up s site packet)
   pub only : (s : SwitchValue) (site : SwitchSite) (packet : Packet)
-      (answer : Answer) → IsSwitchReady s packet.header → IsRightSwitchAnswer s site packet answer →
-      answer ≡ looked_up s site packet
+      (answer : SwitchAnswer) → IsSwitchReady s packet.header → IsRightSwitchAnswer s site packet answer →
+      answer ≡ switch_looked_up s site packet
 
 -- ---- a packet enters
 
@@ -156,7 +156,7 @@ pub record IsSwitchEntry (s : SwitchValue) (site : SwitchSite) (packet : Packet)
   pub closed : (enter_answer ≡ entry.Closed) ↔ IsFalse (serves s)
   -- otherwise it is looked up
   pub answered : IsSwitchReady s packet.header →
-      (answer : Answer) × (enter_answer ≡ switch_entered_with answer)
+      (answer : SwitchAnswer) × (enter_answer ≡ switch_entered_with answer)
       × IsRightSwitchAnswer s site packet answer
 
 -- the result of `enter` is in the relation, and nothing else is
@@ -188,9 +188,9 @@ pub record IsSwitchNextStep (s : SwitchValue) (site : SwitchSite) (packet : Pack
 -- where a decided packet moves is in the relation, and nothing else is
 pub record SwitchExitLaws : Type 0 where
   pub is : (s : SwitchValue) (site : SwitchSite) (packet : Packet) (action : Action) →
-      IsSwitchNextStep s site packet action (next_of s site packet action)
+      IsSwitchNextStep s site packet action (switch_next_of s site packet action)
   pub only : (s : SwitchValue) (site : SwitchSite) (packet : Packet) (action : Action)
-      (way : Next) → IsSwitchNextStep s site packet action way → way ≡ next_of s site packet action
+      (way : Next) → IsSwitchNextStep s site packet action way → way ≡ switch_next_of s site packet action
 
 -- ---- a packet arrives
 
@@ -201,14 +201,14 @@ pub record IsSwitchArrival (s : SwitchValue) (site : SwitchSite) (t : TunnelValu
   -- on a leg of a version that the switch has it is decided by that version: by the first rule of
   -- the leg's partition to hold the header
   pub decided : (version partition : ℕ) (tables : Tables) →
-      IsSwitchReadyAsAuthority s t → t.leg ≡ SeekLeg version partition → held_tables s version ≡ Some tables →
-      (answer : Answer) × (arrive_answer ≡ switch_arrived_with answer)
+      IsSwitchReadyAsAuthority s t → t.leg ≡ SeekLeg version partition → switch_held_tables s version ≡ Some tables →
+      (answer : SwitchAnswer) × (arrive_answer ≡ switch_arrived_with answer)
       × IsSwitchAnswerByPartition s site (switch_packet_of t) version tables partition answer
   -- if the switch doesn't have the leg's version, it is looked up again under the stamp, as if it
   -- entered here with the links that it found down
   pub anew : (version partition : ℕ) →
       IsSwitchReadyAsAuthority s t → t.leg ≡ SeekLeg version partition → IsFalse (holds_version s version) →
-      (answer : Answer) × (arrive_answer ≡ switch_arrived_with answer)
+      (answer : SwitchAnswer) × (arrive_answer ≡ switch_arrived_with answer)
       × IsRightSwitchAnswer s site (switch_packet_of t) answer
 
 -- the result of `arrive` is in the relation, and nothing else is
@@ -230,7 +230,7 @@ is_switch_decision_by_authority _ = false
 pub record IsSwitchDecision (s : SwitchValue) (site : SwitchSite) (packet : Packet)
     (decision : Decision) (cache : Option Body) (way : Next) : Type 0 where
   pub source : IsSwitchCacheDecision s packet.header decision ⊎ IsSwitchOwnRuleDecision s packet.header decision
-  pub onward : way ≡ next_of s site packet decision.action
+  pub onward : way ≡ switch_next_of s site packet decision.action
   -- a rule is sent to a cache exactly if an authority rule decided, and the packet entered
   -- elsewhere ..
   pub sent : IsSome cache ↔ (IsTrue (is_switch_decision_by_authority decision.how) × (packet.ingress ≢ s.number))
@@ -244,7 +244,7 @@ pub record SwitchDecisionLaws : Type 0 where
   pub on_entry : (s : SwitchValue) (site : SwitchSite) (packet : Packet)
       (decision : Decision) (way : Next) → IsSwitchReady s packet.header →
       enter_answer s site packet ≡ entry.Decided decision way →
-      (cache : Option Body) × (admitted s site packet ≡ Some (Decided decision cache way))
+      (cache : Option Body) × (switch_admitted s site packet ≡ Some (Decided decision cache way))
       × IsSwitchDecision s site packet decision cache way
   pub on_arrival : (s : SwitchValue) (site : SwitchSite) (t : TunnelValue)
       (decision : Decision) (cache : Option Body) (way : Next) → IsSwitchReadyAsAuthority s t →
@@ -252,8 +252,8 @@ pub record SwitchDecisionLaws : Type 0 where
       IsSwitchDecision s site (switch_packet_of t) decision cache way
   -- by the tables of a plan, the switch's own rules decide as the plan's policy does
   pub as_policy : (s : SwitchValue) (header : Header) (decision : Decision) (rows : List Row)
-      (plan : List Hosted) → AreSoundPolicyPartitions rows (map part_of plan) → IsHeader header →
-      held_tables s decision.version ≡ Some (tables_of plan decision.version s.number) →
+      (plan : List HostedPolicyPartition) → AreSoundPolicyPartitions rows (map switch_table_part_of plan) → IsHeader header →
+      switch_held_tables s decision.version ≡ Some (tables_of plan decision.version s.number) →
       IsSwitchOwnRuleDecision s header decision →
       scan rows header ≡ record { rule = decision.rule; action = decision.action }
 
@@ -266,13 +266,13 @@ IsSwitchPacketSame before after =
 
 -- the links that a packet found down, with the one to this other switch
 abbrev pub switch_found_down_with : TunnelValue → ℕ → List ℕ
-switch_found_down_with t other = with_link t.down (here t) other
+switch_found_down_with t other = with_failover_link t.down (here t) other
 
 -- its new route around these links
 abbrev pub switch_route_around : SwitchValue → ℕ → TunnelValue → ℕ → Option (List ℕ)
 switch_route_around s near t other = route_of s.database (here t) t.targets near (switch_found_down_with t other)
 
-pub record IsSwitchHop (s : SwitchValue) (near : ℕ) (t : TunnelValue) (after : Moved) : Type 0 where
+pub record IsSwitchHop (s : SwitchValue) (near : ℕ) (t : TunnelValue) (after : SwitchPacketMoved) : Type 0 where
   -- a link is found down exactly if it leads to the next switch of the route and isn't usable
   pub found : (other : ℕ) → (switch_found_link_down near (next t) ≡ Some other)
       ↔ ((next t ≡ Some other) × IsFalse (has near other))
@@ -313,5 +313,5 @@ pub record IsSwitchHop (s : SwitchValue) (near : ℕ) (t : TunnelValue) (after :
 -- the result of `hop` is in the relation, and nothing else is
 pub record SwitchHopLaws : Type 0 where
   pub is : (s : SwitchValue) (near : ℕ) (t : TunnelValue) → IsSwitchHop s near t (switch_hop_answer s near t)
-  pub only : (s : SwitchValue) (near : ℕ) (t : TunnelValue) (after : Moved) →
+  pub only : (s : SwitchValue) (near : ℕ) (t : TunnelValue) (after : SwitchPacketMoved) →
       IsSwitchHop s near t after → after ≡ switch_hop_answer s near t

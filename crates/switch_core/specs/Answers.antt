@@ -14,28 +14,28 @@ use Rattle.tunnel.specs.Exports.{TunnelValue}
 -- the result for a packet whose header was looked up. It is decided, with a rule for the cache of
 -- the switch where it entered, unless that is this one; or it is sent to an authority switch of its
 -- partition; or no route leads there
-pub data Answer : Type 0 where
-  Decided : Decision → Option Body → Next → Answer
-  Seek : TunnelValue → Answer
-  Stuck : Cause → Leg → Answer
+pub data SwitchAnswer : Type 0 where
+  Decided : Decision → Option Body → Next → SwitchAnswer
+  Seek : TunnelValue → SwitchAnswer
+  Stuck : Cause → Leg → SwitchAnswer
 
 -- the result for a packet at the end of its route: it leaves by this port, or is answered as above
 pub data SwitchArrival : Type 0 where
   Out : ℕ → SwitchArrival
-  Answered : Answer → SwitchArrival
+  Answered : SwitchAnswer → SwitchArrival
 
 -- as `enter` returns it, if the switch serves
-abbrev pub switch_entered_with : Answer → Entered
+abbrev pub switch_entered_with : SwitchAnswer → Entered
 switch_entered_with (Decided decision cache way) = entered.Decided decision way
 switch_entered_with (Seek tunnel) = entered.Seek tunnel
 switch_entered_with (Stuck cause leg) = entered.Stuck cause leg
 
-abbrev pub switch_entered_by_answer : Option Answer → Entered
+abbrev pub switch_entered_by_answer : Option SwitchAnswer → Entered
 switch_entered_by_answer None = entered.Closed
 switch_entered_by_answer (Some answer) = switch_entered_with answer
 
 -- as `arrive` returns it
-abbrev pub switch_arrived_with : Answer → Arrived
+abbrev pub switch_arrived_with : SwitchAnswer → Arrived
 switch_arrived_with (Decided decision cache way) = arrived.Decided decision cache way
 switch_arrived_with (Seek tunnel) = arrived.Seek tunnel
 switch_arrived_with (Stuck cause leg) = arrived.Stuck cause leg

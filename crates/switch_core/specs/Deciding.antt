@@ -2,10 +2,10 @@
 -- where the packet entered (Yu, Rexford, Freedman and Wang, "Scalable Flow-Based Networking with
 -- DIFANE", SIGCOMM 2010).
 use Rattle.std.specs.Prelude.{[], if◌then◌else◌, ◌==◌, ◌≡◌, IsSomeAnd, IsTrue, List, None, Option, Some, find, position, slice_index_or, unwrap_or, ℕ, ⊤}
-use Rattle.five_tuple.specs.Exports.{number_of}
+use Rattle.five_tuple.specs.Exports.{header_number_of}
 use Rattle.five_tuple.specs.declared.header.Header.{Header}
 use Rattle.ternary.specs.Exports.{any_word, holds}
-use Rattle.policy_rules.specs.Exports.{is_held}
+use Rattle.policy_rules.specs.Exports.{is_held_by_policy_rule}
 use Rattle.policy_rules.specs.declared.policy.Action.TheVariants.{Drop}
 use Rattle.policy_rules.specs.declared.packet.How.TheVariants.{Cached, Authority}
 use Rattle.policy_rules.specs.declared.rules.Partition.{Partition}
@@ -22,31 +22,31 @@ use Rattle.switch_core.specs.declared.tunnel_calls.Packet.{Packet}
 
 -- ---- rules by their numbers
 
-abbrev pub no_rule : Rule
-no_rule = record { word = any_word; rank = 0; rule = None; action = Drop }
+abbrev pub no_switch_rule : Rule
+no_switch_rule = record { word = any_word; rank = 0; rule = None; action = Drop }
 
 abbrev pub no_switch_core_partition : Partition
 no_switch_core_partition = record { number = 0; region = any_word; rules = [] }
 
 -- a switch's own partition of this number
-abbrev pub own_part : Tables → ℕ → Option Partition
-own_part tables number = find (λ part. part.number == number) tables.auth
+abbrev pub switch_own_partition : Tables → ℕ → Option Partition
+switch_own_partition tables number = find (λ part. part.number == number) tables.auth
 
 abbrev pub switch_core_partition_numbered : Tables → ℕ → Partition
-switch_core_partition_numbered tables number = unwrap_or (own_part tables number) no_switch_core_partition
+switch_core_partition_numbered tables number = unwrap_or (switch_own_partition tables number) no_switch_core_partition
 
 abbrev pub switch_core_rule_in : Partition → ℕ → Rule
-switch_core_rule_in part place = slice_index_or part.rules place no_rule
+switch_core_rule_in part place = slice_index_or part.rules place no_switch_rule
 
 -- the place of its first rule that holds the header
 abbrev pub switch_own_rule_place : Header → Partition → ℕ
-switch_own_rule_place header part = unwrap_or (position (is_held (number_of header)) part.rules) 0
+switch_own_rule_place header part = unwrap_or (position (is_held_by_policy_rule (header_number_of header)) part.rules) 0
 
 -- ---- decisions
 
 -- a cached rule decides
-abbrev pub by_entry : CacheEntry → Decision
-by_entry entry = record {
+abbrev pub switch_decision_by_entry : CacheEntry → Decision
+switch_decision_by_entry entry = record {
   version = entry.version;
   rule = entry.rule;
   action = entry.action;
@@ -54,8 +54,8 @@ by_entry entry = record {
 }
 
 -- a rule of a partition decides, at one of its authority switches
-abbrev pub by_rule : ℕ → ℕ → ℕ → Rule → Decision
-by_rule switch version partition rule = record {
+abbrev pub switch_decision_by_rule : ℕ → ℕ → ℕ → Rule → Decision
+switch_decision_by_rule switch version partition rule = record {
   version = version;
   rule = rule.rule;
   action = rule.action;
@@ -64,18 +64,18 @@ by_rule switch version partition rule = record {
 
 -- the rule at the place is the first of the partition to hold the header, which is in its region
 pub record IsSwitchFirstHit (header : Header) (part : Partition) (place : ℕ) : Type 0 where
-  pub region : IsTrue (holds part.region (number_of header))
-  pub first : position (is_held (number_of header)) part.rules ≡ Some place
+  pub region : IsTrue (holds part.region (header_number_of header))
+  pub first : position (is_held_by_policy_rule (header_number_of header)) part.rules ≡ Some place
 
 -- an authority rule that a lookup found is the first hit of one of the switch's own partitions
 abbrev pub IsSwitchFindingFirstHit : Tables → Header → Found → Type 0
 IsSwitchFindingFirstHit tables header (ByAuthority partition place) =
-    IsSomeAnd (own_part tables partition) (λ part. IsSwitchFirstHit header part place)
+    IsSomeAnd (switch_own_partition tables partition) (λ part. IsSwitchFirstHit header part place)
 IsSwitchFindingFirstHit tables header _ = ⊤
 
 -- a packet as it is looked up
-abbrev pub packet_to_look_up : ℕ → Header → ℕ → List ℕ → Packet
-packet_to_look_up number header ingress down = record {
+abbrev pub switch_packet_to_look_up : ℕ → Header → ℕ → List ℕ → Packet
+switch_packet_to_look_up number header ingress down = record {
   number = number;
   header = header;
   ingress = ingress;
@@ -86,5 +86,5 @@ packet_to_look_up number header ingress down = record {
 unfoldable pub switch_cache_rule_sent : ℕ → Packet → ℕ → Partition → ℕ → Option Body
 switch_cache_rule_sent switch packet version part place =
     let rule = switch_core_rule_in part place in
-    let word = widen (number_of packet.header) part.region part.rules place in
+    let word = widen (header_number_of packet.header) part.region part.rules place in
     if packet.ingress == switch then None else Some (CacheRule version word rule.rule rule.action)

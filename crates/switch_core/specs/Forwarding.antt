@@ -4,7 +4,7 @@ use Rattle.ctrl_msg.specs.declared.message.Body.{Body}
 use Rattle.ctrl_msg.specs.declared.message.Body.TheVariants.{CacheRule}
 use Rattle.ternary.specs.Exports.{WordValue}
 use Rattle.switch_core.specs.Answering.{switch_seek_by}
-use Rattle.switch_core.specs.Ends.{SwitchSite, next_of, set_out}
+use Rattle.switch_core.specs.Ends.{SwitchSite, switch_next_of, switch_set_out}
 use Rattle.switch_core.specs.State.{SwitchValue}
 use Rattle.switch_core.specs.Answers.{SwitchArrival}
 use Rattle.switch_core.specs.Answers as answer
@@ -19,17 +19,17 @@ switch_core_cache_rule decision word =
     option_map (λ word. CacheRule decision.version word decision.rule decision.action) word
 
 -- the result, with the route that is to be taken
-abbrev pub answer_of : SwitchValue → SwitchSite → Packet → Forwarding → SwitchArrival
-answer_of s site packet (Out port) = answer.Out port
-answer_of s site packet (Decided decision word) =
+abbrev pub switch_arrival_by_forwarding : SwitchValue → SwitchSite → Packet → Forwarding → SwitchArrival
+switch_arrival_by_forwarding s site packet (Out port) = answer.Out port
+switch_arrival_by_forwarding s site packet (Decided decision word) =
     answer.Answered (answer.Decided decision (switch_core_cache_rule decision word)
-    (next_of s site packet decision.action))
-answer_of s site packet (Seek leg targets) =
-    answer.Answered (switch_seek_by leg (set_out s site.near packet leg targets))
+    (switch_next_of s site packet decision.action))
+switch_arrival_by_forwarding s site packet (Seek leg targets) =
+    answer.Answered (switch_seek_by leg (switch_set_out s site.near packet leg targets))
 
 -- the result for a packet that enters
 abbrev pub switch_admitted_as : SwitchValue → SwitchSite → Packet → Option Forwarding → Option SwitchArrival
-switch_admitted_as s site packet forwarding = option_map (answer_of s site packet) forwarding
+switch_admitted_as s site packet forwarding = option_map (switch_arrival_by_forwarding s site packet) forwarding
 
 -- the forwarding is one that a lookup returns: it is not out by a port
 abbrev pub IsSwitchLookupForwarding : Forwarding → Type 0

@@ -3,13 +3,13 @@
 -- SIGCOMM 2012); adverts are flooded as in OSPF (RFC 2328, section 13).
 use Rattle.std.specs.Prelude.{[], if◌then◌else◌, ◌&&◌, ◌++◌, ◌==◌, ◌||◌, ◌∷◌, Bool, List, None, Option, Some, filter, map, max, nat_le, nat_lt, not, true, ℕ, ⊤}
 use Rattle.base.specs.Exports.{has, option_map_or, switches}
-use Rattle.failover.specs.Exports.{adverts_after_hearing, is_news}
+use Rattle.failover.specs.Exports.{adverts_after_hearing, is_advert_news}
 use Rattle.failover.specs.declared.advert.Advert.{Advert}
 use Rattle.switch_table.specs.Exports.{AreSoundSwitchTables, cache_after_accept, cache_after_carry, cache_after_raise}
 use Rattle.switch_table.specs.declared.cache.CacheEntry.{CacheEntry}
 use Rattle.switch_table.specs.declared.tables.Tables.{Tables}
 use Rattle.ternary.specs.Exports.{WordValue}
-use Rattle.ctrl_msg.specs.Exports.{body_boot, is_for_controller, to_controller}
+use Rattle.ctrl_msg.specs.Exports.{body_boot, is_body_for_controller, message_to_controller}
 use Rattle.ctrl_msg.specs.declared.message.Body.{Body}
 use Rattle.ctrl_msg.specs.declared.message.Body.TheVariants.{Install, OpenAt, Stamp, Collect, CacheRule, Advertise, Installed, Stamped}
 use Rattle.ctrl_msg.specs.declared.message.Message.{Message}
@@ -22,9 +22,9 @@ IsSoundSwitchBody (Install boot tables) = AreSoundSwitchTables tables
 IsSoundSwitchBody _ = ⊤
 
 -- the switch is up, and the body is for a switch, of this boot if it carries one
-unfoldable pub obeys : SwitchValue → Body → Bool
-obeys s body =
-    s.is_up && not (is_for_controller body) && option_map_or (λ boot. boot == s.boot)
+unfoldable pub switch_obeys : SwitchValue → Body → Bool
+switch_obeys s body =
+    s.is_up && not (is_body_for_controller body) && option_map_or (λ boot. boot == s.boot)
     (body_boot body) true
 
 -- ---- what the switch is afterwards
@@ -63,7 +63,7 @@ switch_with_learnt s entry = record s { cache = cache_after_accept s.stamp entry
 
 -- the advert is of another switch, and the database has none of that switch or this one is newer
 unfoldable pub is_news_to_switch : SwitchValue → Advert → Bool
-is_news_to_switch s advert = not (advert.origin == s.number) && is_news s.database advert
+is_news_to_switch s advert = not (advert.origin == s.number) && is_advert_news s.database advert
 
 unfoldable pub switch_after_advert : SwitchValue → Advert → SwitchValue
 switch_after_advert s advert = if is_news_to_switch s advert
@@ -86,7 +86,7 @@ switch_after_body s number (Advertise advert) = switch_after_advert s advert
 switch_after_body s number _ = s
 
 unfoldable pub switch_with_message : SwitchValue → ℕ → Body → SwitchValue
-switch_with_message s number body = if obeys s body then switch_after_body s number body else s
+switch_with_message s number body = if switch_obeys s body then switch_after_body s number body else s
 
 -- ---- what it sends
 
@@ -95,23 +95,23 @@ unfoldable pub switch_flood : ℕ → Body → List Message
 switch_flood near body = map (λ other. record { to = Switch other; body = body })
     (filter (has near) switches)
 
-abbrev pub replies_to : SwitchValue → ℕ → Body → List Message
-replies_to s near (Install boot tables) =
-    to_controller (Installed s.number s.boot tables.version) ∷ []
-replies_to s near (Stamp boot version touched) = to_controller (Stamped s.number s.boot version) ∷ []
-replies_to s near (Advertise advert) =
+abbrev pub switch_replies_to : SwitchValue → ℕ → Body → List Message
+switch_replies_to s near (Install boot tables) =
+    message_to_controller (Installed s.number s.boot tables.version) ∷ []
+switch_replies_to s near (Stamp boot version touched) = message_to_controller (Stamped s.number s.boot version) ∷ []
+switch_replies_to s near (Advertise advert) =
     if is_news_to_switch s advert then switch_flood near (Advertise advert) else []
-replies_to s near _ = []
+switch_replies_to s near _ = []
 
 unfoldable pub replies : SwitchValue → ℕ → Body → List Message
-replies s near body = if obeys s body then replies_to s near body else []
+replies s near body = if switch_obeys s body then switch_replies_to s near body else []
 
 -- ---- whether it opens
 
-abbrev pub opened_by : SwitchValue → Body → Option ℕ
-opened_by s (OpenAt boot version) = if s.is_open then None else Some (max s.stamp version)
-opened_by s _ = None
+abbrev pub switch_opened_by : SwitchValue → Body → Option ℕ
+switch_opened_by s (OpenAt boot version) = if s.is_open then None else Some (max s.stamp version)
+switch_opened_by s _ = None
 
 -- the stamp of a switch that was closed, and opens
 unfoldable pub switch_opening_stamp : SwitchValue → Body → Option ℕ
-switch_opening_stamp s body = if obeys s body then opened_by s body else None
+switch_opening_stamp s body = if switch_obeys s body then switch_opened_by s body else None

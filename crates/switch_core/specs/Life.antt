@@ -2,7 +2,7 @@
 use Rattle.std.specs.Prelude.{[], ◌+◌, Some, false, slice_set, true, ℕ}
 use Rattle.failover.specs.Exports.{no_adverts}
 use Rattle.failover.specs.declared.advert.Advert.{Advert}
-use Rattle.switch_table.specs.Exports.{cache_after_clear, after_expire}
+use Rattle.switch_table.specs.Exports.{cache_after_clear, cache_after_expire}
 use Rattle.switch_core.specs.State.{SwitchValue, own_advert}
 
 -- its next own advert, of these neighbours
@@ -18,7 +18,7 @@ near_changed s near = record s {
 
 -- the cache entry at a place is removed
 abbrev pub switch_entry_expired : SwitchValue → ℕ → SwitchValue
-switch_entry_expired s place = record s { cache = after_expire place s.cache }
+switch_entry_expired s place = record s { cache = cache_after_expire place s.cache }
 
 -- closed, and without what it learnt: only its number, boot, cache capacity and count remain
 abbrev pub switch_without_memory : SwitchValue → SwitchValue

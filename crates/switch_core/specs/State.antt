@@ -3,7 +3,7 @@
 -- Networking with DIFANE", SIGCOMM 2010). Each is of a version of a two-phase update (Reitblatt,
 -- Foster, Rexford, Schlesinger and Walker, "Abstractions for Network Update", SIGCOMM 2012).
 use Rattle.std.specs.Prelude.{[], ◌&&◌, ◌+◌, ◌-◌, ◌<◌, ◌==◌, ◌^◌, ◌∷◌, ◌≡◌, All, Bool, IsFalse, List, Option, Some, find, is_some, min, true, unwrap_or, ℕ}
-use Rattle.failover.specs.Exports.{held_advert, is_newer}
+use Rattle.failover.specs.Exports.{held_advert, is_newer_advert}
 use Rattle.failover.specs.declared.advert.Advert.{Advert}
 use Rattle.switch_table.specs.Exports.{AreSoundSwitchTables, CacheValue}
 use Rattle.switch_table.specs.declared.tables.Tables.{Tables}
@@ -49,18 +49,18 @@ abbrev pub serves : SwitchValue → Bool
 serves s = s.is_up && s.is_open
 
 -- the tables of a version, if it has them
-abbrev pub held_tables : SwitchValue → ℕ → Option Tables
-held_tables s version = find (λ tables. tables.version == version) s.tables
+abbrev pub switch_held_tables : SwitchValue → ℕ → Option Tables
+switch_held_tables s version = find (λ tables. tables.version == version) s.tables
 
 abbrev pub holds_version : SwitchValue → ℕ → Bool
-holds_version s version = is_some (held_tables s version)
+holds_version s version = is_some (switch_held_tables s version)
 
 abbrev pub no_switch_tables : Tables
 no_switch_tables = record { version = 0; parts = []; auth = [] }
 
 -- the tables of its stamp, which a switch that serves has
-abbrev pub stamp_tables : SwitchValue → Tables
-stamp_tables s = unwrap_or (held_tables s s.stamp) no_switch_tables
+abbrev pub switch_stamp_tables : SwitchValue → Tables
+switch_stamp_tables s = unwrap_or (switch_held_tables s s.stamp) no_switch_tables
 
 -- one more packet call; the count stops at its greatest value
 abbrev pub switch_call_counted : SwitchValue → SwitchValue
@@ -73,7 +73,7 @@ own_advert number boot seq up = record { origin = number; boot = boot; seq = seq
 abbrev pub HasSwitchAdvertUpTo : List (Option Advert) → ℕ → ℕ → ℕ → Type 0
 HasSwitchAdvertUpTo adverts number boot seq =
     (advert : Advert) → held_advert adverts number ≡ Some advert
-    → IsFalse (is_newer advert (own_advert number boot seq 0))
+    → IsFalse (is_newer_advert advert (own_advert number boot seq 0))
 
 -- what is true of each switch
 pub record IsSoundSwitch (s : SwitchValue) : Type 0 where

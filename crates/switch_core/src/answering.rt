@@ -2,7 +2,7 @@ ghost use Rattle.std.specs.Prelude.{◌≡◌, ◌+◌, ℕ, List, None, IsSomeA
 ghost use Rattle.policy_rules.specs.Hosted.{is_in_policy_partition};
 ghost use Rattle.policy_rules.specs.declared.packet.Leg.TheVariants.{Seek as SeekLeg};
 ghost use Rattle.switch_core.specs.Answers.{Answered};
-ghost use Rattle.switch_core.specs.Exports.{CanSwitchLookUp, IsSwitchAuthorityForLeg, IsSwitchFirstHit, IsSwitchFindingFirstHit, IsSwitchAnswerUncached, SwitchSite as SiteValue, SwitchStandsAtRoutePlace, admitted, switch_admitted_as, switch_answer_by_found, answer_of, switch_arrival_on_leg, switch_call_counted, switch_answer_by_rule, switch_answer_in_partition, holds_version, switch_incoming_packet, looked_up, own_part, packet_to_look_up, serves};
+ghost use Rattle.switch_core.specs.Exports.{CanSwitchLookUp, MaySwitchEndLeg, IsSwitchFirstHit, IsSwitchFindingFirstHit, IsSwitchAnswerUncached, SwitchSite as SiteValue, SwitchStandsAtRoutePlace, switch_admitted, switch_admitted_as, switch_answer_by_found, switch_arrival_by_forwarding, switch_arrival_on_leg, switch_call_counted, switch_answer_by_rule, switch_answer_in_partition, holds_version, switch_incoming_packet, switch_looked_up, switch_own_partition, switch_packet_to_look_up, serves};
 
 use crate::deciding::{Decision, switch_core_cache_word, switch_core_rule_in, switch_own_part};
 use crate::forwarding::Forwarding;
@@ -21,9 +21,9 @@ impl Switch {
         requires { CanSwitchLookUp self.old }
         ensures answer { (site : SiteValue) (number : ℕ) →
             switch_admitted_as self.new site (switch_incoming_packet self.old number h.now) result
-            ≡ option_map Answered (admitted self.old site (switch_incoming_packet self.old number h.now)) }
+            ≡ option_map Answered (switch_admitted self.old site (switch_incoming_packet self.old number h.now)) }
         ensures uncached { (site : SiteValue) (number : ℕ) →
-            IsSwitchAnswerUncached (admitted self.old site (switch_incoming_packet self.old number h.now)) }
+            IsSwitchAnswerUncached (switch_admitted self.old site (switch_incoming_packet self.old number h.now)) }
         ensures after { self.new ≡ switch_call_counted self.old }
     {
         if !self.serves() {
@@ -44,12 +44,12 @@ impl Switch {
         requires stamped { CanSwitchLookUp self.old }
         requires here { SwitchStandsAtRoutePlace self.old t.route.now t.place }
         requires last { slice_get t.route.now (t.place + 1) ≡ None }
-        requires authority { IsSwitchAuthorityForLeg self.old t.header.now t.leg }
+        requires authority { MaySwitchEndLeg self.old t.header.now t.leg }
         ensures answer { (site : SiteValue) (number : ℕ) (down : List ℕ) →
-            answer_of self.new site
-            (packet_to_look_up number t.entry.header.now t.entry.ingress down) result
+            switch_arrival_by_forwarding self.new site
+            (switch_packet_to_look_up number t.entry.header.now t.entry.ingress down) result
             ≡ switch_arrival_on_leg self.old site
-            (packet_to_look_up number t.entry.header.now t.entry.ingress down) t.entry.leg }
+            (switch_packet_to_look_up number t.entry.header.now t.entry.ingress down) t.entry.leg }
         ensures after { self.new ≡ switch_call_counted self.old }
     {
         match t.leg {
@@ -68,11 +68,11 @@ impl Switch {
     // Decides by the tables of this version if the switch has them, otherwise by a lookup.
     fn judge(&self, h: &Header, ingress: u32, version: u32, partition: u32) -> Forwarding
         requires stamped { IsTrue (holds_version self.now self.now.stamp) }
-        requires authority { IsSwitchAuthorityForLeg self.now h.now (SeekLeg version partition) }
+        requires authority { MaySwitchEndLeg self.now h.now (SeekLeg version partition) }
         ensures { (site : SiteValue) (number : ℕ) (down : List ℕ) →
-            answer_of self.now site (packet_to_look_up number h.now ingress down) result
+            switch_arrival_by_forwarding self.now site (switch_packet_to_look_up number h.now ingress down) result
             ≡ switch_arrival_on_leg self.now site
-            (packet_to_look_up number h.now ingress down) (SeekLeg version partition) }
+            (switch_packet_to_look_up number h.now ingress down) (SeekLeg version partition) }
     {
         match self.held_tables(version) {
             Some(tables) => self.decide_in(h, ingress, partition, tables),
@@ -81,12 +81,12 @@ impl Switch {
     }
 
     // Looks the header up under the switch's stamp.
-    #[tactic(auto, unfolding(crate::specs::Answering::looked_up))]
+    #[tactic(auto, unfolding(crate::specs::Answering::switch_looked_up))]
     fn look_up(&self, h: &Header, ingress: u32) -> Forwarding
         requires { IsTrue (holds_version self.now self.now.stamp) }
         ensures { (site : SiteValue) (number : ℕ) (down : List ℕ) →
-            answer_of self.now site (packet_to_look_up number h.now ingress down) result
-            ≡ Answered (looked_up self.now site (packet_to_look_up number h.now ingress down)) }
+            switch_arrival_by_forwarding self.now site (switch_packet_to_look_up number h.now ingress down) result
+            ≡ Answered (switch_looked_up self.now site (switch_packet_to_look_up number h.now ingress down)) }
     {
         let finder = self.stamp_tables().finder();
         // For the proof: the contract of `number` says that the header is below its bound.
@@ -100,9 +100,9 @@ impl Switch {
     fn by_found(&self, h: &Header, ingress: u32, tables: &Tables, found: &Found) -> Forwarding
         requires { IsSwitchFindingFirstHit tables.now h.now found.now }
         ensures { (site : SiteValue) (number : ℕ) (down : List ℕ) →
-            answer_of self.now site (packet_to_look_up number h.now ingress down) result
+            switch_arrival_by_forwarding self.now site (switch_packet_to_look_up number h.now ingress down) result
             ≡ Answered (switch_answer_by_found self.now site
-            (packet_to_look_up number h.now ingress down) tables.now found.now) }
+            (switch_packet_to_look_up number h.now ingress down) tables.now found.now) }
     {
         match found {
             Found::Cached(entry) => Forwarding::Decided {
@@ -132,12 +132,12 @@ impl Switch {
         partition: u32,
         tables: &SwitchKeptTables,
     ) -> Forwarding
-        requires { IsSomeAnd (own_part tables.now partition)
+        requires { IsSomeAnd (switch_own_partition tables.now partition)
             (λ part. IsTrue (is_in_policy_partition h.now part)) }
         ensures { (site : SiteValue) (number : ℕ) (down : List ℕ) →
-            answer_of self.now site (packet_to_look_up number h.now ingress down) result
+            switch_arrival_by_forwarding self.now site (switch_packet_to_look_up number h.now ingress down) result
             ≡ Answered (switch_answer_in_partition self.now site
-            (packet_to_look_up number h.now ingress down) partition tables.now) }
+            (switch_packet_to_look_up number h.now ingress down) partition tables.now) }
     {
         let place = tables.first_place(partition, h);
         let tables = tables.finder().tables();
@@ -158,9 +158,9 @@ impl Switch {
     ) -> Forwarding
         requires { IsSwitchFirstHit h.now part.now place }
         ensures { (site : SiteValue) (number : ℕ) (down : List ℕ) →
-            answer_of self.now site (packet_to_look_up number h.now ingress down) result
+            switch_arrival_by_forwarding self.now site (switch_packet_to_look_up number h.now ingress down) result
             ≡ Answered (switch_answer_by_rule self.now site
-            (packet_to_look_up number h.now ingress down) version part.now place) }
+            (switch_packet_to_look_up number h.now ingress down) version part.now place) }
     {
         let rule = switch_core_rule_in(part, place);
         Forwarding::Decided {

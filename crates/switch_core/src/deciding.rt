@@ -1,6 +1,6 @@
 ghost use Rattle.std.specs.Prelude.{◌≡◌, ◌<◌, ℕ, List, length};
 ghost use Rattle.std.specs.Option.{option_copied};
-ghost use Rattle.switch_core.specs.Deciding.{IsSwitchFirstHit, by_entry, by_rule, switch_cache_rule_sent, own_part, packet_to_look_up, switch_core_rule_in};
+ghost use Rattle.switch_core.specs.Deciding.{IsSwitchFirstHit, switch_decision_by_entry, switch_decision_by_rule, switch_cache_rule_sent, switch_own_partition, switch_packet_to_look_up, switch_core_rule_in};
 ghost use Rattle.switch_core.specs.Forwarding.{switch_core_cache_rule};
 
 use cache_maker::widen;
@@ -23,7 +23,7 @@ pub struct Decision {
 impl Decision {
     /// A decision by a cached rule.
     pub(crate) fn by_entry(entry: &CacheEntry) -> Decision
-        ensures { result ≡ by_entry entry.now }
+        ensures { result ≡ switch_decision_by_entry entry.now }
     {
         Decision {
             version: entry.version,
@@ -37,7 +37,7 @@ impl Decision {
 
     /// A decision by a rule of a partition of which this switch is an authority.
     pub(crate) fn by_rule(switch: u32, version: u32, partition: u32, rule: &Rule) -> Decision
-        ensures { result ≡ by_rule switch version partition rule.now }
+        ensures { result ≡ switch_decision_by_rule switch version partition rule.now }
     {
         Decision {
             version,
@@ -50,7 +50,7 @@ impl Decision {
 
 /// A switch's own partition of this number; `None` if it has none.
 pub fn switch_own_part(tables: &Tables, number: u32) -> Option<&Partition>
-    ensures { option_copied result ≡ own_part tables.now number }
+    ensures { option_copied result ≡ switch_own_partition tables.now number }
 {
     let parts = tables.auth.items();
     parts.iter().find(|part| part.number == number)
@@ -76,8 +76,8 @@ pub fn switch_core_cache_word(
 ) -> Option<Word>
     requires { IsSwitchFirstHit header.now part.now place }
     ensures { (number version : ℕ) (down : List ℕ) →
-        switch_core_cache_rule (by_rule switch version part.now.number (switch_core_rule_in part.now place)) result
-        ≡ switch_cache_rule_sent switch (packet_to_look_up number header.now ingress down) version part.now place }
+        switch_core_cache_rule (switch_decision_by_rule switch version part.now.number (switch_core_rule_in part.now place)) result
+        ≡ switch_cache_rule_sent switch (switch_packet_to_look_up number header.now ingress down) version part.now place }
 {
     if ingress == switch {
         return None;

@@ -1,8 +1,8 @@
 ghost use Rattle.std.specs.Prelude.{◌≡◌, IfErr, IfOk, None, Some, unwrap_or};
 ghost use Rattle.std.specs.Option.{option_copied};
 ghost use Rattle.base.specs.Refusals.{IfRefused};
-ghost use Rattle.failover.specs.Exports.{no_links, route_of};
-ghost use Rattle.switch_core.specs.Exports.{are_isolated, switch_stuck_cause};
+ghost use Rattle.failover.specs.Exports.{no_failover_links, route_of};
+ghost use Rattle.switch_core.specs.Exports.{are_switch_targets_isolated, switch_stuck_cause};
 
 use crate::switch::Switch;
 use base::{Failure, Shared};
@@ -28,11 +28,11 @@ impl Switch {
         targets: &Targets,
     ) -> Result<Shared<Route>, Failure<Cause>>
         ensures route { IfOk result (λ route. route_of self.old.database self.old.number
-            targets.now near (unwrap_or (option_copied down.entry) no_links) ≡ Some route) }
+            targets.now near (unwrap_or (option_copied down.entry) no_failover_links) ≡ Some route) }
         ensures refused { IfErr result (IfRefused (λ cause.
             (route_of self.old.database self.old.number targets.now near
-            (unwrap_or (option_copied down.entry) no_links) ≡ None)
-            × (cause ≡ switch_stuck_cause self.old near (unwrap_or (option_copied down.entry) no_links)
+            (unwrap_or (option_copied down.entry) no_failover_links) ≡ None)
+            × (cause ≡ switch_stuck_cause self.old near (unwrap_or (option_copied down.entry) no_failover_links)
             leg targets.now))) }
         ensures same { self.new ≡ self.old }
     {
@@ -48,7 +48,7 @@ impl Switch {
     #[inline(never)]
     fn why_stuck(&self, near: u64, down: Option<&DownSet>, leg: &Leg, targets: &Targets) -> Cause
         ensures { result ≡ switch_stuck_cause self.now near
-            (unwrap_or (option_copied down.entry) no_links) leg.now targets.now }
+            (unwrap_or (option_copied down.entry) no_failover_links) leg.now targets.now }
     {
         match down {
             None => self.cause(near, &DownSet::empty(), leg, targets),
@@ -69,9 +69,9 @@ impl Switch {
     }
 
     // Whether each of these is another switch, at which no known link ends.
-    #[tactic(auto, unfolding(crate::specs::Ends::are_isolated))]
+    #[tactic(auto, unfolding(crate::specs::Ends::are_switch_targets_isolated))]
     fn are_isolated(&self, near: u64, down: &DownSet, targets: &[u32]) -> bool
-        ensures { result ≡ are_isolated self.now near down.now targets.now }
+        ensures { result ≡ are_switch_targets_isolated self.now near down.now targets.now }
     {
         let database = self.database.database();
         targets.iter().all(|target| database.isolated(self.number, *target, near, down))

@@ -1,8 +1,8 @@
 ghost use Rattle.std.specs.Prelude.{◌≡◌, ◌<◌, [], ◌∷◌, OnErr, OnOk, IfOk};
 ghost use Rattle.switch_table.specs.Tables.{AreSoundSwitchTables};
 ghost use Rattle.ctrl_msg.specs.declared.message.Body.TheVariants.{Advertise};
-ghost use Rattle.ctrl_msg.specs.Kinds.{to_controller};
-ghost use Rattle.switch_core.specs.Hearing.{IsSoundSwitchBody, switch_collected_to, switch_flood, switch_with_message, switch_after_advert, switch_with_installed, is_news_to_switch, switch_with_learnt, obeys, switch_opening_stamp, switch_opened_with, opened_by, switch_stamp_raised_to, replies, replies_to, switch_stamped_with};
+ghost use Rattle.ctrl_msg.specs.Kinds.{message_to_controller};
+ghost use Rattle.switch_core.specs.Hearing.{IsSoundSwitchBody, switch_collected_to, switch_flood, switch_with_message, switch_after_advert, switch_with_installed, is_news_to_switch, switch_with_learnt, switch_obeys, switch_opening_stamp, switch_opened_with, switch_opened_by, switch_stamp_raised_to, replies, switch_replies_to, switch_stamped_with};
 
 use crate::kept::SwitchKeptTables;
 use crate::switch::Switch;
@@ -77,9 +77,9 @@ impl Switch {
     }
 
     // Whether the switch is up, and the body is for a switch, of this boot if it carries one.
-    #[tactic(auto, unfolding(crate::specs::Hearing::obeys))]
+    #[tactic(auto, unfolding(crate::specs::Hearing::switch_obeys))]
     fn obeys(&self, body: &Body) -> bool
-        ensures { result ≡ obeys self.now body.now }
+        ensures { result ≡ switch_obeys self.now body.now }
     {
         self.is_up
             && !body.is_for_controller()
@@ -91,7 +91,7 @@ impl Switch {
 
     // What the switch sends in reply to a body that it obeys.
     fn replies_to(&self, alloc: Global, body: &Body, near: u64) -> Result<Replies, AllocError>
-        ensures { IfOk result (λ list. list ≡ replies_to self.now near body.now) }
+        ensures { IfOk result (λ list. list ≡ switch_replies_to self.now near body.now) }
     {
         match body {
             Body::Install { tables, .. } => one_switch_reply(
@@ -117,7 +117,7 @@ impl Switch {
 
     // The stamp with which the body opens the switch; `None` if it doesn't open it.
     fn opened_by(&self, body: &Body) -> Option<u32>
-        ensures { result ≡ opened_by self.now body.now }
+        ensures { result ≡ switch_opened_by self.now body.now }
     {
         match body {
             Body::OpenAt { version, .. } if !self.is_open => Some(self.stamp.max(*version)),
@@ -212,7 +212,7 @@ impl Switch {
 
 // A message for the controller.
 fn switch_message_to_controller(body: Body) -> Message
-    ensures { result ≡ to_controller body }
+    ensures { result ≡ message_to_controller body }
 {
     Message {
         to: Place::Controller,

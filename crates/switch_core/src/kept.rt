@@ -1,7 +1,7 @@
 ghost use Rattle.std.specs.Prelude.{◌≡◌, IfOk, IsSomeAnd, IsTrue};
 ghost use Rattle.policy_rules.specs.Hosted.{is_in_policy_partition};
 ghost use Rattle.switch_table.specs.Tables.{AreSoundSwitchTables};
-ghost use Rattle.switch_core.specs.Deciding.{IsSwitchFirstHit, switch_own_rule_place, own_part, switch_core_partition_numbered};
+ghost use Rattle.switch_core.specs.Deciding.{IsSwitchFirstHit, switch_own_rule_place, switch_own_partition, switch_core_partition_numbered};
 
 use ctrl_msg::SharedTables;
 use five_tuple::Header;
@@ -53,7 +53,7 @@ impl SwitchKeptTables {
 
     /// The place of the first rule that holds the header, in the own partition of this number.
     pub fn first_place(&self, partition: u32, header: &Header) -> u32
-        requires { IsSomeAnd (own_part self.now partition) (λ part. IsTrue (is_in_policy_partition header.now part)) }
+        requires { IsSomeAnd (switch_own_partition self.now partition) (λ part. IsTrue (is_in_policy_partition header.now part)) }
         ensures place { result ≡ switch_own_rule_place header.now (switch_core_partition_numbered self.now partition) }
         ensures first { IsSwitchFirstHit header.now (switch_core_partition_numbered self.now partition) result }
     {

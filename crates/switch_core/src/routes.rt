@@ -1,6 +1,6 @@
 ghost use Rattle.std.specs.Prelude.{◌≡◌, ◌∷◌, [], All, IfOk, IfSome, Some, unwrap_or};
 ghost use Rattle.std.specs.Option.{option_copied};
-ghost use Rattle.failover.specs.Exports.{adverts_after_hearing, is_news, no_adverts, no_links, route_of};
+ghost use Rattle.failover.specs.Exports.{adverts_after_hearing, is_advert_news, no_adverts, no_failover_links, route_of};
 ghost use Rattle.switch_core.specs.Routes.{IsSwitchRouteBy};
 
 use base::Shared;
@@ -62,7 +62,7 @@ impl SwitchRoutes {
 
     /// Keeps the advert if it is news, as `Database::hear` does, and drops the kept routes.
     pub fn hear(&mut self, advert: &Advert) -> bool
-        ensures news { result ≡ is_news self.old advert.now }
+        ensures news { result ≡ is_advert_news self.old advert.now }
         ensures after { self.new ≡ adverts_after_hearing self.old advert.now }
     {
         self.kept.clear();
@@ -91,7 +91,7 @@ impl SwitchRoutes {
         down: Option<&DownSet>,
     ) -> Result<Option<Shared<Route>>, AllocError>
         ensures route { IfOk result (λ found. found ≡ route_of self.old from targets.now near
-            (unwrap_or (option_copied down.entry) no_links)) }
+            (unwrap_or (option_copied down.entry) no_failover_links)) }
         ensures same { self.new ≡ self.old }
     {
         if let Some(links) = down {
@@ -106,7 +106,7 @@ impl SwitchRoutes {
     // The kept route to this target; `None` if there is none.
     fn kept_route(&self, from: u32, target: u32, near: u64) -> Option<&Shared<Route>>
         ensures { IfSome result (λ route.
-            route_of self.now from (target ∷ []) near no_links ≡ Some route.now) }
+            route_of self.now from (target ∷ []) near no_failover_links ≡ Some route.now) }
     {
         for way in &self.kept {
             if way.target == target && way.near == near && way.from == from {
@@ -127,7 +127,7 @@ impl SwitchRoutes {
         near: u64,
     ) -> Result<Option<Shared<Route>>, AllocError>
         ensures route { IfOk result (λ found. found ≡ route_of self.old from targets.now near
-            no_links) }
+            no_failover_links) }
         ensures same { self.new ≡ self.old }
     {
         let target = targets.items()[0];

@@ -2,7 +2,7 @@ ghost use Rattle.std.specs.Prelude.{◌≡◌, ◌<◌, IfOk, IfSome, IsTrue};
 ghost use Rattle.std.specs.Option.{option_copied};
 ghost use Rattle.failover.specs.Adverts.{held_advert};
 ghost use Rattle.switch_table.specs.Tables.{AreSoundSwitchTables};
-ghost use Rattle.switch_core.specs.State.{HasSwitchAdvertUpTo, IsSoundSwitch, new_switch, switch_call_counted, held_tables, holds_version, serves, stamp_tables};
+ghost use Rattle.switch_core.specs.State.{HasSwitchAdvertUpTo, IsSoundSwitch, new_switch, switch_call_counted, switch_held_tables, holds_version, serves, switch_stamp_tables};
 
 use crate::kept::SwitchKeptTables;
 use crate::routes::SwitchRoutes;
@@ -140,7 +140,7 @@ impl Switch {
 
     /// The tables of this version; `None` if it doesn't have them.
     pub(crate) fn held_tables(&self, version: u32) -> Option<&SwitchKeptTables>
-        ensures { option_copied result ≡ held_tables self.now version }
+        ensures { option_copied result ≡ switch_held_tables self.now version }
     {
         self.tables.iter().find(|kept| kept.version() == version)
     }
@@ -148,7 +148,7 @@ impl Switch {
     /// The tables of the version that is its stamp.
     pub(crate) fn stamp_tables(&self) -> &SwitchKeptTables
         requires { IsTrue (holds_version self.now self.now.stamp) }
-        ensures { result.now ≡ stamp_tables self.now }
+        ensures { result.now ≡ switch_stamp_tables self.now }
     {
         self.held_tables(self.stamp).unwrap()
     }

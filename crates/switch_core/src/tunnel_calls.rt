@@ -5,7 +5,7 @@ ghost use Rattle.std.specs.Prelude.{◌≡◌, ◌∷◌, [], IsTrue, None};
 ghost use Rattle.policy_rules.specs.declared.packet.Leg.TheVariants.{Exit as ExitLeg};
 ghost use Rattle.tunnel.specs.Moves.{next};
 ghost use Rattle.switch_core.specs.Answers.{Answered};
-ghost use Rattle.switch_core.specs.Exports.{Answer, CanSwitchLookUp, IsSwitchAuthorityForLeg, IsSwitchLookupForwarding, IsSwitchAnswerUncached, SwitchStandsAtRoutePlace, admitted, answer_of, around, switch_arrival_of, arrive_answer, switch_core_cache_rule, switch_call_counted, enter_answer, switch_entered_with, switch_exit_by_tunnel, switch_hop_answer, switch_incoming_packet, switch_found_link_down, next_of, switch_packet_of, switch_rerouted_here, serves, set_out, switch_site_of};
+ghost use Rattle.switch_core.specs.Exports.{SwitchAnswer, CanSwitchLookUp, MaySwitchEndLeg, IsSwitchLookupForwarding, IsSwitchAnswerUncached, SwitchStandsAtRoutePlace, switch_admitted, switch_arrival_by_forwarding, switch_site_around, switch_arrival_of, arrive_answer, switch_core_cache_rule, switch_call_counted, enter_answer, switch_entered_with, switch_exit_by_tunnel, switch_hop_answer, switch_incoming_packet, switch_found_link_down, switch_next_of, switch_packet_of, switch_rerouted_here, serves, switch_set_out, switch_site_of};
 
 use crate::deciding::Decision;
 use crate::forwarding::Forwarding;
@@ -102,10 +102,10 @@ impl Switch {
     pub fn enter(&mut self, packet: u32, h: &Header, near: u64, ports: &Ports) -> Entered
         requires { CanSwitchLookUp self.old }
         ensures answer { result
-            ≡ enter_answer self.old (around near ports.now)
+            ≡ enter_answer self.old (switch_site_around near ports.now)
             (switch_incoming_packet self.old packet h.now) }
         ensures uncached { IsSwitchAnswerUncached
-            (admitted self.old (around near ports.now) (switch_incoming_packet self.old packet h.now)) }
+            (switch_admitted self.old (switch_site_around near ports.now) (switch_incoming_packet self.old packet h.now)) }
         ensures after { self.new ≡ switch_call_counted self.old }
     {
         let packet = Packet {
@@ -126,14 +126,14 @@ impl Switch {
     /// `switch_core_lookup_laws` say how.
     ///
     /// `near` has a bit for each switch to which there is a usable link.
-    #[tactic(auto, unfolding(crate::specs::Answering::received))]
+    #[tactic(auto, unfolding(crate::specs::Answering::switch_received))]
     pub fn arrive(&mut self, t: &Tunnel, near: u64, ports: &Ports) -> Arrived
         requires serving { IsTrue (serves self.old) }
         requires stamped { CanSwitchLookUp self.old }
         requires here { SwitchStandsAtRoutePlace self.old t.now.route t.now.place }
         requires last { next t.now ≡ None }
-        requires authority { IsSwitchAuthorityForLeg self.old t.now.header t.now.leg }
-        ensures answer { result ≡ arrive_answer self.old (around near ports.now) t.now }
+        requires authority { MaySwitchEndLeg self.old t.now.header t.now.leg }
+        ensures answer { result ≡ arrive_answer self.old (switch_site_around near ports.now) t.now }
         ensures after { self.new ≡ switch_call_counted self.old }
     {
         let forwarding = self.receive(Arriving {
@@ -204,8 +204,8 @@ impl Switch {
     /// The result for a packet that enters, with this forwarding.
     fn answer_entry(&self, site: SwitchSite, packet: &Packet, forwarding: Forwarding) -> Entered
         requires { IsSwitchLookupForwarding forwarding }
-        ensures { (answer : Answer)
-            → answer_of self.now (switch_site_of site.entry) packet.now forwarding ≡ Answered answer
+        ensures { (answer : SwitchAnswer)
+            → switch_arrival_by_forwarding self.now (switch_site_of site.entry) packet.now forwarding ≡ Answered answer
             → result ≡ switch_entered_with answer }
     {
         match forwarding {
@@ -226,7 +226,7 @@ impl Switch {
     /// The result for a packet at the end of its route, with this forwarding.
     fn answer_arrival(&self, site: SwitchSite, packet: &Packet, forwarding: Forwarding) -> Arrived
         ensures { result
-            ≡ switch_arrival_of (answer_of self.now (switch_site_of site.entry) packet.now forwarding) }
+            ≡ switch_arrival_of (switch_arrival_by_forwarding self.now (switch_site_of site.entry) packet.now forwarding) }
     {
         match forwarding {
             Forwarding::Out(port) => Arrived::Out(port),
@@ -245,9 +245,9 @@ impl Switch {
     }
 
     // Where a packet moves that this action decides.
-    #[tactic(auto, unfolding(crate::specs::Ends::next_of, crate::specs::Ends::switch_leave_by_port))]
+    #[tactic(auto, unfolding(crate::specs::Ends::switch_next_of, crate::specs::Ends::switch_leave_by_port))]
     fn next(&self, site: SwitchSite, packet: &Packet, action: Action) -> Next
-        ensures { result ≡ next_of self.now (switch_site_of site.entry) packet.now action }
+        ensures { result ≡ switch_next_of self.now (switch_site_of site.entry) packet.now action }
     {
         match action {
             Action::Drop => Next::Dropped,
@@ -261,7 +261,7 @@ impl Switch {
 
     // To the switch of its port.
     fn exit(&self, near: u64, packet: &Packet, port: u32, owner: u32) -> Next
-        ensures { result ≡ switch_exit_by_tunnel (set_out self.now near packet.now (ExitLeg port) (owner ∷ [])) }
+        ensures { result ≡ switch_exit_by_tunnel (switch_set_out self.now near packet.now (ExitLeg port) (owner ∷ [])) }
     {
         let targets = Targets::new(&[owner]).unwrap();
         match self.set_out(near, packet, Leg::Exit { port }, &targets) {
@@ -274,7 +274,7 @@ impl Switch {
     ///
     /// # Errors
     /// Why there is no route.
-    #[tactic(auto, unfolding(crate::specs::Ends::set_out))]
+    #[tactic(auto, unfolding(crate::specs::Ends::switch_set_out))]
     fn set_out(
         &self,
         near: u64,
@@ -282,7 +282,7 @@ impl Switch {
         leg: Leg,
         targets: &Targets,
     ) -> Result<Tunnel, Cause>
-        ensures { result ≡ set_out self.now near packet.now leg targets.now }
+        ensures { result ≡ switch_set_out self.now near packet.now leg targets.now }
     {
         let database = self.database.database();
         match database.route(self.number, targets, near, &packet.down) {

@@ -1,7 +1,7 @@
 -- What each call keeps of a cache.
 use Rattle.std.proofs.Common.{[], ◌++◌, ◌+◌, ◌<◌, ◌∷◌, ◌≡◌, ◌≤◌, List, ap, arith, drop, false, inl, inr, le-ltb, length, length-append, lt-ltb, nat_lt, refl, remove, suc, zero, ℕ, rules}
 use Rattle.base.proofs.Exports.{AllPairs-filter, all_pairs_remove, cases_lt, count_by-le-length, length-filter, length-remove, list_any}
-use Rattle.switch_table.specs.Exports.{CacheValue, HaveDistinctCacheKeys, IsCache, cache_after_accept, cache_after_clear, after_expire, cache_after_raise, newest_cache_entries, same_key}
+use Rattle.switch_table.specs.Exports.{CacheValue, HaveDistinctCacheKeys, IsCache, cache_after_accept, cache_after_clear, cache_after_expire, cache_after_raise, newest_cache_entries, same_cache_key}
 use Rattle.switch_table.specs.declared.cache.CacheEntry.{CacheEntry}
 use Rattle.switch_table.proofs.CachePairs.{none_distinct, push_distinct, rest_distinct}
 
@@ -23,10 +23,10 @@ remove_past (x ∷ xs) zero past = absurd (omega arith)
 remove_past (x ∷ xs) (suc place) past = ap (λ rest. x ∷ rest) (remove_past xs place (omega arith))
 
 pub cache_expired : (place : ℕ) (cache : CacheValue) → IsCache cache
-    → IsCache (after_expire place cache)
+    → IsCache (cache_after_expire place cache)
 cache_expired place cache is = elim (cases_lt place (length cache.entries)) [
   | inl within ↦ record {
-    distinct = all_pairs_remove (λ a b. same_key a b ≡ false) cache.entries place within
+    distinct = all_pairs_remove (λ a b. same_cache_key a b ≡ false) cache.entries place within
         is.distinct;
     few = omega (arith, length-remove cache.entries place within, is.few);
   }
@@ -48,7 +48,7 @@ cache_accepted stamp entry cache is = search (rules, newest_is, push_distinct, l
 
 -- a new entry of a full cache evicts the first one
 pub first_evicted : (stamp : ℕ) (entry : CacheEntry) (cache : CacheValue)
-    → nat_lt entry.version stamp ≡ false → list_any (same_key entry) cache.entries ≡ false
+    → nat_lt entry.version stamp ≡ false → list_any (same_cache_key entry) cache.entries ≡ false
     → cache.capacity < length (cache.entries ++ entry ∷ [])
     → record { entries = drop 1 (cache.entries ++ entry ∷ []); capacity = cache.capacity }
     ≡ cache_after_accept stamp entry cache

@@ -2,7 +2,7 @@
 use Rattle.std.proofs.Common.{[], ◌&&◌, ◌++◌, ◌+◌, ◌-◌, ◌<◌, ◌^◌, ◌∙◌, ◌∷◌, ◌≡◌, ◌≢◌, Bool, List, None, Some, ap, arith, cond, false, filter, inl, inr, ne_eqb, refl, set, slice_get, subst, suc, sym, true, zero, ℕ, rules}
 use Rattle.base.proofs.Exports.{false≢true, lookup, none-some}
 use Rattle.ternary.specs.Exports.{word_eq}
-use Rattle.switch_table.specs.Exports.{AreCacheSlotsNamed, IsCacheSlotNamed, SlotPair, equal_cache_keys, is_live, killed_cache_slot}
+use Rattle.switch_table.specs.Exports.{AreCacheSlotsNamed, IsCacheSlotNamed, SlotPair, equal_cache_keys, is_live_cache_slot, killed_cache_slot}
 use Rattle.switch_table.specs.declared.key.CacheKey.{CacheKey}
 
 named_at : (n : ℕ) (slots : List SlotPair) (at : ℕ) (slot : SlotPair) → AreCacheSlotsNamed n slots →
@@ -39,7 +39,7 @@ named_pushed n (x ∷ xs) slot named small = (named.0, named_pushed (suc n) xs s
 
 -- where none but live ones are kept, these may have other places
 pub named_kept : (keep : SlotPair → Bool) →
-    ((slot : SlotPair) → keep slot ≡ true → is_live slot ≡ true) → (n m : ℕ)
+    ((slot : SlotPair) → keep slot ≡ true → is_live_cache_slot slot ≡ true) → (n m : ℕ)
     (slots : List SlotPair) → AreCacheSlotsNamed n slots → AreCacheSlotsNamed m (filter keep slots)
 unfolding AreCacheSlotsNamed
 named_kept keep lives n m [] named = tt

@@ -3,7 +3,7 @@ use Rattle.std.proofs.Common.{[], ◌++◌, ◌<◌, ◌^◌, ◌∙◌, ◌∷�
 use Rattle.base.proofs.Exports.{AllByRecursion, IsDistinct, cons_option, count_by-le-length, filter_map-append, get_or-map, get_or_append_left, get_or_from_slice_get, keys_of, length-filter, length-map, length_push, lookup, map_push, none-some, position_or_len, put_last, same_Some, slice_get-get_or, slice_get-map, slice_get_within, take-append-le, take-map, values_of}
 use Rattle.indexmap.proofs.MapLemmas.{Found-position}
 use Rattle.ternary.specs.Exports.{WordValue, word_eq}
-use Rattle.switch_table.specs.Exports.{AreCacheLiveCounts, AreCacheSlotsNamed, AreCacheSlots, CountLiveCachePlaces, HaveOwnCacheKeys, Pair, SlotPair, cache_live_count_set, equal_cache_keys, cache_live_flags_of, cache_has_key, is_live, live_cache_pair, live_cache_pairs}
+use Rattle.switch_table.specs.Exports.{AreCacheLiveCounts, AreCacheSlotsNamed, AreCacheSlots, CountLiveCachePlaces, HaveOwnCacheKeys, KeyedCacheEntry, SlotPair, cache_live_count_set, equal_cache_keys, cache_live_flags_of, cache_has_key, is_live_cache_slot, live_cache_pair, live_cache_pairs}
 use Rattle.switch_table.specs.declared.key.CacheKey.{CacheKey}
 use Rattle.switch_table.specs.declared.key.LearntEntry.{LearntEntry}
 use Rattle.switch_table.specs.declared.key.Slot.{Slot}
@@ -22,7 +22,7 @@ equal_keys_same a b is = search (rules, words_same, eqb-true)
 -- ---- counts and keys of live slots
 
 -- the pairs of a slot that is live or not, and of those behind it
-abbrev with_slot : Bool → SlotPair → List Pair → List Pair
+abbrev with_slot : Bool → SlotPair → List KeyedCacheEntry → List KeyedCacheEntry
 with_slot live slot pairs = cons_option (cond live (Some (slot.0, slot.1.learnt)) None) pairs
 
 pub count_live : (slots : List SlotPair) → cache_live_count_set (cache_live_flags_of slots) ≡ length (live_cache_pairs slots)
@@ -39,7 +39,7 @@ count_live slots = sym (length-filter (λ flag. flag) (cache_live_flags_of slots
     by_case false rest = rest
 
 pub live_fit : (slots : List SlotPair) → length (live_cache_pairs slots) ≤ length slots
-live_fit slots = omega (arith, count_live slots, count_by-le-length, length-map slots is_live)
+live_fit slots = omega (arith, count_live slots, count_by-le-length, length-map slots is_live_cache_slot)
 
 abbrev AreApart : CacheKey → List CacheKey → Type 0
 AreApart key keys = AllByRecursion (λ other. equal_cache_keys key other ≡ false) keys
@@ -154,7 +154,7 @@ rekeyed place key slot taken slots more new dead slot_is more_is taken_is new_is
     by_case : (here : Option SlotPair) → slice_get slots place ≡ here →
         IsRekeyed place key taken slots new
     by_case None at = absurd (none-some false
-        (sym (slice_get-map is_live slots place ∙ ap (option_map is_live) at) ∙ dead))
+        (sym (slice_get-map is_live_cache_slot slots place ∙ ap (option_map is_live_cache_slot) at) ∙ dead))
     by_case (Some pair) at =
         let within = slice_get_within slots place pair at in
         let last = (key, slot) ∷ [] in
@@ -167,8 +167,8 @@ rekeyed place key slot taken slots more new dead slot_is more_is taken_is new_is
         ∙ ap (option_map (λ (p : SlotPair). p.1)) at) in record {
           pair = pair;
           at = at;
-          dead = same_Some (is_live pair) false (sym (slice_get-map is_live slots place
-              ∙ ap (option_map is_live) at) ∙ dead);
+          dead = same_Some (is_live_cache_slot pair) false (sym (slice_get-map is_live_cache_slot slots place
+              ∙ ap (option_map is_live_cache_slot) at) ∙ dead);
           taken_is = is;
           new_is = rw is at new_is ∙ ap (λ some. swap_remove some place pair) more_is
               ∙ put_last slots (key, slot) place pair within
@@ -181,19 +181,19 @@ pub same_flags : (live : LiveCacheCounts) (first : ℕ) (old new : List SlotPair
     AreCacheSlots live first new
 same_flags live first old new same named are =
     let front : cache_live_flags_of (take first new) ≡ cache_live_flags_of (take first old) =
-    sym (take-map is_live first new) ∙ ap (take first) same ∙ take-map is_live first old in record {
+    sym (take-map is_live_cache_slot first new) ∙ ap (take first) same ∙ take-map is_live_cache_slot first old in record {
       within = omega
-          (arith, are.within, ap length same, length-map old is_live, length-map new is_live);
+          (arith, are.within, ap length same, length-map old is_live_cache_slot, length-map new is_live_cache_slot);
       dead = λ k d less. let fits : k < length (take first old) = omega (
         arith,
         less,
         ap length front,
-        length-map (take first old) is_live,
-        length-map (take first new) is_live,
+        length-map (take first old) is_live_cache_slot,
+        length-map (take first new) is_live_cache_slot,
       ) in
-          sym (get_or-map is_live (take first new) k d false less)
+          sym (get_or-map is_live_cache_slot (take first new) k d false less)
           ∙ ap (λ flags. get_or flags k false) front
-          ∙ get_or-map is_live (take first old) k d false fits ∙ are.dead k d fits;
+          ∙ get_or-map is_live_cache_slot (take first old) k d false fits ∙ are.dead k d fits;
       counted = subst (AreCacheLiveCounts live) (sym same) are.counted;
       named = named;
     }
@@ -205,12 +205,12 @@ with_counts live more first slots are counts = search rules
 
 -- ---- a sweep
 
-pub swept_pairs : (slots : List SlotPair) → live_cache_pairs (filter is_live slots) ≡ live_cache_pairs slots
+pub swept_pairs : (slots : List SlotPair) → live_cache_pairs (filter is_live_cache_slot slots) ≡ live_cache_pairs slots
 swept_pairs [] = refl
 swept_pairs (slot ∷ slots) = search (rules, swept_pairs slots)
 
 pub swept_flags : (slots : List SlotPair) →
-    cache_live_flags_of (filter is_live slots) ≡ replicate (length (filter is_live slots)) true
+    cache_live_flags_of (filter is_live_cache_slot slots) ≡ replicate (length (filter is_live_cache_slot slots)) true
 swept_flags [] = refl
 swept_flags (slot ∷ slots) = search (rules, swept_flags slots)
 
@@ -221,7 +221,7 @@ swept_slots live slots are named = search (rules, length-take-le)
 pub room_of : (live : LiveCacheCounts) (slots : List SlotPair) (places : ℕ) →
     AreCacheLiveCounts live (cache_live_flags_of slots) → places ≤ length slots → CountLiveCachePlaces live places
 room_of live slots places are within =
-    omega (arith, are.blocks.room, length-map slots is_live, within)
+    omega (arith, are.blocks.room, length-map slots is_live_cache_slot, within)
 
 -- ---- a push
 

@@ -2,7 +2,7 @@
 use Rattle.std.proofs.Common.{[], ◌&&◌, ◌*◌, ◌+◌, ◌<◌, ◌∙◌, ◌∷◌, ◌≡◌, ◌≤◌, ◌⊎◌, All, Bool, IsFalse, List, None, Some, ap, arith, cond, drop, false, filter, get_or, inl, inr, length, length-set, map, option_map, refl, remove, replicate, set, slice_get, subst, suc, sym, take, true, zero, ℕ, rules}
 use Rattle.base.proofs.Exports.{All-cons, All-head, All-nil, All-tail, cons_option, none-some, slice_get-get_or, slice_get-map, slice_get_within, sum_by-cons, sum_by-take-drop, sum_by-take-le, take-map, values_of}
 use Rattle.indexmap.specs.Layout.{set_value_at}
-use Rattle.switch_table.specs.Exports.{AreCacheLiveCounts, AreCacheSlotsNamed, AreCacheSlots, IsNthLiveCacheFlag, Pair, SlotPair, cache_live_count_set, cache_live_flags_of, is_live, killed_cache_slot, live_cache_pair, live_cache_pairs}
+use Rattle.switch_table.specs.Exports.{AreCacheLiveCounts, AreCacheSlotsNamed, AreCacheSlots, IsNthLiveCacheFlag, KeyedCacheEntry, SlotPair, cache_live_count_set, cache_live_flags_of, is_live_cache_slot, killed_cache_slot, live_cache_pair, live_cache_pairs}
 use Rattle.switch_table.specs.declared.key.CacheKey.{CacheKey}
 use Rattle.switch_table.specs.declared.key.Slot.{Slot}
 use Rattle.switch_table.specs.declared.live.LiveCacheCounts.{LiveCacheCounts}
@@ -21,7 +21,7 @@ flag_of slot = slot.is_live
 
 pub flags_values : (slots : List SlotPair) → map flag_of (values_of slots) ≡ cache_live_flags_of slots
 flags_values [] = refl
-flags_values (slot ∷ slots) = ap (λ flags. is_live slot ∷ flags) (flags_values slots)
+flags_values (slot ∷ slots) = ap (λ flags. is_live_cache_slot slot ∷ flags) (flags_values slots)
 
 -- a live slot that is met once so many live ones are past
 pub nth_here : (slots : List Slot) (before left place : ℕ) (d : Slot) → place < length slots
@@ -48,14 +48,14 @@ pub nth_behind : (start left before at : ℕ) (flags : List Bool) → IsStart st
 nth_behind start left before at flags begins nth = search (rules, slice_get_behind, count_both)
 
 abbrev pub IsDead : SlotPair → Type 0
-IsDead slot = IsFalse (is_live slot)
+IsDead slot = IsFalse (is_live_cache_slot slot)
 
 pub none_before : (first : ℕ) (slots : List SlotPair) → All IsDead (take first slots) →
     cache_live_count_set (take first (cache_live_flags_of slots)) ≡ 0
 none_before zero slots dead = refl
 none_before (suc first) [] dead = refl
 none_before (suc first) (slot ∷ slots) dead =
-    count_cons (is_live slot) (take first (cache_live_flags_of slots))
+    count_cons (is_live_cache_slot slot) (take first (cache_live_flags_of slots))
     ∙ ap (λ flag. cond flag 1 0 + cache_live_count_set (take first (cache_live_flags_of slots)))
     (All-head IsDead slot (take first slots) dead)
     ∙ omega (arith, none_before first slots (All-tail IsDead slot (take first slots) dead))
@@ -65,13 +65,13 @@ dead_before : (at : ℕ) (slots : List SlotPair) → cache_live_count_set (take 
 dead_before zero slots none = All-nil IsDead
 dead_before (suc at) [] none = All-nil IsDead
 dead_before (suc at) (slot ∷ slots) none =
-    by_case (is_live slot) refl (sym (count_cons (is_live slot) (take at (cache_live_flags_of slots))) ∙ none)
+    by_case (is_live_cache_slot slot) refl (sym (count_cons (is_live_cache_slot slot) (take at (cache_live_flags_of slots))) ∙ none)
     (λ rest. dead_before at slots rest)
   where
     n : ℕ
     n = cache_live_count_set (take at (cache_live_flags_of slots))
 
-    by_case : (flag : Bool) → is_live slot ≡ flag → cond flag 1 0 + n ≡ 0 →
+    by_case : (flag : Bool) → is_live_cache_slot slot ≡ flag → cond flag 1 0 + n ≡ 0 →
         (n ≡ 0 → All IsDead (take at slots)) → All IsDead (slot ∷ take at slots)
     by_case true live some rest = absurd (omega (arith, some))
     by_case false dead some rest =
@@ -111,16 +111,16 @@ live_at : (slots : List SlotPair) (at : ℕ) (slot : SlotPair) → slice_get slo
 live_at [] at slot there live = absurd (none-some slot there)
 live_at (x ∷ xs) zero slot there live = search (rules, pair_of_live)
 live_at (x ∷ xs) (suc at) slot there live =
-    ap (slice_get (live_cache_pairs (x ∷ xs))) (count_cons (is_live x) (take at (cache_live_flags_of xs)))
-    ∙ by_case (is_live x) (live_at xs at slot there live)
+    ap (slice_get (live_cache_pairs (x ∷ xs))) (count_cons (is_live_cache_slot x) (take at (cache_live_flags_of xs)))
+    ∙ by_case (is_live_cache_slot x) (live_at xs at slot there live)
   where
     n : ℕ
     n = cache_live_count_set (take at (cache_live_flags_of xs))
 
-    pair : Pair
+    pair : KeyedCacheEntry
     pair = (slot.0, slot.1.learnt)
 
-    first : Pair
+    first : KeyedCacheEntry
     first = (x.0, x.1.learnt)
 
     by_case : (b : Bool) → slice_get (live_cache_pairs xs) n ≡ Some pair →
@@ -137,16 +137,16 @@ live_killed : (slots : List SlotPair) (at : ℕ) (slot : SlotPair) → slice_get
 live_killed [] at slot there live = absurd (none-some slot there)
 live_killed (x ∷ xs) zero slot there live = search (rules, pair_of_live)
 live_killed (x ∷ xs) (suc at) slot there live =
-    by_case (is_live x) (live_killed xs at slot there live)
-    ∙ ap (remove (live_cache_pairs (x ∷ xs))) (sym (count_cons (is_live x) (take at (cache_live_flags_of xs))))
+    by_case (is_live_cache_slot x) (live_killed xs at slot there live)
+    ∙ ap (remove (live_cache_pairs (x ∷ xs))) (sym (count_cons (is_live_cache_slot x) (take at (cache_live_flags_of xs))))
   where
     n : ℕ
     n = cache_live_count_set (take at (cache_live_flags_of xs))
 
-    first : Pair
+    first : KeyedCacheEntry
     first = (x.0, x.1.learnt)
 
-    left : List Pair
+    left : List KeyedCacheEntry
     left = live_cache_pairs (set xs at (killed_cache_slot slot))
 
     by_case : (b : Bool) → left ≡ remove (live_cache_pairs xs) n →
@@ -160,7 +160,7 @@ flags_killed : (slots : List SlotPair) (at : ℕ) (slot : SlotPair) →
     cache_live_flags_of (set slots at (killed_cache_slot slot)) ≡ set (cache_live_flags_of slots) at false
 flags_killed [] at slot = refl
 flags_killed (x ∷ xs) zero slot = refl
-flags_killed (x ∷ xs) (suc at) slot = ap (λ flags. is_live x ∷ flags) (flags_killed xs at slot)
+flags_killed (x ∷ xs) (suc at) slot = ap (λ flags. is_live_cache_slot x ∷ flags) (flags_killed xs at slot)
 
 dead_killed : (first : ℕ) (slots : List SlotPair) (at : ℕ) (slot : SlotPair) →
     All IsDead (take first slots) → All IsDead (take first (set slots at (killed_cache_slot slot)))
@@ -177,9 +177,9 @@ dead_killed (suc first) (x ∷ xs) (suc at) slot dead = All-cons IsDead x
 module _ (test : CacheKey → Bool) where
   -- the live slots whose keys pass
   abbrev pub is_kept : SlotPair → Bool
-  is_kept slot = is_live slot && test slot.0
+  is_kept slot = is_live_cache_slot slot && test slot.0
 
-  abbrev passes : Pair → Bool
+  abbrev passes : KeyedCacheEntry → Bool
   passes pair = test pair.0
 
   pub kept_pairs : (slots : List SlotPair) →

@@ -11,11 +11,11 @@ pub record CacheValue : Type 0 where
   pub capacity : ℕ
 
 -- the entries have the same version and the same word
-unfoldable pub same_key : CacheEntry → CacheEntry → Bool
-same_key a b = (a.version == b.version) && word_eq a.word b.word
+unfoldable pub same_cache_key : CacheEntry → CacheEntry → Bool
+same_cache_key a b = (a.version == b.version) && word_eq a.word b.word
 
 abbrev pub HaveDistinctCacheKeys : List CacheEntry → Type 0
-HaveDistinctCacheKeys entries = AllPairs (λ a b. IsFalse (same_key a b)) entries
+HaveDistinctCacheKeys entries = AllPairs (λ a b. IsFalse (same_cache_key a b)) entries
 
 -- if there are more than this many, the first one is evicted
 abbrev pub newest_cache_entries : ℕ → List CacheEntry → List CacheEntry
@@ -25,13 +25,13 @@ newest_cache_entries capacity entries = if nat_lt capacity (length entries) then
 -- an entry is added last; one of a version below the stamp, or of an existing key, changes nothing
 abbrev pub cache_after_accept : ℕ → CacheEntry → CacheValue → CacheValue
 cache_after_accept stamp entry cache =
-    if nat_lt entry.version stamp || list_any (same_key entry) cache.entries
+    if nat_lt entry.version stamp || list_any (same_cache_key entry) cache.entries
     then cache
     else record cache { entries = newest_cache_entries cache.capacity (cache.entries ++ entry ∷ []) }
 
 -- the entry at a place is removed
-abbrev pub after_expire : ℕ → CacheValue → CacheValue
-after_expire place cache = record cache { entries = remove cache.entries place }
+abbrev pub cache_after_expire : ℕ → CacheValue → CacheValue
+cache_after_expire place cache = record cache { entries = remove cache.entries place }
 
 -- the entries of versions below the stamp are removed
 abbrev pub cache_after_raise : ℕ → CacheValue → CacheValue
@@ -47,6 +47,6 @@ pub record IsCache (cache : CacheValue) : Type 0 where
   pub few : length cache.entries ≤ cache.capacity
 
 -- the first entry of the version whose word holds the header number
-abbrev pub first_entry : ℕ → ℕ → List CacheEntry → Option CacheEntry
-first_entry version number entries =
+abbrev pub first_cache_entry : ℕ → ℕ → List CacheEntry → Option CacheEntry
+first_cache_entry version number entries =
     find (λ entry. (entry.version == version) && holds entry.word number) entries

@@ -2,8 +2,8 @@
 -- records.
 use Rattle.std.specs.Prelude.{[], ◌+◌, ◌≡◌, ◌≤◌, ◌⊎◌, All, Any, Contains, IsFalse, List, ℕ}
 use Rattle.ternary.specs.Exports.{WordValue}
-use Rattle.switch_table.specs.Cache.{CacheValue, IsCache, cache_after_accept, after_expire, cache_after_raise, cache_after_clear}
-use Rattle.switch_table.specs.Carried.{cache_after_carry, cache_all_touched, cache_word_meets_touched, under}
+use Rattle.switch_table.specs.Cache.{CacheValue, IsCache, cache_after_accept, cache_after_expire, cache_after_raise, cache_after_clear}
+use Rattle.switch_table.specs.Carried.{cache_after_carry, cache_all_touched, cache_word_meets_touched, cache_entry_under}
 use Rattle.switch_table.specs.declared.cache.CacheEntry.{CacheEntry}
 
 -- after any calls, a cache that began empty has distinct keys and no more entries than its capacity
@@ -12,7 +12,7 @@ pub record CacheLaws : Type 0 where
   pub kept_by_accept : (stamp : ℕ) (entry : CacheEntry) (cache : CacheValue) → IsCache cache →
       IsCache (cache_after_accept stamp entry cache)
   pub kept_by_expire : (place : ℕ) (cache : CacheValue) → IsCache cache →
-      IsCache (after_expire place cache)
+      IsCache (cache_after_expire place cache)
   pub kept_by_raise : (stamp : ℕ) (cache : CacheValue) → IsCache cache →
       IsCache (cache_after_raise stamp cache)
   pub kept_by_clear : (cache : CacheValue) → IsCache cache → IsCache (cache_after_clear cache)
@@ -26,7 +26,7 @@ pub record WasCacheEntryCarried (version : ℕ) (touched : List WordValue) (cach
   pub there : Contains cache.entries old
   pub before : old.version + 1 ≡ version
   pub apart : IsFalse (cache_word_meets_touched touched old.word)
-  pub is : entry ≡ under version old
+  pub is : entry ≡ cache_entry_under version old
 
 pub record CacheCarryLaws : Type 0 where
   -- for an entry of the version before whose word meets no touched one, there is one under the

@@ -7,8 +7,8 @@ use Rattle.switch_table.specs.declared.cache.CacheEntry.{CacheEntry}
 use Rattle.switch_table.specs.declared.key.CacheKey.{CacheKey}
 use Rattle.switch_table.specs.declared.key.LearntEntry.{LearntEntry}
 
-abbrev pub Pair : Type 0
-Pair = CacheKey × LearntEntry
+abbrev pub KeyedCacheEntry : Type 0
+KeyedCacheEntry = CacheKey × LearntEntry
 
 -- the key of an entry, if this much is added to its version
 abbrev pub cache_key_of : ℕ → CacheEntry → CacheKey
@@ -17,12 +17,12 @@ cache_key_of shift entry = record { number = entry.version + shift; word = entry
 abbrev pub cache_learnt_of : CacheEntry → LearntEntry
 cache_learnt_of entry = record { rule = entry.rule; action = entry.action; message = entry.message }
 
-abbrev pub pair_of : ℕ → CacheEntry → Pair
-pair_of shift entry = (cache_key_of shift entry, cache_learnt_of entry)
+abbrev pub keyed_cache_entry_of : ℕ → CacheEntry → KeyedCacheEntry
+keyed_cache_entry_of shift entry = (cache_key_of shift entry, cache_learnt_of entry)
 
 -- the entry of a pair, if this much was added to its version
-abbrev pub kept_entry : ℕ → Pair → CacheEntry
-kept_entry shift pair = record {
+abbrev pub kept_cache_entry : ℕ → KeyedCacheEntry → CacheEntry
+kept_cache_entry shift pair = record {
   version = pair.0.number - shift;
   word = pair.0.word;
   rule = pair.1.rule;
@@ -30,17 +30,17 @@ kept_entry shift pair = record {
   message = pair.1.message;
 }
 
-abbrev pub kept_entries : ℕ → List Pair → List CacheEntry
-kept_entries shift pairs = map (kept_entry shift) pairs
+abbrev pub kept_cache_entries : ℕ → List KeyedCacheEntry → List CacheEntry
+kept_cache_entries shift pairs = map (kept_cache_entry shift) pairs
 
 unfoldable pub equal_cache_keys : CacheKey → CacheKey → Bool
 equal_cache_keys a b = (a.number == b.number) && word_eq a.word b.word
 
 -- no two pairs have the same key
-abbrev pub HaveOwnCacheKeys : List Pair → Type 0
+abbrev pub HaveOwnCacheKeys : List KeyedCacheEntry → Type 0
 HaveOwnCacheKeys pairs = IsDistinct equal_cache_keys (keys_of pairs)
 
-abbrev pub cache_has_key : CacheKey → List Pair → Bool
+abbrev pub cache_has_key : CacheKey → List KeyedCacheEntry → Bool
 cache_has_key key pairs = list_any (λ pair. equal_cache_keys key pair.0) pairs
 
 -- the key of this number whose word has this one's mask and holds the header

@@ -4,6 +4,6 @@ use Rattle.ternary.specs.Exports.{WordValue}
 use Rattle.switch_table.specs.declared.touched.Listed.{Listed}
 use Rattle.switch_table.specs.declared.touched.Listed.TheVariants.{Words, All}
 
-abbrev pub table_touched_list_words : Listed → List WordValue
-table_touched_list_words (Words words) = words.items
-table_touched_list_words (All any) = any
+abbrev pub switch_table_touched_list_words : Listed → List WordValue
+switch_table_touched_list_words (Words words) = words.items
+switch_table_touched_list_words (All any) = any

@@ -1,12 +1,12 @@
 -- Cache entries as a cache stores them: as pairs, whose keys have a shift added to the versions.
 use Rattle.std.specs.Prelude.{◌+◌, ◌<◌, ◌^◌, ◌≤◌, All, List, Option, length, ℕ}
 use Rattle.ternary.specs.Exports.{WordValue}
-use Rattle.switch_table.specs.Keys.{Pair, kept_entries}
+use Rattle.switch_table.specs.Keys.{KeyedCacheEntry, kept_cache_entries}
 use Rattle.switch_table.specs.Masks.{HasCacheMaskOf}
 use Rattle.switch_table.specs.declared.cache.CacheEntry.{CacheEntry}
 
 -- each number is a version plus the shift
-abbrev pub CacheKeysHaveVersions : ℕ → List Pair → Type 0
+abbrev pub CacheKeysHaveVersions : ℕ → List KeyedCacheEntry → Type 0
 CacheKeysHaveVersions shift pairs =
     All (λ pair. (shift ≤ pair.0.number) × (pair.0.number < shift + 2 ^ 32)) pairs
 
@@ -20,11 +20,11 @@ CacheEntriesAreMasked masks entries = All (λ entry. HasCacheMaskOf masks entry.
 
 -- the pairs are those of at most `capacity` entries, none of a version later than `newest`, and the
 -- masks are theirs; the shift fell no more often than the newest version rose
-pub record HoldsEntries (masks : Option (List WordValue)) (shift newest capacity : ℕ)
-    (pairs : List Pair) : Type 0 where
+pub record CacheHoldsEntries (masks : Option (List WordValue)) (shift newest capacity : ℕ)
+    (pairs : List KeyedCacheEntry) : Type 0 where
   pub fits : shift ≤ 2 ^ 32
   pub falls : 2 ^ 32 ≤ shift + newest
   pub versions : CacheKeysHaveVersions shift pairs
-  pub up_to : AreCacheEntriesUpTo newest (kept_entries shift pairs)
-  pub masked : CacheEntriesAreMasked masks (kept_entries shift pairs)
-  pub few : length (kept_entries shift pairs) ≤ capacity
+  pub up_to : AreCacheEntriesUpTo newest (kept_cache_entries shift pairs)
+  pub masked : CacheEntriesAreMasked masks (kept_cache_entries shift pairs)
+  pub few : length (kept_cache_entries shift pairs) ≤ capacity

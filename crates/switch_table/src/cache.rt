@@ -1,9 +1,9 @@
 ghost use Rattle.std.specs.Prelude.{◌≡◌, ◌≤◌, ◌<◌, ◌+◌, ◌^◌, [], filter_map, map, slice_get, option_map, IfOk, OnOk, OnErr};
 ghost use Rattle.std.specs.List.{list_any};
-ghost use Rattle.switch_table.specs.Cache.{IsCache, cache_after_accept, after_expire, cache_after_raise, cache_after_clear, first_entry, same_key};
+ghost use Rattle.switch_table.specs.Cache.{IsCache, cache_after_accept, cache_after_expire, cache_after_raise, cache_after_clear, first_cache_entry, same_cache_key};
 ghost use Rattle.switch_table.specs.CacheLaws.{CacheLaws, CacheCarryLaws};
-ghost use Rattle.switch_table.specs.Carried.{cache_after_carry, carried_entry};
-ghost use Rattle.switch_table.specs.Keys.{kept_entry, cache_key_of, cache_learnt_of, pair_of};
+ghost use Rattle.switch_table.specs.Carried.{cache_after_carry, carried_cache_entry};
+ghost use Rattle.switch_table.specs.Keys.{kept_cache_entry, cache_key_of, cache_learnt_of, keyed_cache_entry_of};
 
 use crate::items::CacheItems;
 use crate::key::{CacheKey, LearntEntry};
@@ -55,7 +55,7 @@ impl CacheEntry {
     /// The entry of this key in a cache that adds this shift to versions.
     pub(crate) fn of(key: &CacheKey, learnt: &LearntEntry, shift: u64) -> CacheEntry
         requires { (shift ≤ key.now.number) × (key.now.number < shift + 2 ^ 32) }
-        ensures { result ≡ kept_entry shift (key.now, learnt.now) }
+        ensures { result ≡ kept_cache_entry shift (key.now, learnt.now) }
     {
         CacheEntry {
             version: (key.number - shift) as u32,
@@ -86,14 +86,14 @@ const MAX_SHIFT: u64 = 1 << 32;
 
 impl Model for Cache {
     ghost use Rattle.switch_table.specs.Cache.{CacheValue};
-    ghost use Rattle.switch_table.specs.Keys.{kept_entries};
-    ghost use Rattle.switch_table.specs.Pairs.{HoldsEntries};
+    ghost use Rattle.switch_table.specs.Keys.{kept_cache_entries};
+    ghost use Rattle.switch_table.specs.Pairs.{CacheHoldsEntries};
 
     ghost Value = { CacheValue };
 
-    ghost view = { λ c. record { entries = kept_entries c.shift c.slots; capacity = c.capacity } };
+    ghost view = { λ c. record { entries = kept_cache_entries c.shift c.slots; capacity = c.capacity } };
 
-    ghost invariant = { λ c. HoldsEntries c.masks c.shift c.newest c.capacity c.slots };
+    ghost invariant = { λ c. CacheHoldsEntries c.masks c.shift c.newest c.capacity c.slots };
 }
 
 impl Cache {
@@ -148,7 +148,7 @@ impl Cache {
     pub fn expire(&mut self, k: u32) -> Option<u32>
         ensures message { result
             ≡ option_map (λ entry. entry.message) (slice_get self.old.entries k) }
-        ensures after { self.new ≡ after_expire k self.old }
+        ensures after { self.new ≡ cache_after_expire k self.old }
     {
         let (_, learnt) = self.slots.remove(k as usize)?;
         Some(learnt.message)
@@ -198,7 +198,7 @@ impl Cache {
     /// The first entry of this version whose word holds the header number.
     // If there are few masks, it looks up one key for each of them.
     pub fn first_entry(&self, version: u32, number: u128) -> Option<CacheEntry>
-        ensures { result ≡ first_entry version number self.now.entries }
+        ensures { result ≡ first_cache_entry version number self.now.entries }
     {
         match self.masks.few(self.slots.len()) {
             Some(masks) => {
@@ -213,7 +213,7 @@ impl Cache {
 
     // Whether there is an entry with the same version and word.
     fn has_key_of(&self, entry: &CacheEntry) -> bool
-        ensures { result ≡ list_any (same_key entry.now) self.now.entries }
+        ensures { result ≡ list_any (same_cache_key entry.now) self.now.entries }
     {
         self.slots.contains(&entry.key(self.shift))
     }
@@ -252,7 +252,7 @@ impl Cache {
         touched: &Touched,
         entry: &CacheEntry,
     ) -> Option<CacheEntry>
-        ensures { result ≡ carried_entry version touched.now self.now.entries entry.now }
+        ensures { result ≡ carried_cache_entry version touched.now self.now.entries entry.now }
     {
         if version <= entry.version {
             return Some(*entry);

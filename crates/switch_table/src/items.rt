@@ -1,5 +1,5 @@
 ghost use Rattle.std.specs.Prelude.{◌≡◌};
-ghost use Rattle.switch_table.specs.Keys.{kept_entries};
+ghost use Rattle.switch_table.specs.Keys.{kept_cache_entries};
 ghost use Rattle.switch_table.specs.Pairs.{CacheKeysHaveVersions};
 ghost use Rattle.switch_table.specs.Slots.{live_cache_pairs};
 
@@ -16,10 +16,10 @@ pub struct SlotItems<'a> {
 
 impl<'a> Model for SlotItems<'a> {
     ghost use Rattle.std.specs.Prelude.{List};
-    ghost use Rattle.switch_table.specs.Keys.{Pair};
+    ghost use Rattle.switch_table.specs.Keys.{KeyedCacheEntry};
     ghost use Rattle.switch_table.specs.Slots.{live_cache_pairs};
 
-    ghost Value = { List Pair };
+    ghost Value = { List KeyedCacheEntry };
 
     ghost view = { λ i. live_cache_pairs i.slots };
 }
@@ -60,13 +60,13 @@ pub struct CacheItems<'a> {
 
 impl<'a> Model for CacheItems<'a> {
     ghost use Rattle.std.specs.Prelude.{List};
-    ghost use Rattle.switch_table.specs.Keys.{kept_entries};
+    ghost use Rattle.switch_table.specs.Keys.{kept_cache_entries};
     ghost use Rattle.switch_table.specs.Pairs.{CacheKeysHaveVersions};
     ghost use Rattle.switch_table.specs.declared.cache.CacheEntry.{CacheEntry};
 
     ghost Value = { List CacheEntry };
 
-    ghost view = { λ i. kept_entries i.shift i.slots };
+    ghost view = { λ i. kept_cache_entries i.shift i.slots };
 
     ghost invariant = { λ i. CacheKeysHaveVersions i.shift i.slots };
 }
@@ -75,7 +75,7 @@ impl<'a> CacheItems<'a> {
     /// The entries of these slots, whose keys have this shift added to the versions.
     pub(crate) fn new(slots: SlotItems<'a>, shift: u64) -> CacheItems<'a>
         requires { CacheKeysHaveVersions shift slots }
-        ensures { result ≡ kept_entries shift slots.entry }
+        ensures { result ≡ kept_cache_entries shift slots.entry }
     {
         CacheItems { slots, shift }
     }

@@ -1,6 +1,6 @@
 ghost use Rattle.std.specs.List.{list_any};
 ghost use Rattle.std.specs.Prelude.{◌≡◌, ◌==◌, Some, All, IfOk, IfSome, OnOk};
-ghost use Rattle.switch_table.specs.Masks.{HasMaskIn, HasCacheMaskOf};
+ghost use Rattle.switch_table.specs.Masks.{HasCacheMaskIn, HasCacheMaskOf};
 ghost use Rattle.ternary.specs.Word.{WordValue};
 
 use crate::items::CacheItems;
@@ -128,8 +128,8 @@ fn are_learnt_masks_few(masks: usize, entries: usize) -> bool {
 
 // Adds the word, if none of the words has its mask.
 fn note(words: &mut Vec<Word>, word: &Word) -> Result<(), AllocError>
-    ensures kept { (one : WordValue) → HasMaskIn words.old.items one → HasMaskIn words.new.items one }
-    ensures added { OnOk result (HasMaskIn words.new.items word.now) }
+    ensures kept { (one : WordValue) → HasCacheMaskIn words.old.items one → HasCacheMaskIn words.new.items one }
+    ensures added { OnOk result (HasCacheMaskIn words.new.items word.now) }
 {
     let mask = word.mask();
     if !has_switch_cache_mask(words, mask) {

@@ -1,8 +1,8 @@
 ghost use Rattle.std.specs.Prelude.{◌≡◌, ◌^◌, ◌<◌, length, find, position, count_by};
 ghost use Rattle.std.specs.Option.{option_copied};
 ghost use Rattle.ternary.specs.Word.{holds};
-ghost use Rattle.switch_table.specs.Tables.{AreSoundSwitchTables, table_part_row_has};
-ghost use Rattle.switch_table.specs.Lookup.{SwitchTablesLaws, table_authority_of, table_redirect_of, lookup_of};
+ghost use Rattle.switch_table.specs.Tables.{AreSoundSwitchTables, switch_table_part_row_has};
+ghost use Rattle.switch_table.specs.Lookup.{SwitchTablesLaws, switch_table_authority_of, switch_table_redirect_of, switch_table_lookup_of};
 
 use crate::cache::{Cache, CacheEntry};
 use crate::tables::{PartRow, Tables};
@@ -25,7 +25,7 @@ pub enum Found {
 /// first authority rule that holds it, otherwise the partition rule that does.
 pub fn lookup(cache: &Cache, tables: &Tables, header: &Header) -> Found
     requires { AreSoundSwitchTables tables.now }
-    ensures { result ≡ lookup_of cache.now.entries tables.now header.now }
+    ensures { result ≡ switch_table_lookup_of cache.now.entries tables.now header.now }
 {
     let number = header.number();
     if let Some(entry) = cache.first_entry(tables.version, number) {
@@ -47,7 +47,7 @@ fn own_part(parts: &[Partition], number: u128) -> Option<&Partition>
 // Decides by the first rule of the partition that holds the header.
 fn authority(part: &Partition, header: &Header) -> Found
     requires { length part.now.rules < 2 ^ 32 }
-    ensures { result ≡ table_authority_of header.now part.now }
+    ensures { result ≡ switch_table_authority_of header.now part.now }
 {
     let place = first_hit(part.rules.items(), header).unwrap_or(0);
     Found::Authority {
@@ -58,9 +58,9 @@ fn authority(part: &Partition, header: &Header) -> Found
 
 // Redirects to the targets of the row whose region holds the header.
 fn switch_table_redirect(rows: &[PartRow], header: &Header) -> Found
-    requires one { count_by (table_part_row_has header.now) rows.now ≡ 1 }
+    requires one { count_by (switch_table_part_row_has header.now) rows.now ≡ 1 }
     requires few { length rows.now < 2 ^ 32 }
-    ensures { result ≡ table_redirect_of header.now rows.now }
+    ensures { result ≡ switch_table_redirect_of header.now rows.now }
 {
     let place = switch_part_row_place(rows, header.number()).unwrap();
     Found::Redirect {

@@ -4,7 +4,7 @@ ghost use Rattle.std.specs.List.{position_or_len};
 ghost use Rattle.switch_table.specs.Keys.{HaveOwnCacheKeys, equal_cache_keys, cache_has_key, is_cache_key_hit, is_carried_cache_key, cache_key_under};
 ghost use Rattle.switch_table.specs.declared.live.LiveCacheCounts.{LiveCacheCounts};
 ghost use Rattle.switch_table.specs.Live.{AreCacheLiveCounts, IsNthLiveCacheFlag, cache_live_count_set};
-ghost use Rattle.switch_table.specs.Slots.{AreCacheSlotsNamed, AreCacheSlots, SlotPair, cache_live_flags_of, is_live, killed_cache_slot, live_cache_pairs};
+ghost use Rattle.switch_table.specs.Slots.{AreCacheSlotsNamed, AreCacheSlots, SlotPair, cache_live_flags_of, is_live_cache_slot, killed_cache_slot, live_cache_pairs};
 
 use crate::items::SlotItems;
 use crate::key::{CacheKey, LearntEntry, Slot};
@@ -35,10 +35,10 @@ const MAX_DEAD: usize = 64;
 
 impl Model for CacheSlots {
     ghost use Rattle.std.specs.Prelude.{List};
-    ghost use Rattle.switch_table.specs.Keys.{Pair};
+    ghost use Rattle.switch_table.specs.Keys.{KeyedCacheEntry};
     ghost use Rattle.switch_table.specs.Slots.{AreCacheSlots, live_cache_pairs};
 
-    ghost Value = { List Pair };
+    ghost Value = { List KeyedCacheEntry };
 
     ghost view = { λ s. live_cache_pairs s.map.entries };
 
@@ -204,7 +204,7 @@ fn cache_slot_place_under(
     mask: &Word,
 ) -> usize
     ensures { result ≡ position_or_len (λ slot. equal_cache_keys (cache_key_under number header mask.now) slot.0
-        && is_live slot) map.now.entries }
+        && is_live_cache_slot slot) map.now.entries }
 {
     let bits = mask.mask();
     let word = Word::new(header & bits, bits).unwrap();
@@ -312,7 +312,7 @@ fn vacate_cache_slot(map: &mut IndexMap<CacheKey, Slot>, place: usize) -> Result
 // Removes the dead slots.
 fn sweep_dead_cache_slots(map: &mut IndexMap<CacheKey, Slot>, live: &mut LiveCacheCounts)
     requires { AreCacheLiveCounts live.old (cache_live_flags_of map.old.entries) }
-    ensures slots { map.new.entries ≡ filter is_live map.old.entries }
+    ensures slots { map.new.entries ≡ filter is_live_cache_slot map.old.entries }
     ensures counts { AreCacheLiveCounts live.new (cache_live_flags_of map.new.entries) }
 {
     map.retain(|_, slot| slot.is_live);

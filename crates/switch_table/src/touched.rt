@@ -25,13 +25,13 @@ enum Listed {
 impl Model for Touched {
     ghost use Rattle.std.specs.Prelude.{◌≤◌, List, length};
     ghost use Rattle.ternary.specs.Word.{WordValue};
-    ghost use Rattle.switch_table.specs.Listed.{table_touched_list_words};
+    ghost use Rattle.switch_table.specs.Listed.{switch_table_touched_list_words};
 
     ghost Value = { List WordValue };
 
-    ghost view = { λ t. table_touched_list_words t.listed };
+    ghost view = { λ t. switch_table_touched_list_words t.listed };
 
-    ghost invariant = { λ t. length (table_touched_list_words t.listed) ≤ 16 };
+    ghost invariant = { λ t. length (switch_table_touched_list_words t.listed) ≤ 16 };
 }
 
 impl Touched {

@@ -5,7 +5,7 @@ use Rattle.std.proofs.lemmas.Bool.{cases_lt, cases_Bool}
 use Rattle.std.proofs.lemmas.Bool.Decides.{nat_tests}
 use Rattle.std.proofs.lemmas.List.Folds.{list_all_more, list_any_more}
 use Rattle.std.proofs.lemmas.Nat.Bits.{bit_at-lt, bit_at-zero, bit_at_and, bit_at_or, bit_at_ones, bit_at-trailing_zeros}
-use Rattle.ternary.specs.Exports.{WordValue, is_fixed_of}
+use Rattle.ternary.specs.Exports.{WordValue, is_word_bit_fixed}
 use Rattle.ternary.proofs.TernaryCallerLemmas.{both_set}
 use Rattle.cut_tree.specs.Exports.{IsCuttableBit}
 use Rattle.table_tree.specs.Cutting.{IsLowestLookupBit, IsLeastFreeLookupBit, LookupPassesNoFreeBit}
@@ -30,8 +30,8 @@ or_bit a b k = search (rules, bit_at_or, max_digit, bit_at-lt)
 
 mask_fixes : (candidates : List Candidate) (index : ℕ) (candidate : Candidate) (mask bit : ℕ)
     → candidate ≡ get_or candidates index candidate → mask ≡ candidate.region.mask
-    → (bit_at mask bit == 1) ≡ is_fixed_of (get_or candidates index candidate).region bit
-unfolding is_fixed_of
+    → (bit_at mask bit == 1) ≡ is_word_bit_fixed (get_or candidates index candidate).region bit
+unfolding is_word_bit_fixed
 mask_fixes candidates index candidate mask bit is same = cc (same, is)
 
 pub all_more : (candidates : List Candidate) (index : ℕ) (candidate : Candidate) (bits mask bit : ℕ)
@@ -41,7 +41,7 @@ pub all_more : (candidates : List Candidate) (index : ℕ) (candidate : Candidat
 all_more candidates index candidate bits mask bit within is same so_far = and_bit bits mask bit
     ∙ ap (λ t. t && (bit_at mask bit == 1)) so_far ∙ ap (λ t. table_tree_all_fix (take index candidates) bit
     && t) (mask_fixes candidates index candidate mask bit is same) ∙ sym
-    (list_all_more (λ (s : Candidate). is_fixed_of s.region bit) candidates index candidate within)
+    (list_all_more (λ (s : Candidate). is_word_bit_fixed s.region bit) candidates index candidate within)
 
 pub some_more : (candidates : List Candidate)
     (index : ℕ) (candidate : Candidate) (bits mask bit : ℕ) → index < length candidates
@@ -51,7 +51,7 @@ pub some_more : (candidates : List Candidate)
 some_more candidates index candidate bits mask bit within is same so_far = or_bit bits mask bit
     ∙ ap (λ t. t || (bit_at mask bit == 1)) so_far ∙ ap (λ t. table_tree_some_fixes (take index candidates) bit
     || t) (mask_fixes candidates index candidate mask bit is same) ∙ sym
-    (list_any_more (λ (s : Candidate). is_fixed_of s.region bit) candidates index candidate within)
+    (list_any_more (λ (s : Candidate). is_word_bit_fixed s.region bit) candidates index candidate within)
 
 pub all_none : (bit : ℕ) → bit < 104 → (bit_at (2 ^ 104 - 1) bit == 1) ≡ true
 all_none bit within = ap (λ n. n == 1) (bit_at_ones 104 bit within)

@@ -7,13 +7,13 @@ use Rattle.std.proofs.lemmas.List.Elements.{All-head, All-tail, All-filter, filt
 use Rattle.std.proofs.lemmas.Nat.Bits.{bit_at_above}
 use Rattle.five_tuple.specs.Exports.{HeaderLaws, IsHeader, header_numbered}
 use Rattle.five_tuple.specs.declared.header.Header.{Header}
-use Rattle.ternary.specs.Exports.{WordHoldsLaws, IsWord, MeetLaws, WordValue, any_word, word_fix_of, holds, is_fixed_of, meet_of, meets}
+use Rattle.ternary.specs.Exports.{WordHoldsLaws, IsWord, TernaryMeetLaws, WordValue, any_word, word_fix_of, holds, is_word_bit_fixed, word_meet_of, word_meets}
 use Rattle.ternary.proofs.TernaryCallerLemmas.{any_covers, fix_holds, fix_word, free_bits_shorter, meet_is_some, meet_both, meet_word, meets_cover, held_meets}
-use Rattle.switch_table.specs.Exports.{table_part_row_has}
+use Rattle.switch_table.specs.Exports.{switch_table_part_row_has}
 use Rattle.switch_table.specs.declared.tables.PartRow.{PartRow}
 use Rattle.cut_tree.specs.Exports.{IsCuttableBit, free_cut_bit_count}
 use Rattle.table_tree.specs.Cutting.{LookupPassesNoFreeBit}
-use Rattle.table_tree.specs.Regions.{AreTableTreeCandidates, AreTableTreeRegions, IsTableTreeCutBit, table_tree_candidate_holds, table_tree_candidate_meets, table_tree_side_candidates, table_tree_some_fixes, lookup_candidates_from, lookup_candidates_of}
+use Rattle.table_tree.specs.Regions.{AreTableTreeCandidates, AreTableTreeRegions, IsTableTreeCutBit, table_tree_candidate_holds, table_tree_candidate_meets, table_tree_side_candidates, table_tree_some_fixes, table_tree_candidates_from, table_tree_candidates_of}
 use Rattle.table_tree.specs.declared.node.Candidate.{Candidate}
 
 -- ---- lists
@@ -28,12 +28,12 @@ abbrev pub candidate_at : ℕ → PartRow → Candidate
 candidate_at place row = record { place = place; region = row.region }
 
 pub candidates_count : (place number : ℕ) (rows : List PartRow)
-    → count_by (table_tree_candidate_holds number) (lookup_candidates_from place rows)
+    → count_by (table_tree_candidate_holds number) (table_tree_candidates_from place rows)
     ≡ count_by (λ (row : PartRow). holds row.region number) rows
 candidates_count place number [] = refl
 candidates_count place number (row ∷ rows) = omega (
   arith,
-  count_by-cons (table_tree_candidate_holds number) (candidate_at place row) (lookup_candidates_from (place + 1) rows),
+  count_by-cons (table_tree_candidate_holds number) (candidate_at place row) (table_tree_candidates_from (place + 1) rows),
   count_by-cons (λ (r : PartRow). holds r.region number) row rows,
   candidates_count (place + 1) number rows,
 )
@@ -43,20 +43,20 @@ pub any_meets : (candidates : List Candidate) → All
 any_meets candidates = search (rules, meets_cover, any_covers)
 
 pub root_node : HeaderLaws → (rows : List PartRow)
-    → ((header : Header) → IsHeader header → count_by (table_part_row_has header) rows ≡ 1)
-    → AreTableTreeRegions (lookup_candidates_of rows) → AreTableTreeCandidates (lookup_candidates_of rows) any_word
+    → ((header : Header) → IsHeader header → count_by (switch_table_part_row_has header) rows ≡ 1)
+    → AreTableTreeRegions (table_tree_candidates_of rows) → AreTableTreeCandidates (table_tree_candidates_of rows) any_word
 root_node laws rows one words =
     let count : (number : ℕ) → number < 2 ^ 104
-    → count_by (table_tree_candidate_holds number) (lookup_candidates_of rows) ≡ 1 =
+    → count_by (table_tree_candidate_holds number) (table_tree_candidates_of rows) ≡ 1 =
     λ number small. candidates_count 0 number rows
     ∙ ap (λ n. count_by (λ (row : PartRow). holds row.region n) rows)
     (sym (laws.numbered number small)) ∙ one (header_numbered number) (laws.header number small) in
     record {
       whole = record { within = refl; bounded = omega arith };
       words = words;
-      meet = any_meets (lookup_candidates_of rows);
+      meet = any_meets (table_tree_candidates_of rows);
       one = λ number small. omega (arith, count number small);
-      held = λ number small inside. found_from_count (table_tree_candidate_holds number) (lookup_candidates_of rows)
+      held = λ number small inside. found_from_count (table_tree_candidate_holds number) (table_tree_candidates_of rows)
           (omega (arith, count number small));
     }
 
@@ -64,7 +64,7 @@ root_node laws rows one words =
 
 -- a header of a half is one of the region, with the bit
 pub half_holds : (region : WordValue) (bit number : ℕ) (one : Bool) → IsFalse
-    (is_fixed_of region bit) → IsTrue (holds (word_fix_of region bit one) number)
+    (is_word_bit_fixed region bit) → IsTrue (holds (word_fix_of region bit one) number)
     → IsTrue (holds region number)
 half_holds region bit number one free held = search (rules, fix_holds)
 
@@ -91,10 +91,10 @@ half_node candidates region bit one node free = let half = word_fix_of region bi
 -- ---- several regions
 
 -- of two regions of which neither fixes a free bit of a region that they meet, each meets the other
-pub unfixed_meet : MeetLaws → (region a b : WordValue) → IsWord a → meets a region ≡ true
-    → meets b region ≡ true → ((bit : ℕ) → IsCuttableBit region bit → is_fixed_of a bit ≡ false)
-    → meets a b ≡ true
-unfolding is_fixed_of
+pub unfixed_meet : TernaryMeetLaws → (region a b : WordValue) → IsWord a → word_meets a region ≡ true
+    → word_meets b region ≡ true → ((bit : ℕ) → IsCuttableBit region bit → is_word_bit_fixed a bit ≡ false)
+    → word_meets a b ≡ true
+unfolding is_word_bit_fixed
 unfixed_meet laws region a b word meet_a meet_b unfixed = (laws.bitwise a b).1 agrees where
   agrees : (k : ℕ) → bit_at a.mask k ≡ 1 → bit_at b.mask k ≡ 1 → bit_at a.value k ≡ bit_at b.value k
   agrees k in_a in_b = elim (cases_Bool (bit_at region.mask k == 1)) [
@@ -109,18 +109,18 @@ unfixed_meet laws region a b word meet_a meet_b unfixed = (laws.bitwise a b).1 a
   ]
 
 -- and then a header is in both
-pub meeting_shares : WordHoldsLaws → (a b : WordValue) → IsWord a → IsWord b → meets a b ≡ true
+pub meeting_shares : WordHoldsLaws → (a b : WordValue) → IsWord a → IsWord b → word_meets a b ≡ true
     → (number : ℕ) × (number < 2 ^ 104) × IsTrue (holds a number) × IsTrue (holds b number)
-meeting_shares laws a b a_word b_word meet = by_case (meet_of a b) refl where
-  by_case : (m : Option WordValue) → meet_of a b ≡ m → (number : ℕ) × (number < 2 ^ 104)
+meeting_shares laws a b a_word b_word meet = by_case (word_meet_of a b) refl where
+  by_case : (m : Option WordValue) → word_meet_of a b ≡ m → (number : ℕ) × (number < 2 ^ 104)
       × IsTrue (holds a number) × IsTrue (holds b number)
-  by_case None none = absurd (both_ways (meets a b) (sym (meet_is_some a b) ∙ ap is_some none) meet)
+  by_case None none = absurd (both_ways (word_meets a b) (sym (meet_is_some a b) ∙ ap is_some none) meet)
   by_case (Some m) is =
       let both = and_parts _ _ (sym (meet_both a b m is m.value) ∙ laws.value m) in
       (m.value, laws.bound m (meet_word a b m a_word b_word is), both.0, both.1)
 
 -- so the regions of a node, where they are not one, fix a free bit
-pub never_stuck : WordHoldsLaws → MeetLaws → (candidates : List Candidate) (region : WordValue)
+pub never_stuck : WordHoldsLaws → TernaryMeetLaws → (candidates : List Candidate) (region : WordValue)
     → AreTableTreeCandidates candidates region → LookupPassesNoFreeBit region (table_tree_some_fixes candidates)
     → length candidates ≡ 1
 never_stuck holds_laws meet_laws [] region node none = absurd (both_ways false refl
@@ -134,7 +134,7 @@ never_stuck holds_laws meet_laws (a ∷ b ∷ rest) region node none =
     let a_meets = All-head Q a (b ∷ rest) node.meet in
     let shared = meeting_shares holds_laws a.region b.region a_word b_word (unfixed_meet meet_laws
     region a.region b.region a_word a_meets (All-head Q b rest (All-tail Q a (b ∷ rest) node.meet))
-    (λ bit free. first_unfixed (is_fixed_of a.region bit) _ (none bit free))) in
+    (λ bit free. first_unfixed (is_word_bit_fixed a.region bit) _ (none bit free))) in
     let number = shared.0 in
     absurd (omega (
       arith,

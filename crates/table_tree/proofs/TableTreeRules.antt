@@ -8,16 +8,16 @@ use Rattle.std.proofs.lemmas.Bool.Decides.{nat_tests}
 use Rattle.std.proofs.lemmas.List.Elements.{All-nil, All-cons, All-head, All-tail, All-same}
 use Rattle.std.proofs.Math.Bool.{and-true}
 use Rattle.policy_rules.proofs.PolicyRulesCallerLemmas.{find-map, find_agree}
-use Rattle.ternary.specs.Exports.{WordValue, word_covers_of, word_fix_of, holds, meeting_word, meets}
+use Rattle.ternary.specs.Exports.{WordValue, word_covers_of, word_fix_of, holds, meeting_word, word_meets}
 use Rattle.ternary.proofs.TernaryCallerLemmas.{meet_both, met_joined}
-use Rattle.policy_rules.specs.Exports.{is_held}
+use Rattle.policy_rules.specs.Exports.{is_held_by_policy_rule}
 use Rattle.policy_rules.specs.declared.rules.Rule.{Rule}
-use Rattle.cut_tree.specs.Exports.{IsCuttableBit, least_below, narrow, cut_narrowed_rule, side_of_cut}
+use Rattle.cut_tree.specs.Exports.{IsCuttableBit, least_cut_cost_below, narrow, cut_narrowed_rule, side_of_cut}
 use Rattle.cut_tree.specs.declared.choice.Cost.{Cost}
 use Rattle.cut_tree.proofs.CutTreeCallerLemmas.{narrow_first}
 use Rattle.cut_tree.proofs.CutLemmas.{least_cuts}
 use Rattle.cut_tree.proofs.CutNarrowing.{narrow_apart, narrow_covered, narrow_more, narrow_none}
-use Rattle.table_tree.specs.Ruling.{is_held_by_lookup_rule, table_tree_if_pays, table_tree_by_cut, table_tree_paying_cut, table_tree_worth_cutting, table_tree_ranked_rules, table_tree_rule_shape, rule_tree, table_rule_tree_within}
+use Rattle.table_tree.specs.Ruling.{is_held_by_lookup_rule, table_tree_if_pays, table_tree_by_cut, table_tree_paying_cut, table_tree_worth_cutting, table_tree_ranked_rules, table_tree_rule_shape, table_rule_tree, table_rule_tree_within}
 use Rattle.table_tree.specs.LookupTrees.{LookupTree, Leaf, Sides, table_tree_leaf_at, lookup_tree_of}
 use Rattle.table_tree.specs.declared.bit_tree.BitTree.{BitTree}
 use Rattle.table_tree.proofs.TableTreeLookup.{down, seen_at}
@@ -56,40 +56,40 @@ none_left cuts rules region none = search rules
 pub few_stay : (cuts : ℕ) (rules : List Rule) (region : WordValue) → length rules ≤ 16
     → None ≡ table_tree_paying_cut cuts rules region
 few_stay zero rules region few = refl
-few_stay (suc cuts) rules region few = by_cost (least_below 104 rules region) where
+few_stay (suc cuts) rules region few = by_cost (least_cut_cost_below 104 rules region) where
   by_cost : (least : Option Cost) → None ≡ table_tree_if_pays (length rules) least
   by_cost None = refl
   by_cost (Some cost) = rw (le-ltb 16 (length rules) few) refl
 
 -- the cut that costs least is made where it pays
 weighed : (cuts : ℕ) (rules : List Rule) (region : WordValue) (cost : Cost) (pay : Bool) → 0 < cuts
-    → least_below 104 rules region ≡ Some cost → table_tree_worth_cutting (length rules) cost ≡ pay
+    → least_cut_cost_below 104 rules region ≡ Some cost → table_tree_worth_cutting (length rules) cost ≡ pay
     → cond pay (Some cost) None ≡ table_tree_paying_cut cuts rules region
 weighed zero rules region cost pay some is paid = absurd (omega arith)
 weighed (suc cuts) rules region cost pay some is paid = rw (is, paid) refl
 
 pub cut_pays : (cuts : ℕ) (rules : List Rule) (region : WordValue) (cost : Cost) → 0 < cuts
     → 16 < length rules → cost.larger < length rules → 4 * cost.sum ≤ 5 * length rules
-    → least_below 104 rules region ≡ Some cost → Some cost ≡ table_tree_paying_cut cuts rules region
+    → least_cut_cost_below 104 rules region ≡ Some cost → Some cost ≡ table_tree_paying_cut cuts rules region
 cut_pays cuts rules region cost some many fewer both is =
     weighed cuts rules region cost true some is (grind (arith, nat_tests))
 
 pub large_stays : (cuts : ℕ) (rules : List Rule) (region : WordValue) (cost : Cost) → 0 < cuts
     → 16 < length rules → length rules ≤ cost.larger
-    → least_below 104 rules region ≡ Some cost → None ≡ table_tree_paying_cut cuts rules region
+    → least_cut_cost_below 104 rules region ≡ Some cost → None ≡ table_tree_paying_cut cuts rules region
 large_stays cuts rules region cost some many large is =
     weighed cuts rules region cost false some is (grind (arith, nat_tests))
 
 pub spread_stays : (cuts : ℕ) (rules : List Rule) (region : WordValue) (cost : Cost) → 0 < cuts
     → 16 < length rules → cost.larger < length rules → 5 * length rules < 4 * cost.sum
-    → least_below 104 rules region ≡ Some cost → None ≡ table_tree_paying_cut cuts rules region
+    → least_cut_cost_below 104 rules region ≡ Some cost → None ≡ table_tree_paying_cut cuts rules region
 spread_stays cuts rules region cost some many fewer both is =
     weighed cuts rules region cost false some is (grind (arith, nat_tests))
 
 paying_free : (rules : List Rule) (region : WordValue) (count : ℕ) (cost : Cost)
-    → table_tree_if_pays count (least_below 104 rules region) ≡ Some cost → IsCuttableBit region cost.bit
-paying_free rules region count cost is = by_least (least_below 104 rules region) refl is where
-  by_least : (least : Option Cost) → least_below 104 rules region ≡ least
+    → table_tree_if_pays count (least_cut_cost_below 104 rules region) ≡ Some cost → IsCuttableBit region cost.bit
+paying_free rules region count cost is = by_least (least_cut_cost_below 104 rules region) refl is where
+  by_least : (least : Option Cost) → least_cut_cost_below 104 rules region ≡ least
       → table_tree_if_pays count least ≡ Some cost → IsCuttableBit region cost.bit
   by_least None none pay = absurd (cc)
   by_least (Some best) found pay = by_test (table_tree_worth_cutting count best) pay where
@@ -106,13 +106,13 @@ abbrev pub Agrees : List Rule → ℕ → Rule → Type 0
 Agrees rules number rule = is_held_by_lookup_rule rules number rule.rank ≡ holds rule.word number
 
 narrow_keeps : (P : Rule → Type 0) (rules : List Rule) (region : WordValue)
-    → ((rule : Rule) → meets rule.word region ≡ true → P rule → P (cut_narrowed_rule region rule))
+    → ((rule : Rule) → word_meets rule.word region ≡ true → P rule → P (cut_narrowed_rule region rule))
     → All P rules → All P (narrow rules region)
 narrow_keeps P [] region each all = All-same P _ _ (narrow_none region) (All-nil P)
 narrow_keeps P (rule ∷ rules) region each all =
     let rest = narrow_keeps P rules region each (All-tail P rule rules all) in
     let here = All-head P rule rules all in
-    elim (cases_Bool (meets rule.word region)) [
+    elim (cases_Bool (word_meets rule.word region)) [
       | inl meet ↦ elim (cases_Bool (word_covers_of rule.word region)) [
         | inl covers ↦ All-same P _ _ (narrow_covered region rule rules meet covers)
             (All-cons P (cut_narrowed_rule region rule) [] (each rule meet here) (All-nil P))
@@ -123,7 +123,7 @@ narrow_keeps P (rule ∷ rules) region each all =
     ]
 
 narrowed_agrees : (list : List Rule) (region : WordValue) (number : ℕ) (rule : Rule)
-    → IsTrue (holds region number) → meets rule.word region ≡ true → Agrees list number rule
+    → IsTrue (holds region number) → word_meets rule.word region ≡ true → Agrees list number rule
     → Agrees list number (cut_narrowed_rule region rule)
 unfolding cut_narrowed_rule
 narrowed_agrees list region number rule inside meet agrees = agrees ∙ sym (meet_both rule.word
@@ -142,8 +142,8 @@ rank_kept region found = search rules
 
 -- narrowing keeps the place of the first rule that holds a header of the region
 first_kept : (rules : List Rule) (region : WordValue) (number : ℕ) → IsTrue (holds region number)
-    → option_map rank_of (find (is_held number) (narrow rules region))
-    ≡ option_map rank_of (find (is_held number) rules)
+    → option_map rank_of (find (is_held_by_policy_rule number) (narrow rules region))
+    ≡ option_map rank_of (find (is_held_by_policy_rule number) rules)
 first_kept rules region number inside = search (rules, narrow_first, rank_kept)
 
 -- ---- down the tree
@@ -151,13 +151,13 @@ first_kept rules region number inside = search (rules, narrow_first, rank_kept)
 -- the first of the places whose rule holds the header is that of the first of the rules that does
 abbrev Finds : List Rule → List Rule → ℕ → List ℕ → Type 0
 Finds list rules number places =
-    find (is_held_by_lookup_rule list number) places ≡ option_map rank_of (find (is_held number) rules)
+    find (is_held_by_lookup_rule list number) places ≡ option_map rank_of (find (is_held_by_policy_rule number) rules)
 
 end_finds : (list rules : List Rule) (number : ℕ) → All (Agrees list number) rules
     → Finds list rules number (map rank_of rules)
 end_finds list rules number all = find-map (is_held_by_lookup_rule list number) rank_of rules
     ∙ ap (option_map rank_of)
-    (find_agree (λ (rule : Rule). is_held_by_lookup_rule list number rule.rank) (is_held number) rules all)
+    (find_agree (λ (rule : Rule). is_held_by_lookup_rule list number rule.rank) (is_held_by_policy_rule number) rules all)
 
 -- the bits of a header lead to the place of the first rule that holds it
 leads : (cuts : ℕ) (list rules : List Rule) (region : WordValue) (number : ℕ)
@@ -203,8 +203,8 @@ ranked_agrees list number place (rule ∷ rules) same =
     ap (slice_get list) next ∙ same (suc i)))
 
 ranked_position : (number place : ℕ) (rules : List Rule)
-    → option_map rank_of (find (is_held number) (table_tree_ranked_rules place rules))
-    ≡ position_from (is_held number) place rules
+    → option_map rank_of (find (is_held_by_policy_rule number) (table_tree_ranked_rules place rules))
+    ≡ position_from (is_held_by_policy_rule number) place rules
 ranked_position number place [] = refl
 ranked_position number place (rule ∷ rules) = elim (cases_Bool (holds rule.word number)) [
   | inl held ↦ rw held refl
@@ -213,9 +213,9 @@ ranked_position number place (rule ∷ rules) = elim (cases_Bool (holds rule.wor
 
 -- the tree of a list leads each header of the region to the first of its rules that holds it
 pub tree_first : (list : List Rule) (region : WordValue) (number : ℕ) → IsTrue (holds region number)
-    → find (is_held_by_lookup_rule list number) (table_tree_leaf_at number (rule_tree list region))
-    ≡ position (is_held number) list
-unfolding rule_tree
+    → find (is_held_by_lookup_rule list number) (table_tree_leaf_at number (table_rule_tree list region))
+    ≡ position (is_held_by_policy_rule number) list
+unfolding table_rule_tree
 tree_first list region number inside =
     let ranked = table_tree_ranked_rules 0 list in
     let agree = ranked_agrees list number 0 list (λ i. ap (slice_get list) (none_more i)) in
@@ -223,18 +223,18 @@ tree_first list region number inside =
     (side_agrees list ranked region number inside agree)
     ∙ first_kept ranked region number inside
     ∙ ranked_position number 0 list
-    ∙ sym (position_from-zero (is_held number) list)
+    ∙ sym (position_from-zero (is_held_by_policy_rule number) list)
   where
     none_more : (n : ℕ) → 0 + n ≡ n
     none_more n = omega arith
 
 -- as `first` reads it
 pub first_is : (list : List Rule) (region : WordValue) (tree : BitTree (Vec ℕ Global)) (number h : ℕ)
-    (end : Vec ℕ Global) (places : List ℕ) (found : Option ℕ) → table_tree_rule_shape tree ≡ rule_tree list region
+    (end : Vec ℕ Global) (places : List ℕ) (found : Option ℕ) → table_tree_rule_shape tree ≡ table_rule_tree list region
     → IsTrue (holds region h) → number ≡ h → end ≡ table_tree_leaf_at number (lookup_tree_of (λ x. x) tree)
     → places ≡ end.items
-    → found ≡ find (is_held_by_lookup_rule list number) places → found ≡ position (is_held h) list
+    → found ≡ find (is_held_by_lookup_rule list number) places → found ≡ position (is_held_by_policy_rule h) list
 first_is list region tree number h end places found built inside same at read is =
     is ∙ ap (find (is_held_by_lookup_rule list number)) (read ∙ ap (λ (v : Vec ℕ Global). v.items) at
     ∙ seen_at (λ (v : Vec ℕ Global). v.items) number tree ∙ ap (table_tree_leaf_at number) built)
-    ∙ tree_first list region number (rw same inside) ∙ ap (λ n. position (is_held n) list) same
+    ∙ tree_first list region number (rw same inside) ∙ ap (λ n. position (is_held_by_policy_rule n) list) same

@@ -6,7 +6,7 @@ use Rattle.std.specs.Option.{option_map_or}
 use Rattle.ternary.specs.Exports.{WordValue, word_fix_of, holds}
 use Rattle.policy_rules.specs.declared.rules.Partition.{Partition}
 use Rattle.policy_rules.specs.declared.rules.Rule.{Rule}
-use Rattle.cut_tree.specs.Exports.{least_below, narrow, side_of_cut}
+use Rattle.cut_tree.specs.Exports.{least_cut_cost_below, narrow, side_of_cut}
 use Rattle.cut_tree.specs.declared.choice.Cost.{Cost}
 use Rattle.std.specs.Global.{Global}
 use Rattle.table_tree.specs.LookupTrees.{LookupTree, Leaf, Sides, lookup_tree_of}
@@ -42,7 +42,7 @@ table_tree_if_pays count (Some cost) = if table_tree_worth_cutting count cost th
 -- with this many cuts left, the cut of the node that costs least, if it pays
 abbrev pub table_tree_paying_cut : ℕ → List Rule → WordValue → Option Cost
 table_tree_paying_cut zero rules region = None
-table_tree_paying_cut (suc cuts) rules region = table_tree_if_pays (length rules) (least_below 104 rules region)
+table_tree_paying_cut (suc cuts) rules region = table_tree_if_pays (length rules) (least_cut_cost_below 104 rules region)
 
 -- the places of these rules, if there is no cut; otherwise both sides, built by this function
 abbrev pub table_tree_by_cut : (List Rule → WordValue → LookupTree (List ℕ)) → List Rule → WordValue
@@ -60,17 +60,17 @@ table_rule_tree_within (suc cuts) rules region =
     table_tree_by_cut (table_rule_tree_within cuts) rules region (table_tree_paying_cut (suc cuts) rules region)
 
 -- the tree of a list of rules in a region: at most 12 cuts on a path
-unfoldable pub rule_tree : List Rule → WordValue → LookupTree (List ℕ)
-rule_tree rules region = table_rule_tree_within 12 (narrow (table_tree_ranked_rules 0 rules) region) region
+unfoldable pub table_rule_tree : List Rule → WordValue → LookupTree (List ℕ)
+table_rule_tree rules region = table_rule_tree_within 12 (narrow (table_tree_ranked_rules 0 rules) region) region
 
 -- a region with its tree
-pub record RegionTree : Type 0 where
+pub record TableRegionTree : Type 0 where
   pub region : WordValue
   pub shape : LookupTree (List ℕ)
 
-abbrev pub seen_tree : RuleTree → RegionTree
-seen_tree tree = record { region = tree.region; shape = table_tree_rule_shape tree.root }
+abbrev pub table_tree_seen : RuleTree → TableRegionTree
+table_tree_seen tree = record { region = tree.region; shape = table_tree_rule_shape tree.root }
 
 -- the tree of a partition's rules
-abbrev pub part_lookup_tree : Partition → RegionTree
-part_lookup_tree part = record { region = part.region; shape = rule_tree part.rules part.region }
+abbrev pub part_lookup_tree : Partition → TableRegionTree
+part_lookup_tree part = record { region = part.region; shape = table_rule_tree part.rules part.region }

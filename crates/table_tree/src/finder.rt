@@ -1,10 +1,10 @@
 ghost use Rattle.std.specs.Prelude.{◌≡◌, ◌<◌, ◌^◌, ◌==◌, IfOk, IfSome, IsSomeAnd, IsTrue, find, position, slice_get};
 ghost use Rattle.std.specs.Option.{option_and_then};
-ghost use Rattle.five_tuple.specs.Header.{IsHeader, number_of};
-ghost use Rattle.policy_rules.specs.Exports.{is_held, is_in_policy_partition};
-ghost use Rattle.switch_table.specs.Lookup.{lookup_of, table_lookup};
+ghost use Rattle.five_tuple.specs.Header.{IsHeader, header_number_of};
+ghost use Rattle.policy_rules.specs.Exports.{is_held_by_policy_rule, is_in_policy_partition};
+ghost use Rattle.switch_table.specs.Lookup.{switch_table_lookup_of, switch_table_lookup};
 ghost use Rattle.switch_table.specs.Tables.{AreSoundSwitchTables};
-ghost use Rattle.table_tree.specs.Finding.{AreTableTreesOf, IsFinderTree, table_tree_candidate_shape};
+ghost use Rattle.table_tree.specs.Finding.{AreTableTreesOf, IsTableFinderTree, table_tree_candidate_shape};
 
 use crate::bit_tree::BitTree;
 use crate::trees::TableTrees;
@@ -27,17 +27,17 @@ pub struct Finder {
 impl Model for Finder {
     ghost use Rattle.std.specs.Borrow.{u32};
     ghost use Rattle.std.specs.Coded.{codes};
-    ghost use Rattle.table_tree.specs.Finding.{FinderValue, IsFinder};
+    ghost use Rattle.table_tree.specs.Finding.{TableTreeFinderValue, IsTableTreeFinder};
     ghost use Rattle.table_tree.specs.contracts.bit_tree.BitTree.{the_row};
 
-    ghost Value = { FinderValue };
+    ghost Value = { TableTreeFinderValue };
 
     ghost coded = { Prim.hlevel (codes, (the_row u32).coded) };
 
     ghost view = { λ f. record { tables = f.tables.value; tree = f.trees.value.tree } };
 
     ghost invariant = { λ f.
-        IsFinder (record { tables = f.tables.value; tree = f.trees.value.tree })
+        IsTableTreeFinder (record { tables = f.tables.value; tree = f.trees.value.tree })
         f.trees.value.rule_trees.items };
 }
 
@@ -50,7 +50,7 @@ impl Finder {
     pub fn build(alloc: Global, tables: Rc<Tables>) -> Result<Finder, AllocError>
         requires { AreSoundSwitchTables tables.value }
         ensures tables { IfOk result (λ finder. finder.tables ≡ tables.value) }
-        ensures tree { IfOk result (λ finder. IsFinderTree tables.value.parts
+        ensures tree { IfOk result (λ finder. IsTableFinderTree tables.value.parts
             (table_tree_candidate_shape finder.tree)) }
     {
         let trees = TableTrees::grow(alloc, tables.parts.items(), tables.auth.items())?;
@@ -63,7 +63,7 @@ impl Finder {
         requires sound { AreSoundSwitchTables tables.value }
         requires trees { AreTableTreesOf tables.value.parts tables.value.auth trees.value }
         ensures tables { result.tables ≡ tables.value }
-        ensures tree { IsFinderTree tables.value.parts (table_tree_candidate_shape result.tree) }
+        ensures tree { IsTableFinderTree tables.value.parts (table_tree_candidate_shape result.tree) }
     {
         header_laws();
         holds_laws();
@@ -75,7 +75,7 @@ impl Finder {
     /// version that holds it, otherwise the first authority rule that holds it, otherwise the
     /// partition rule that does. It allocates nothing.
     pub fn lookup(&self, cache: &Cache, header: &Header) -> Found
-        ensures { result ≡ lookup_of cache.now.entries self.now.tables header.now }
+        ensures { result ≡ switch_table_lookup_of cache.now.entries self.now.tables header.now }
     {
         match cache.first_entry(self.tables().version, header.number()) {
             Some(entry) => Found::Cached(entry),
@@ -103,7 +103,7 @@ impl Finder {
         requires { IsSomeAnd (find (λ part. part.number == partition) self.now.tables.auth)
             (λ part. IsTrue (is_in_policy_partition header.now part)) }
         ensures place { result ≡ option_and_then
-            (λ part. position (is_held (number_of header.now)) part.rules)
+            (λ part. position (is_held_by_policy_rule (header_number_of header.now)) part.rules)
             (find (λ part. part.number == partition) self.now.tables.auth) }
         ensures small { IfSome result (λ place. place < 2 ^ 32) }
         ensures sound { AreSoundSwitchTables self.now.tables }
@@ -122,7 +122,7 @@ impl Finder {
         requires { IsSomeAnd (slice_get self.now.tables.auth own)
             (λ part. IsTrue (is_in_policy_partition header.now part)) }
         ensures place { result ≡ option_and_then
-            (λ part. position (is_held (number_of header.now)) part.rules)
+            (λ part. position (is_held_by_policy_rule (header_number_of header.now)) part.rules)
             (slice_get self.now.tables.auth own) }
         ensures small { IfSome result (λ place. place < 2 ^ 32) }
     {
@@ -132,7 +132,7 @@ impl Finder {
 
     // What the tables say about the header.
     fn table_lookup(&self, header: &Header) -> Found
-        ensures { result ≡ table_lookup self.now.tables header.now }
+        ensures { result ≡ switch_table_lookup self.now.tables header.now }
     {
         let place = *self.trees.tree.end_of(header.number());
         match table_tree_part_place(self.tables.auth.items(), place) {

@@ -1,7 +1,7 @@
 ghost use Rattle.std.specs.Prelude.{◌≡◌, ◌^◌, ◌<◌, IfOk, filter, length};
-ghost use Rattle.ternary.specs.Meets.{any_word, word_fix_of, meets};
+ghost use Rattle.ternary.specs.Meets.{any_word, word_fix_of, word_meets};
 ghost use Rattle.cut_tree.specs.Cuts.{IsCuttableBit};
-ghost use Rattle.table_tree.specs.Regions.{AreTableTreeRegions, table_tree_candidate_meets, table_tree_side_candidates, lookup_candidates_of};
+ghost use Rattle.table_tree.specs.Regions.{AreTableTreeRegions, table_tree_candidate_meets, table_tree_side_candidates, table_tree_candidates_of};
 
 use std::alloc::{AllocError, Global};
 use switch_table::PartRow;
@@ -28,7 +28,7 @@ impl PartNode {
     /// Only out of memory.
     pub fn root(alloc: Global, rows: &[PartRow]) -> Result<PartNode, AllocError>
         requires { length rows.now < 2 ^ 32 }
-        ensures candidates { IfOk result (λ node. node.candidates.items ≡ lookup_candidates_of rows.now) }
+        ensures candidates { IfOk result (λ node. node.candidates.items ≡ table_tree_candidates_of rows.now) }
         ensures region { IfOk result (λ node. node.region ≡ any_word) }
         ensures words { IfOk result (λ node. AreTableTreeRegions node.candidates.items) }
     {
@@ -59,7 +59,7 @@ impl PartNode {
 // The regions of the rows, each with its place.
 fn numbered(alloc: Global, rows: &[PartRow]) -> Result<Vec<Candidate>, AllocError>
     requires { length rows.now < 2 ^ 32 }
-    ensures candidates { IfOk result (λ candidates. candidates.items ≡ lookup_candidates_of rows.now) }
+    ensures candidates { IfOk result (λ candidates. candidates.items ≡ table_tree_candidates_of rows.now) }
     ensures words { IfOk result (λ candidates. AreTableTreeRegions candidates.items) }
 {
     let mut candidates = Vec::with_capacity(alloc, rows.len())?;

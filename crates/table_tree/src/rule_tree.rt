@@ -1,10 +1,10 @@
 ghost use Rattle.std.specs.Prelude.{◌≡◌, ◌<◌, ◌^◌, IfOk, IfSome, IsTrue, find, length, position};
 ghost use Rattle.std.specs.Option.{option_copied};
-ghost use Rattle.five_tuple.specs.Header.{number_of};
+ghost use Rattle.five_tuple.specs.Header.{header_number_of};
 ghost use Rattle.ternary.specs.Word.{holds};
-ghost use Rattle.policy_rules.specs.Rules.{is_held};
+ghost use Rattle.policy_rules.specs.Rules.{is_held_by_policy_rule};
 ghost use Rattle.cut_tree.specs.Nodes.{AreCutRuleWords};
-ghost use Rattle.table_tree.specs.Ruling.{is_held_by_lookup_rule, table_tree_ranked_rules, table_tree_rule_shape, rule_tree};
+ghost use Rattle.table_tree.specs.Ruling.{is_held_by_lookup_rule, table_tree_ranked_rules, table_tree_rule_shape, table_rule_tree};
 
 use crate::bit_tree::BitTree;
 use crate::rule_node::grow;
@@ -34,12 +34,12 @@ impl RuleTree {
     ///
     /// # Errors
     /// Only out of memory.
-    #[tactic(auto, unfolding(crate::specs::Ruling::rule_tree))]
+    #[tactic(auto, unfolding(crate::specs::Ruling::table_rule_tree))]
     pub fn build(alloc: Global, rules: &[Rule], region: &Word) -> Result<RuleTree, AllocError>
         requires { length rules.now < 2 ^ 32 }
         ensures region { IfOk result (λ tree. tree.region ≡ region.now) }
         ensures tree { IfOk result (λ tree.
-            table_tree_rule_shape tree.root ≡ rule_tree rules.now region.now) }
+            table_tree_rule_shape tree.root ≡ table_rule_tree rules.now region.now) }
     {
         let ranked = ranked_table_tree_rules(alloc, rules)?;
         let node = Node::new(alloc, &ranked, region)?;
@@ -53,9 +53,9 @@ impl RuleTree {
     /// The place of the first of the rules that holds the header, as `first_hit` returns it; the
     /// rules are those that the tree was built of. It allocates nothing.
     pub fn first(&self, rules: &[Rule], header: &Header) -> Option<usize>
-        requires built { table_tree_rule_shape self.now.root ≡ rule_tree rules.now self.now.region }
-        requires header { IsTrue (holds self.now.region (number_of header.now)) }
-        ensures place { result ≡ position (is_held (number_of header.now)) rules.now }
+        requires built { table_tree_rule_shape self.now.root ≡ table_rule_tree rules.now self.now.region }
+        requires header { IsTrue (holds self.now.region (header_number_of header.now)) }
+        ensures place { result ≡ position (is_held_by_policy_rule (header_number_of header.now)) rules.now }
         ensures small { IfSome result (λ place. place < 2 ^ 32) }
     {
         let number = header.number();

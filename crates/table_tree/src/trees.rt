@@ -1,6 +1,6 @@
 ghost use Rattle.std.specs.Prelude.{◌≡◌, ◌<◌, ◌^◌, All, IfOk, length, map};
 ghost use Rattle.table_tree.specs.Finding.{AreTableTreesOf};
-ghost use Rattle.table_tree.specs.Ruling.{part_lookup_tree, seen_tree};
+ghost use Rattle.table_tree.specs.Ruling.{part_lookup_tree, table_tree_seen};
 
 use crate::bit_tree::BitTree;
 use crate::node::PartNode;
@@ -43,7 +43,7 @@ impl TableTrees {
 // The tree of each partition's rules.
 fn rule_trees(alloc: Global, parts: &[Partition]) -> Result<Vec<RuleTree>, AllocError>
     requires { All (λ part. length part.rules < 2 ^ 32) parts.now }
-    ensures { IfOk result (λ trees. map seen_tree trees.items ≡ map part_lookup_tree parts.now) }
+    ensures { IfOk result (λ trees. map table_tree_seen trees.items ≡ map part_lookup_tree parts.now) }
 {
     let mut trees = Vec::with_capacity(alloc, parts.len())?;
     for part in parts {

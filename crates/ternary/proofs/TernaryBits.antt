@@ -5,7 +5,7 @@ use Rattle.std.specs.Int.Bits.{xor_add_and, and_le_l, and_self, and_comm, or_com
 use Rattle.std.proofs.lemmas.Nat.{and_assoc, pow_below}
 use Rattle.std.proofs.lemmas.Nat.Bits.{bit_at_and, bit_at_or, bit_at_xor, bit_at-lt, bit_at-zero, bit_at-pow_same, bit_at-pow_other, bit_at_above, bit_at_clear_same, bit_at_clear_other, and_pow, same_from_bits, same_from_bits_below}
 use Rattle.std.proofs.lemmas.Bool.{cases_eq}
-use Rattle.ternary.specs.Exports.{with_bit, ternary_without_bit}
+use Rattle.ternary.specs.Exports.{ternary_with_bit, ternary_without_bit}
 
 -- ---- one digit
 
@@ -87,17 +87,17 @@ placed_other k true i apart = let e : 1 * 2 ^ k ≡ 2 ^ k = omega arith in ap (�
     ∙ bit_at-pow_other k i apart
 placed_other k false i apart = search (rules, bit_at-zero)
 
-pub with_bit-same : (n k : ℕ) (one : Bool) → bit_at (with_bit n k one) k ≡ from_bool one
+pub with_bit-same : (n k : ℕ) (one : Bool) → bit_at (ternary_with_bit n k one) k ≡ from_bool one
 with_bit-same n k one = search (rules, bit_at_or, ternary_without_bit-same, placed_same)
 
-pub with_bit-other : (n k : ℕ) (one : Bool) (i : ℕ) → i ≢ k → bit_at (with_bit n k one) i ≡ bit_at n
+pub with_bit-other : (n k : ℕ) (one : Bool) (i : ℕ) → i ≢ k → bit_at (ternary_with_bit n k one) i ≡ bit_at n
     i
 with_bit-other n k one i apart = search (rules, bit_at_or, ternary_without_bit-other, placed_other)
 
 placed_lt : (w k : ℕ) (one : Bool) → k < w → from_bool one * 2 ^ k < 2 ^ w
 placed_lt w k one within = search (rules, pow_below)
 
-pub with_bit-lt : (w n k : ℕ) (one : Bool) → n < 2 ^ w → k < w → with_bit n k one < 2 ^ w
+pub with_bit-lt : (w n k : ℕ) (one : Bool) → n < 2 ^ w → k < w → ternary_with_bit n k one < 2 ^ w
 with_bit-lt w n k one fits within = search (rules, or_lt, ternary_without_bit-le, placed_lt)
 
 -- the bit k beside those of n

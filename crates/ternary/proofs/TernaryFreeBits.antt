@@ -8,16 +8,16 @@ use Rattle.std.proofs.lemmas.List.FromFn.{length-range_with_len, get_or-range_wi
 use Rattle.std.proofs.lemmas.List.Kept.{IsStrictlyIncreasing-filter}
 use Rattle.std.proofs.lemmas.Nat.Bits.{bit_at-zero, bit_at_ones}
 use Rattle.std.proofs.Math.Bool.{and-true}
-use Rattle.ternary.specs.Exports.{WordValue, any_word, exact_word, word_fix_of, free_bits, is_fixed_of}
+use Rattle.ternary.specs.Exports.{WordValue, any_word, exact_word, word_fix_of, free_word_bits, is_word_bit_fixed}
 use Rattle.ternary.proofs.TernaryWords.{is_fixed_decides, fix_fixed, fix_other}
 
 -- ---- words of no fixed bit, and of no free bit
 
-pub any_unfixed : (k : ℕ) → IsFalse (is_fixed_of any_word k)
-unfolding is_fixed_of
+pub any_unfixed : (k : ℕ) → IsFalse (is_word_bit_fixed any_word k)
+unfolding is_word_bit_fixed
 any_unfixed k = ap (λ d. d == 1) (bit_at-zero k)
 
-pub exact_fixed : (h k : ℕ) → k < 104 → IsTrue (is_fixed_of (exact_word h) k)
+pub exact_fixed : (h k : ℕ) → k < 104 → IsTrue (is_word_bit_fixed (exact_word h) k)
 exact_fixed h k low = (is_fixed_decides (exact_word h) k).1 (bit_at_ones 104 k low)
 
 -- ---- a test along a run of numbers
@@ -92,31 +92,31 @@ filter_twice p q (x ∷ xs) = filter_cond q (p x) x (filter p xs) _ (filter_twic
 -- ---- the free bits
 
 abbrev is_free : WordValue → ℕ → Bool
-is_free w k = not (is_fixed_of w k)
+is_free w k = not (is_word_bit_fixed w k)
 
-pub free_bits_member : (w : WordValue) (k : ℕ) → Contains (free_bits w) k
-    ↔ ((k < 104) × IsFalse (is_fixed_of w k))
-unfolding free_bits
+pub free_bits_member : (w : WordValue) (k : ℕ) → Contains (free_word_bits w) k
+    ↔ ((k < 104) × IsFalse (is_word_bit_fixed w k))
+unfolding free_word_bits
 free_bits_member w k = (
   λ has. let h = All-contains (IsKept (is_free w) 0 104) (kept (is_free w) 0 104) k
       (all_kept (is_free w) 0 104) has in
-      (omega (arith, h.1), not-true (is_fixed_of w k) h.2),
+      (omega (arith, h.1), not-true (is_word_bit_fixed w k) h.2),
   λ free. kept_has (is_free w) 0 104 k (omega arith, omega (arith, free.0), ap not free.1),
 )
 
 run_rises : (a n : ℕ) → IsStrictlyIncreasing (range_with_len a n)
 run_rises a n i low = omega (arith, length-range_with_len, get_or-range_with_len)
 
-pub free_bits_ascending : (w : WordValue) → IsStrictlyIncreasing (free_bits w)
-unfolding free_bits
+pub free_bits_ascending : (w : WordValue) → IsStrictlyIncreasing (free_word_bits w)
+unfolding free_word_bits
 free_bits_ascending w = search (rules, IsStrictlyIncreasing-filter, run_rises)
 
 all_pass : (p : ℕ → Bool) → ((k : ℕ) → p k ≡ true) → (xs : List ℕ) → filter p xs ≡ xs
 all_pass p passes [] = refl
 all_pass p passes (x ∷ xs) = cc (cond-true (p x) _ _ (passes x), all_pass p passes xs)
 
-pub any_free_bits : length (free_bits any_word) ≡ 104
-unfolding free_bits
+pub any_free_bits : length (free_word_bits any_word) ≡ 104
+unfolding free_word_bits
 any_free_bits = search (rules, all_pass, any_unfixed, length-range_with_len)
 
 -- a list without elements
@@ -124,28 +124,28 @@ empty_list : (xs : List ℕ) → ((x : ℕ) → Contains xs x → ⊥) → xs �
 empty_list [] none = refl
 empty_list (x ∷ xs) none = absurd (none x (0, omega arith, refl))
 
-pub exact_free_bits : (h : ℕ) → free_bits (exact_word h) ≡ []
-exact_free_bits h = empty_list (free_bits (exact_word h)) (λ k has. let free =
+pub exact_free_bits : (h : ℕ) → free_word_bits (exact_word h) ≡ []
+exact_free_bits h = empty_list (free_word_bits (exact_word h)) (λ k has. let free =
     (free_bits_member (exact_word h) k).0 has in both_ways _ free.1 (exact_fixed h k free.0))
 
 module _ (w : WordValue) (k : ℕ) (one : Bool) where
-  pub free_bits_fixed : free_bits (word_fix_of w k one) ≡ filter (λ j. not (j == k)) (free_bits w)
-  unfolding free_bits
+  pub free_bits_fixed : free_word_bits (word_fix_of w k one) ≡ filter (λ j. not (j == k)) (free_word_bits w)
+  unfolding free_word_bits
   free_bits_fixed = filter_agree (is_free (word_fix_of w k one)) (λ j. is_free w j && not (j == k)) same
       (range_with_len 0 104)
       ∙ sym (filter_twice (is_free w) (λ j. not (j == k)) (range_with_len 0 104))
     where
       same : (j : ℕ) → is_free (word_fix_of w k one) j ≡ (is_free w j && not (j == k))
       same j = elim (cases_eq j k) [
-        | inl here ↦ ap not (ap (is_fixed_of (word_fix_of w k one)) here ∙ fix_fixed w k one)
+        | inl here ↦ ap not (ap (is_word_bit_fixed (word_fix_of w k one)) here ∙ fix_fixed w k one)
             ∙ sym (and_right (is_free w j) (not (j == k)) (ap not (eq-eqb j k here)))
         | inr away ↦ ap not (fix_other w k one j away)
             ∙ sym (ap (λ t. is_free w j && t) (ap not (ne_eqb j k away)) ∙ and-true (is_free w j))
       ]
 
-  pub free_bits_shorter : k < 104 → IsFalse (is_fixed_of w k)
-      → length (free_bits (word_fix_of w k one)) + 1 ≡ length (free_bits w)
-  unfolding free_bits
+  pub free_bits_shorter : k < 104 → IsFalse (is_word_bit_fixed w k)
+      → length (free_word_bits (word_fix_of w k one)) + 1 ≡ length (free_word_bits w)
+  unfolding free_word_bits
   free_bits_shorter low free = one_less (is_free w) (is_free (word_fix_of w k one)) k
       (λ j away. ap not (fix_other w k one j away)) (ap not free) (ap not (fix_fixed w k one)) 0 104
       (omega arith) (omega arith)

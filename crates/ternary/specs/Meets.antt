@@ -17,8 +17,8 @@ abbrev pub AreDisjointWords : WordValue → WordValue → Type 0
 AreDisjointWords a b = (h : ℕ) → h < 2 ^ 104 → IsTrue (holds a h) → IsTrue (holds b h) → ⊥
 
 -- m holds exactly what both hold
-abbrev pub IsMeet : WordValue → WordValue → WordValue → Type 0
-IsMeet a b m = (h : ℕ) → holds m h ≡ (holds a h && holds b h)
+abbrev pub IsTernaryMeet : WordValue → WordValue → WordValue → Type 0
+IsTernaryMeet a b m = (h : ℕ) → holds m h ≡ (holds a h && holds b h)
 
 -- every bit is free
 abbrev pub any_word : WordValue
@@ -33,8 +33,8 @@ abbrev pub word_eq : WordValue → WordValue → Bool
 word_eq a b = (a.value == b.value) && (a.mask == b.mask)
 
 -- the values agree on each bit that both fix
-abbrev pub AgreesOnFixedBits : WordValue → WordValue → Type 0
-AgreesOnFixedBits a b = (k : ℕ) → bit_at a.mask k ≡ 1 → bit_at b.mask k ≡ 1
+abbrev pub WordsAgreeOnFixedBits : WordValue → WordValue → Type 0
+WordsAgreeOnFixedBits a b = (k : ℕ) → bit_at a.mask k ≡ 1 → bit_at b.mask k ≡ 1
     → bit_at a.value k ≡ bit_at b.value k
 
 -- each bit that a fixes, b fixes to the same
@@ -43,8 +43,8 @@ IsWordFixedIn a b = (k : ℕ) → bit_at a.mask k ≡ 1
     → (bit_at b.mask k ≡ 1) × (bit_at b.value k ≡ bit_at a.value k)
 
 -- the values agree on the bits that both fix
-unfoldable pub meets : WordValue → WordValue → Bool
-meets a b = let common = bit_and a.mask b.mask in bit_and a.value common == bit_and b.value common
+unfoldable pub word_meets : WordValue → WordValue → Bool
+word_meets a b = let common = bit_and a.mask b.mask in bit_and a.value common == bit_and b.value common
 
 -- the fixed bits of both
 abbrev pub meeting_word : WordValue → WordValue → WordValue
@@ -54,8 +54,8 @@ meeting_word a b = record {
 }
 
 -- the word of the headers that both hold; `None` if there are none
-unfoldable pub meet_of : WordValue → WordValue → Option WordValue
-meet_of a b = if meets a b then Some (meeting_word a b) else None
+unfoldable pub word_meet_of : WordValue → WordValue → Option WordValue
+word_meet_of a b = if word_meets a b then Some (meeting_word a b) else None
 
 -- each fixed bit of a is fixed in b, and to the same
 unfoldable pub word_covers_of : WordValue → WordValue → Bool
@@ -66,20 +66,20 @@ abbrev pub ternary_without_bit : ℕ → ℕ → ℕ
 ternary_without_bit n k = n - bit_at n k * 2 ^ k
 
 -- n with its bit k set to 1 or 0
-abbrev pub with_bit : ℕ → ℕ → Bool → ℕ
-with_bit n k one = bit_or (ternary_without_bit n k) (from_bool one * 2 ^ k)
+abbrev pub ternary_with_bit : ℕ → ℕ → Bool → ℕ
+ternary_with_bit n k one = bit_or (ternary_without_bit n k) (from_bool one * 2 ^ k)
 
 -- bit k is fixed
-unfoldable pub is_fixed_of : WordValue → ℕ → Bool
-is_fixed_of w k = bit_at w.mask k == 1
+unfoldable pub is_word_bit_fixed : WordValue → ℕ → Bool
+is_word_bit_fixed w k = bit_at w.mask k == 1
 
 -- bit k is free, or fixed to this
 unfoldable pub word_admits : WordValue → ℕ → Bool → Bool
-word_admits w k one = not (is_fixed_of w k) || (bit_at w.value k == from_bool one)
+word_admits w k one = not (is_word_bit_fixed w k) || (bit_at w.value k == from_bool one)
 
 -- bit k fixed to 1 or 0: a half of w, if the bit was free
 unfoldable pub word_fix_of : WordValue → ℕ → Bool → WordValue
-word_fix_of w k one = record { value = with_bit w.value k one; mask = bit_or w.mask (2 ^ k) }
+word_fix_of w k one = record { value = ternary_with_bit w.value k one; mask = bit_or w.mask (2 ^ k) }
 
 -- bit k freed
 unfoldable pub ternary_with_bit_freed : WordValue → ℕ → WordValue
@@ -87,13 +87,13 @@ ternary_with_bit_freed w k = record { value = ternary_without_bit w.value k; mas
 
 -- bit k is not fixed in both to different values
 unfoldable pub words_agree_at : WordValue → WordValue → ℕ → Bool
-words_agree_at a b k = not (is_fixed_of a k && is_fixed_of b k) || (bit_at a.value k == bit_at b.value k)
+words_agree_at a b k = not (is_word_bit_fixed a k && is_word_bit_fixed b k) || (bit_at a.value k == bit_at b.value k)
 
 -- if a fixes bit k, b fixes it to the same
 unfoldable pub word_includes_at : WordValue → WordValue → ℕ → Bool
 word_includes_at a b k =
-    not (is_fixed_of a k) || (is_fixed_of b k && (bit_at b.value k == bit_at a.value k))
+    not (is_word_bit_fixed a k) || (is_word_bit_fixed b k && (bit_at b.value k == bit_at a.value k))
 
 -- of the 104 bits, those that are free, ascending
-unfoldable pub free_bits : WordValue → List ℕ
-free_bits w = filter (λ k. not (is_fixed_of w k)) (range_with_len 0 104)
+unfoldable pub free_word_bits : WordValue → List ℕ
+free_word_bits w = filter (λ k. not (is_word_bit_fixed w k)) (range_with_len 0 104)

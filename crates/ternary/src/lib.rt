@@ -5,13 +5,13 @@
 //! that a word holds, and allocates nothing. The laws, functions with an empty body, ensure what is
 //! true of all words, for proofs in which no call runs. `word_eq` compares words as keys of a map.
 //!
-//! A caller, which imports `IfSome` and `IsNone` from std, `AreDisjointWords` and `IsMeet` from
-//! `specs/Meets.antt`:
+//! A caller, which imports `IfSome` and `IsNone` from std, `AreDisjointWords` and `IsTernaryMeet`
+//! from `specs/Meets.antt`:
 //!
 //! ```rust
 //! /// The part of a rule that lies in a region.
 //! pub fn part_in(rule: &Word, region: &Word) -> Option<Word>
-//!     ensures part { IfSome result (λ part. IsMeet rule.now region.now part) }
+//!     ensures part { IfSome result (λ part. IsTernaryMeet rule.now region.now part) }
 //!     ensures none { IsNone result ↔ AreDisjointWords rule.now region.now }
 //! {
 //!     rule.meet(region)

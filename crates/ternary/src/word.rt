@@ -2,7 +2,7 @@ ghost use Rattle.std.specs.Prelude.{◌≡◌, ◌≢◌, ◌^◌, ◌<◌, ◌�
 ghost use Rattle.std.specs.Int.{bit_at, from_bool};
 ghost use Rattle.ternary.specs.Word.{WordValue, holds, ternary_word_text};
 ghost use Rattle.ternary.specs.WordBits.{IsWord};
-ghost use Rattle.ternary.specs.Meets.{AgreesOnWordMask, WordIncludes, AreDisjointWords, IsMeet, any_word, exact_word, meet_of, meets, word_covers_of, with_bit, is_fixed_of, word_fix_of, ternary_with_bit_freed};
+ghost use Rattle.ternary.specs.Meets.{AgreesOnWordMask, WordIncludes, AreDisjointWords, IsTernaryMeet, any_word, exact_word, word_meet_of, word_meets, word_covers_of, ternary_with_bit, is_word_bit_fixed, word_fix_of, ternary_with_bit_freed};
 
 use std::fmt;
 use std::marker::Model;
@@ -101,8 +101,8 @@ impl Word {
 
     /// The word of the headers that both words hold; `None` if there are none.
     pub fn meet(&self, other: &Word) -> Option<Word>
-        ensures pair { result ≡ meet_of self.now other.now }
-        ensures both { IfSome result (λ m. IsMeet self.now other.now m × IsWord m) }
+        ensures pair { result ≡ word_meet_of self.now other.now }
+        ensures both { IfSome result (λ m. IsTernaryMeet self.now other.now m × IsWord m) }
         ensures none { IsNone result ↔ AreDisjointWords self.now other.now }
         ensures words { IsWord self.now × IsWord other.now }
     {
@@ -130,7 +130,7 @@ impl Word {
     /// Whether both words hold some header.
     #[tactic(auto, using(crate::proofs::TernaryCallerLemmas::meet_is_some))]
     pub fn meets(&self, other: &Word) -> bool
-        ensures { result ≡ meets self.now other.now }
+        ensures { result ≡ word_meets self.now other.now }
     {
         self.meet(other).is_some()
     }
@@ -138,7 +138,7 @@ impl Word {
     /// Whether this bit, counted from the lowest, is fixed.
     pub fn is_fixed(&self, bit: u32) -> bool
         requires { bit < 104 }
-        ensures { result ≡ is_fixed_of self.now bit }
+        ensures { result ≡ is_word_bit_fixed self.now bit }
     {
         (self.mask >> bit) & 1 == 1
     }
@@ -146,7 +146,7 @@ impl Word {
     /// The half of this word whose free bit `bit` is 1 if `one` is true, otherwise 0.
     pub fn fix(&self, bit: u32, one: bool) -> Word
         requires bound { bit < 104 }
-        requires free { IsFalse (is_fixed_of self.now bit) }
+        requires free { IsFalse (is_word_bit_fixed self.now bit) }
         ensures pair { result ≡ word_fix_of self.now bit one }
         ensures half { (h : ℕ) →
             holds result h ≡ (holds self.now h && (bit_at h bit == from_bool one)) }
@@ -164,7 +164,7 @@ impl Word {
         requires { bit < 104 }
         ensures pair { result ≡ ternary_with_bit_freed self.now bit }
         ensures either { (h : ℕ) → holds result h ≡
-            (holds self.now (with_bit h bit false) || holds self.now (with_bit h bit true)) }
+            (holds self.now (ternary_with_bit h bit false) || holds self.now (ternary_with_bit h bit true)) }
         ensures word { IsWord result }
     {
         let others = !(1u128 << bit);

@@ -1,9 +1,9 @@
 -- An index of a policy's rows: how it grows, and that what it finds is the first match.
 use Rattle.std.proofs.Common.{[], ◌&&◌, ◌*◌, ◌++◌, ◌+◌, ◌-◌, ◌/◌, ◌<◌, ◌==◌, ◌^◌, ◌∙◌, ◌∷◌, ◌≡◌, ◌≢◌, ◌≤◌, All, Bool, Contains, List, MatchOption, None, Option, Some, ap, arith, cond, eq-eqb, eqb-true, false, filter, get_or, inl, inr, length, length-set, ltb, ltb-false, ltb-true, not, refl, replicate, set, slice_get, subst, suc, sym, true, true≢false, zero, ℕ}
 use Rattle.base.proofs.Exports.{All-filter, All-head, All-push, Contains-append_right, and_cases, and_parts, both_ways, cases_eq, cases_lt, cond_both, contains_at, false≢true, filter_passes, get_or_from_slice_get, get_push_at, get_push_left, get_replicate, get_set_other, get_set_same, length-replicate, length_push, one_item, option_map_or, passes_at_first, position_or_len, position_or_len_push, prefix_len-le-length, same_Some, shr_split, slice_get-get_or, slice_get_read, slice_get_within}
-use Rattle.five_tuple.specs.Exports.{AddressBlock, IsAddressBlock, address_block_round, fields_of, prefix_matches, proto_matches, range_matches}
+use Rattle.five_tuple.specs.Exports.{AddressBlock, IsAddressBlock, address_block_round, header_fields_of, address_prefix_matches, proto_matches, port_range_matches}
 use Rattle.update_machine.specs.Exports.{Action, Fields, Header, Hit, Row}
-use Rattle.policy_rules.specs.Exports.{IsFirstMatch, IsPolicy, IsSoundPolicyRow, hit_of, policy_row_matches}
+use Rattle.policy_rules.specs.Exports.{IsFirstPolicyMatch, IsPolicy, IsSoundPolicyRow, policy_hit_of, policy_row_matches}
 use Rattle.trace_audit.specs.Exports.{AreAuditShapesOf, HasAuditShape, IsBestAuditHit, IsBetterAuditHit, IsAuditIndexOf, IsAuditIndexUpTo, IsAuditRowLastBefore, IsAuditMatchIn, IsNoHigherAuditRow, IsSoundAuditShape, AuditRowsLackSlot, AuditIndexNotes, audit_better_index_hit, is_audit_index_shape, audit_shape_of_row, audit_shape_place, audit_index_slot_of, audit_slot_of_row}
 use Rattle.trace_audit.specs.declared.index.AuditIndex.{AuditIndex}
 use Rattle.trace_audit.specs.declared.index.Shape.{Shape}
@@ -12,7 +12,7 @@ use Rattle.trace_audit.specs.declared.index.Shape.{Shape}
 
 -- the block of an address that a row's block holds begins as that one does
 same_start : (p : AddressBlock) (address : ℕ) → IsAddressBlock p
-    → prefix_matches p address ≡ true → (address_block_round address p.len).address ≡ p.address
+    → address_prefix_matches p address ≡ true → (address_block_round address p.len).address ≡ p.address
 same_start p address sound matches =
     let same = eqb-true (address / 2 ^ (32 - p.len)) (p.address / 2 ^ (32 - p.len)) matches in
     ap (λ n. n * 2 ^ (32 - p.len)) same
@@ -95,8 +95,8 @@ slot_same shapes row fields shape src dst sound matches own s d =
     let place = audit_shape_place shapes row in
     let d : dst ≡ (address_block_round fields.dst row.dst.len).address =
     d ∙ ap (λ (x : Shape). (address_block_round fields.dst x.dst).address) (sym own) in
-    let both = both_blocks (prefix_matches row.src fields.src) (prefix_matches row.dst fields.dst)
-    (range_matches row.sport fields.sport) (range_matches row.dport fields.dport)
+    let both = both_blocks (address_prefix_matches row.src fields.src) (address_prefix_matches row.dst fields.dst)
+    (port_range_matches row.sport fields.sport) (port_range_matches row.dport fields.dport)
     (proto_matches row.proto fields.proto) matches in
     ap (λ a. audit_index_slot_of n place a row.dst.address)
     (sym ((s ∙ ap (λ (x : Shape). (address_block_round fields.src x.src).address) (sym own))
@@ -217,13 +217,13 @@ module _ (row : Row) (fields : Fields) (hit : Hit) where
   above = option_map_or (λ p. ltb p row.priority) hit.rule true
 
   better_kept : (other : Row) → IsNoHigherAuditRow hit other → IsNoHigherAuditRow (audit_better_index_hit row fields hit) other
-  better_kept other reached = cond_both (above && policy_row_matches row fields) (hit_of (Some row)) hit
+  better_kept other reached = cond_both (above && policy_row_matches row fields) (policy_hit_of (Some row)) hit
       (λ h. IsNoHigherAuditRow h other) (λ yes. less_or hit.rule row.priority other.priority
       (and_parts above (policy_row_matches row fields) yes).0 reached) (λ no. reached)
 
   better_reached : policy_row_matches row fields ≡ true → IsNoHigherAuditRow (audit_better_index_hit row fields hit) row
   better_reached matches =
-      cond_both (above && policy_row_matches row fields) (hit_of (Some row)) hit (λ h. IsNoHigherAuditRow h row)
+      cond_both (above && policy_row_matches row fields) (policy_hit_of (Some row)) hit (λ h. IsNoHigherAuditRow h row)
       (λ yes. omega arith) (λ no. elim (and_cases above (policy_row_matches row fields) no) [
         | inl below ↦ not_less hit.rule row.priority below
         | inr not ↦ absurd (both_ways (policy_row_matches row fields) not matches)
@@ -232,7 +232,7 @@ module _ (row : Row) (fields : Fields) (hit : Hit) where
   better_matching : (rows : List Row) → Contains rows row → IsAuditMatchIn rows fields hit
       → IsAuditMatchIn rows fields (audit_better_index_hit row fields hit)
   better_matching rows has matching =
-      cond_both (above && policy_row_matches row fields) (hit_of (Some row)) hit (IsAuditMatchIn rows fields)
+      cond_both (above && policy_row_matches row fields) (policy_hit_of (Some row)) hit (IsAuditMatchIn rows fields)
       (λ yes. (row, has, (and_parts above (policy_row_matches row fields) yes).1, refl, refl))
       (λ no. matching)
 
@@ -384,15 +384,15 @@ abbrev hit_with : Option ℕ → Action → Hit
 hit_with rule action = record { rule = rule; action = action }
 
 best_by : (rows : List Row) (header : Header) (rule : Option ℕ) (action : Action) → IsBestAuditHit rows
-    (fields_of header) (hit_with rule action) → IsFirstMatch rows header (hit_with rule action)
+    (header_fields_of header) (hit_with rule action) → IsFirstPolicyMatch rows header (hit_with rule action)
 best_by rows header None action best =
-    let p : Row → Bool = λ row. policy_row_matches row (fields_of header) in (
+    let p : Row → Bool = λ row. policy_row_matches row (header_fields_of header) in (
       none_left p (filter p rows) (All-filter p (λ row. p row ≡ true → ⊥) rows best.reached)
           (filter_passes p rows),
       best.matching,
     )
 best_by rows header (Some priority) action best =
-    let p : Row → Bool = λ row. policy_row_matches row (fields_of header) in
+    let p : Row → Bool = λ row. policy_row_matches row (header_fields_of header) in
     let (row, (k, within, is), matches, names, acts) = best.matching in (
       row,
       record {
@@ -407,5 +407,5 @@ best_by rows header (Some priority) action best =
     )
 
 pub best_first : (rows : List Row) (header : Header) (hit : Hit)
-    → IsBestAuditHit rows (fields_of header) hit → IsFirstMatch rows header hit
+    → IsBestAuditHit rows (header_fields_of header) hit → IsFirstPolicyMatch rows header hit
 best_first rows header hit = best_by rows header hit.rule hit.action

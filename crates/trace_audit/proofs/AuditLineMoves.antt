@@ -1,10 +1,10 @@
 -- Moves of the machine that a line may tell, and such that it may not.
 use Rattle.std.proofs.Common.{◌∙◌, ◌≡◌, List, Option, Some, ap, get_or, length, ltb, ltb-true, refl, slice_get, subst, true, ℕ}
 use Rattle.base.proofs.Exports.{same_some, slice_get_read}
-use Rattle.policy_rules.specs.Exports.{IsFirstMatch}
-use Rattle.update_machine.specs.Exports.{Decides, Hit, Machine, Row, machine_submitted_policy}
+use Rattle.policy_rules.specs.Exports.{IsFirstPolicyMatch}
+use Rattle.update_machine.specs.Exports.{MachineDecides, Hit, Machine, Row, machine_submitted_policy}
 use Rattle.update_machine.specs.Machine.{Packet}
-use Rattle.trace_audit.specs.Exports.{IsPrinted, trace_packets_seen, trace_packets_with_one}
+use Rattle.trace_audit.specs.Exports.{IsAuditDecisionPrinted, trace_packets_seen, trace_packets_with_one}
 use Rattle.trace_audit.specs.declared.auditor.Auditor.{Auditor}
 
 -- what is known, except the packets
@@ -22,13 +22,13 @@ policy_there slice items place rows e within there = subst (λ xs. slice_get xs 
 pub not_decided : (old new : Machine) (number version : ℕ) (rule action : List ℕ)
     (packet : Packet) (rows : List Row) (hit g : Hit) → old.packets number ≡ Some packet
     → machine_submitted_policy old version ≡ Some rows
-    → ((h : Hit) → IsFirstMatch rows packet.header h → h ≡ hit) → (IsPrinted rule action hit → ⊥)
-    → IsPrinted rule action g → Decides old number version g new → ⊥
+    → ((h : Hit) → IsFirstPolicyMatch rows packet.header h → h ≡ hit) → (IsAuditDecisionPrinted rule action hit → ⊥)
+    → IsAuditDecisionPrinted rule action g → MachineDecides old number version g new → ⊥
 not_decided old new number version rule action packet rows hit g there submitted only bad printed d =
     let packets : d.packet ≡ packet = same_some d.packet packet _ d.entered there in
     let policies : d.policy ≡ rows = same_some d.policy rows _ d.submitted submitted in
-    bad (subst (IsPrinted rule action) (only g (subst (λ x. IsFirstMatch x packet.header g) policies
-    (subst (λ x. IsFirstMatch d.policy x.header g) packets d.first_match))) printed)
+    bad (subst (IsAuditDecisionPrinted rule action) (only g (subst (λ x. IsFirstPolicyMatch x packet.header g) policies
+    (subst (λ x. IsFirstPolicyMatch d.policy x.header g) packets d.first_match))) printed)
 
 -- a packet is put, and nothing else changes
 pub put_after : (a : Auditor) (number : ℕ) (after : ℕ → Option Packet) (put packet : Packet)

@@ -1,12 +1,12 @@
 -- Readings of lines: those of some lines and of more, and that there is only one.
 use Rattle.std.proofs.Common.{[], ◌++◌, ◌-◌, ◌==◌, ◌∙◌, ◌∷◌, ◌≡◌, All, Bool, Err, IfSome, List, None, Ok, Option, Result, Some, ap, cond, false, length, option_to_list, refl, slice_get, subst, sym, true, ℕ}
 use Rattle.base.proofs.Exports.{All-cons, All-nil, All-push, IfSome-at_place, get_or_from_slice_get, result_ok, same_some, slice_get_within}
-use Rattle.update_machine.specs.Exports.{Decides, End, Ends, MachineEnters, Header, Hit, Inapplicable, Machine, PolicyFile, Row, MachineSubmits, made_by, machine_with_packet}
-use Rattle.policy_rules.specs.Exports.{IsPolicy, IsPolicyRulesOrAmendment}
+use Rattle.update_machine.specs.Exports.{MachineDecides, MachinePacketEnd, MachineEndsPacket, MachineEnters, Header, Hit, Inapplicable, Machine, PolicyFile, Row, MachineSubmits, machine_policy_made_by, machine_with_packet}
+use Rattle.policy_rules.specs.Exports.{IsPolicy, IsSoundPolicyFile}
 use Rattle.policy_rules.specs.declared.file.PolicyFile.TheVariants as file_of
 use Rattle.policy_rules.proofs.PolicyRulesCallerLemmas.{IsPolicy-applied, first_match-only}
 use Rattle.update_machine.specs.Machine.{Packet}
-use Rattle.trace_audit.specs.Exports.{Follows, Open, ReadsAllAuditLines, ReadsAuditLine, Told, TraceLine, TraceState, Whole, first_trace_state, audit_latest_policy, audit_made_policy, trace_numbered_file}
+use Rattle.trace_audit.specs.Exports.{AuditStateFollows, Open, ReadsAllAuditLines, ReadsAuditLine, AuditTold, TraceLine, TraceState, Whole, first_trace_state, audit_latest_policy, audit_made_policy, trace_numbered_file}
 use Rattle.trace_audit.specs.Told as told
 
 -- ---- some lines and more
@@ -34,7 +34,7 @@ policy_in policies place rows sound e = rw (get_or_from_slice_get policies place
 
 -- what a file makes of a policy, or of none, is one
 sound_by : (file : Option PolicyFile) (newest : Option (List Row)) (rows : List Row)
-    → IfSome file IsPolicyRulesOrAmendment → IfSome newest IsPolicy → made_by file newest ≡ Ok rows
+    → IfSome file IsSoundPolicyFile → IfSome newest IsPolicy → machine_policy_made_by file newest ≡ Ok rows
     → IsPolicy rows
 sound_by None newest rows own sound made = absurd cc
 sound_by (Some (file_of.Whole given)) newest rows own sound made =
@@ -43,11 +43,11 @@ sound_by (Some (file_of.Change edits)) None rows own sound made = absurd cc
 sound_by (Some (file_of.Change edits)) (Some old) rows own sound made =
     IsPolicy-applied old rows edits sound own made
 
-file_by : (files : List PolicyFile) (file : ℕ) (zero : Bool) → All IsPolicyRulesOrAmendment files
-    → IfSome (cond zero None (slice_get files (file - 1))) IsPolicyRulesOrAmendment
+file_by : (files : List PolicyFile) (file : ℕ) (zero : Bool) → All IsSoundPolicyFile files
+    → IfSome (cond zero None (slice_get files (file - 1))) IsSoundPolicyFile
 file_by files file true own = tt
 file_by files file false own =
-    IfSome-at_place IsPolicyRulesOrAmendment files (file - 1) (slice_get files (file - 1)) own refl
+    IfSome-at_place IsSoundPolicyFile files (file - 1) (slice_get files (file - 1)) own refl
 
 ok_of : (made : Result (List Row) Inapplicable) (rows : List Row) → result_ok made ≡ Some rows
     → made ≡ Ok rows
@@ -55,11 +55,11 @@ ok_of (Ok given) rows e = let same : given ≡ rows = cc in ap Ok same
 ok_of (Err why) rows e = absurd cc
 
 made_in : (files : List PolicyFile) (file : ℕ) (newest : Option (List Row)) (rows : List Row)
-    → All IsPolicyRulesOrAmendment files → IfSome newest IsPolicy → audit_made_policy files file newest ≡ Some rows
+    → All IsSoundPolicyFile files → IfSome newest IsPolicy → audit_made_policy files file newest ≡ Some rows
     → IsPolicy rows
 made_in files file newest rows own sound e =
     sound_by (trace_numbered_file files file) newest rows (file_by files file (file == 0) own) sound
-    (ok_of (made_by (trace_numbered_file files file) newest) rows e)
+    (ok_of (machine_policy_made_by (trace_numbered_file files file) newest) rows e)
 
 -- the last of policies, if there is one
 newest_sound : (policies : List (List Row)) → All IsPolicy policies
@@ -74,8 +74,8 @@ policies_stay : (old new : TraceState) → new.machine.policies ≡ old.machine.
     → ArePolicies new
 policies_stay old new e sound = subst (All IsPolicy) (sym e) sound
 
-follows_sound : (files : List PolicyFile) (old : TraceState) (t : Told) (new : TraceState)
-    → All IsPolicyRulesOrAmendment files → ArePolicies old → Follows files old t new → ArePolicies new
+follows_sound : (files : List PolicyFile) (old : TraceState) (t : AuditTold) (new : TraceState)
+    → All IsSoundPolicyFile files → ArePolicies old → AuditStateFollows files old t new → ArePolicies new
 follows_sound files old (told.Row header) new own sound f =
     policies_stay old new (ap (λ s. s.machine.policies) f) sound
 follows_sound files old (told.Entered packet) new own sound f =
@@ -113,7 +113,7 @@ submits_one old version named a b r s =
     cc (r.after, same_some r.policy s.policy named r.there s.there, s.after)
 
 decides_one : (old : Machine) (number version : ℕ) (g h : Hit) (a b : Machine)
-    → All IsPolicy old.policies → Decides old number version g a → Decides old number version h b
+    → All IsPolicy old.policies → MachineDecides old number version g a → MachineDecides old number version h b
     → a ≡ b
 decides_one old number version g h a b sound r s =
     let packets : r.packet ≡ s.packet = same_some r.packet s.packet _ r.entered s.entered in
@@ -128,13 +128,13 @@ decides_one old number version g h a b sound r s =
     ∙ ap (λ (x : Hit). machine_with_packet old number (record s.packet { decision = Some x })) hits
     ∙ sym s.after
 
-ends_one : (old : Machine) (number : ℕ) (end : End) (a b : Machine)
-    → Ends old number end a → Ends old number end b → a ≡ b
+ends_one : (old : Machine) (number : ℕ) (end : MachinePacketEnd) (a b : Machine)
+    → MachineEndsPacket old number end a → MachineEndsPacket old number end b → a ≡ b
 ends_one old number end a b r s =
     cc (r.after, same_some r.packet s.packet _ r.entered s.entered, s.after)
 
-follows_one : (files : List PolicyFile) (old : TraceState) (t : Told) (a b : TraceState) → ArePolicies old
-    → Follows files old t a → Follows files old t b → a ≡ b
+follows_one : (files : List PolicyFile) (old : TraceState) (t : AuditTold) (a b : TraceState) → ArePolicies old
+    → AuditStateFollows files old t a → AuditStateFollows files old t b → a ≡ b
 follows_one files old (told.Row header) a b sound r s = r ∙ sym s
 follows_one files old (told.Entered packet) a b sound r s = state_same a b (enters_one old.machine
     packet r.0 s.0 a.machine b.machine (same_some r.0 s.0 _ r.1 s.1) r.2 s.2) (r.3 ∙ sym s.3)
@@ -152,15 +152,15 @@ follows_one files old told.Nothing a b sound r s = r ∙ sym s
 pub line_one : (files : List PolicyFile) (old : TraceState) (line : TraceLine) (a b : TraceState) → ArePolicies old
     → ReadsAuditLine files old line a → ReadsAuditLine files old line b → a ≡ b
 line_one files old (Whole text) a b sound r s = follows_one files old r.0 a b sound r.2
-    (subst (λ t. Follows files old t b) (same_some s.0 r.0 _ s.1 r.1) s.2)
+    (subst (λ t. AuditStateFollows files old t b) (same_some s.0 r.0 _ s.1 r.1) s.2)
 line_one files old (Open text) a b sound r s = absurd r
 
 line_sound : (files : List PolicyFile) (old : TraceState) (line : TraceLine) (new : TraceState)
-    → All IsPolicyRulesOrAmendment files → ArePolicies old → ReadsAuditLine files old line new → ArePolicies new
+    → All IsSoundPolicyFile files → ArePolicies old → ReadsAuditLine files old line new → ArePolicies new
 line_sound files old (Whole text) new own sound r = follows_sound files old r.0 new own sound r.2
 line_sound files old (Open text) new own sound r = absurd r
 
-pub first_sound : (files : List PolicyFile) → All IsPolicyRulesOrAmendment files → ArePolicies (first_trace_state files)
+pub first_sound : (files : List PolicyFile) → All IsSoundPolicyFile files → ArePolicies (first_trace_state files)
 first_sound files own = by (audit_made_policy files 1 None) refl where
   by : (made : Option (List Row)) → audit_made_policy files 1 None ≡ made
       → All IsPolicy (option_to_list made)
@@ -169,7 +169,7 @@ first_sound files own = by (audit_made_policy files 1 None) refl where
       All-cons IsPolicy rows [] (made_in files 1 None rows own tt e) (All-nil IsPolicy)
 
 pub reads_one : (files : List PolicyFile) (old : TraceState) (lines : List TraceLine) (a b : TraceState)
-    → All IsPolicyRulesOrAmendment files → ArePolicies old → ReadsAllAuditLines files old lines a → ReadsAllAuditLines files old lines b
+    → All IsSoundPolicyFile files → ArePolicies old → ReadsAllAuditLines files old lines a → ReadsAllAuditLines files old lines b
     → a ≡ b
 reads_one files old [] a b own sound r s = r ∙ sym s
 reads_one files old (line ∷ lines) a b own sound r s =

@@ -1,18 +1,18 @@
 -- A good trace is a run: each good line is a move of the machine, or none.
 use Rattle.std.proofs.Common.{[], ◌++◌, ◌∷◌, ◌≡◌, List, None, ap, refl, subst, sym}
 use Rattle.five_tuple.specs.Exports.{header_of}
-use Rattle.update_machine.specs.Exports.{Cached, Dropped, Exit, Item, Leaving, LeftBy, Lost, Machine, NoRoute, PolicyFile, Runs, Setting, Stuck}
+use Rattle.update_machine.specs.Exports.{Cached, Dropped, Exit, Item, Leaving, LeftBy, Lost, Machine, NoRoute, PolicyFile, MachineRuns, Setting, Stuck}
 use Rattle.journal.specs.declared.item.Item.TheVariants as item
-use Rattle.trace_audit.specs.Exports.{AreGoodAuditLines, AreTraceItems, AreTraceLineItems, AreAuditedTraceRun, Follows, IsTraceAuditVerdict, Told, TraceLine, TraceState, all_trace_told, first_trace_state}
+use Rattle.trace_audit.specs.Exports.{AreGoodAuditLines, AreTraceItems, AreTraceLineItems, AreAuditedTraceRun, AuditStateFollows, IsTraceAuditVerdict, AuditTold, TraceLine, TraceState, all_trace_told, first_trace_state}
 use Rattle.trace_audit.specs.Told as told
 use Rattle.trace_audit.specs.declared.trace.Verdict.{Verdict}
 use Rattle.trace_audit.specs.declared.trace.Verdict.TheVariants.{Yes, No}
 use Rattle.trace_audit.proofs.AuditKnownPackets.{FollowsAll, IsKnown, IsWaitingIf, after_told, known_first, reads_told}
 
 runs_join : (setting : Setting) (old middle new : Machine) (items more : List Item)
-    → Runs setting old items middle → Runs setting middle more new
-    → Runs setting old (items ++ more) new
-runs_join setting old middle new [] more r s = subst (λ (m : Machine). Runs setting m more new) r s
+    → MachineRuns setting old items middle → MachineRuns setting middle more new
+    → MachineRuns setting old (items ++ more) new
+runs_join setting old middle new [] more r s = subst (λ (m : Machine). MachineRuns setting m more new) r s
 runs_join setting old middle new (item ∷ items) more r s =
     (r.0, r.1, runs_join setting r.0 middle new items more r.2 s)
 
@@ -28,12 +28,12 @@ any_leaving = record {
 -- from one machine to another, on whatever network
 abbrev RunsAnywhere : List PolicyFile → Machine → List Item → Machine → Type 0
 RunsAnywhere files old items new =
-    (setting : Setting) → setting.files ≡ files → Runs setting old items new
+    (setting : Setting) → setting.files ≡ files → MachineRuns setting old items new
 
 module _ (files : List PolicyFile) where
   -- what was told is the items of a run
-  follows_run : (ts : List Told) (old : TraceState) (t : Told) (new : TraceState) → IsKnown files ts old
-      → Follows files old t new
+  follows_run : (ts : List AuditTold) (old : TraceState) (t : AuditTold) (new : TraceState) → IsKnown files ts old
+      → AuditStateFollows files old t new
       → (items : List Item) × AreTraceLineItems ts t items × RunsAnywhere files old.machine items new.machine
   follows_run ts old (told.Row header) new known f = ([], refl, λ setting same. ap (λ (s : TraceState). s.machine) f)
   follows_run ts old (told.Entered packet) new known f = (
@@ -69,7 +69,7 @@ module _ (files : List PolicyFile) where
   )
   follows_run ts old told.Nothing new known f = ([], refl, λ setting same. ap (λ (s : TraceState). s.machine) f)
 
-  told_run : (ts : List Told) (old : TraceState) (more : List Told) (new : TraceState) → IsKnown files ts old
+  told_run : (ts : List AuditTold) (old : TraceState) (more : List AuditTold) (new : TraceState) → IsKnown files ts old
       → FollowsAll files old more new
       → (items : List Item) × AreTraceItems ts more items × RunsAnywhere files old.machine items new.machine
   told_run ts old [] new known r = ([], refl, λ setting same. ap (λ (s : TraceState). s.machine) r)
@@ -90,7 +90,7 @@ good_run files lines good =
       told = w.1;
       run = λ setting same. (
         good.0.machine,
-        subst (λ (all : List PolicyFile). Runs setting (first_trace_state all).machine w.0
+        subst (λ (all : List PolicyFile). MachineRuns setting (first_trace_state all).machine w.0
             good.0.machine) (sym same) (w.2 setting same),
       );
     }

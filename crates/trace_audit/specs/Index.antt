@@ -2,7 +2,7 @@
 use Rattle.std.specs.Prelude.{if◌then◌else◌, ◌%◌, ◌&&◌, ◌*◌, ◌+◌, ◌/◌, ◌<◌, ◌==◌, ◌^◌, ◌≡◌, ◌≢◌, ◌≤◌, All, Bool, Contains, List, MatchOption, None, Option, Some, length, nat_lt, slice_get, true, ℕ}
 use Rattle.base.specs.Exports.{option_map_or, position_or_len}
 use Rattle.update_machine.specs.Exports.{Drop, Fields, Hit, Row}
-use Rattle.policy_rules.specs.Exports.{hit_of, policy_row_matches}
+use Rattle.policy_rules.specs.Exports.{policy_hit_of, policy_row_matches}
 use Rattle.trace_audit.specs.declared.index.AuditIndex.{AuditIndex}
 use Rattle.trace_audit.specs.declared.index.Shape.{Shape}
 
@@ -93,7 +93,7 @@ IsNoHigherAuditRow hit row = MatchOption hit.rule ⊥ (λ priority. row.priority
 abbrev pub audit_better_index_hit : Row → Fields → Hit → Hit
 audit_better_index_hit row fields hit =
     if option_map_or (λ priority. nat_lt priority row.priority) hit.rule true
-    && policy_row_matches row fields then hit_of (Some row) else hit
+    && policy_row_matches row fields then policy_hit_of (Some row) else hit
 
 -- the hit is at least as good as the first one and as each matching row of the slot
 pub record IsBetterAuditHit (shapes : List Shape) (rows : List Row) (slot : ℕ) (fields : Fields)

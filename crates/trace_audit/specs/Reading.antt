@@ -2,10 +2,10 @@
 -- may take it; a line of an item that is no move is good too.
 use Rattle.std.specs.Prelude.{[], if◌then◌else◌, ◌-◌, ◌==◌, ◌∷◌, ◌≡◌, ◌≤◌, List, None, Option, Some, length, option_to_list, slice_get, ℕ}
 use Rattle.base.specs.Exports.{result_ok}
-use Rattle.five_tuple.specs.Exports.{text_parts_round_byte}
-use Rattle.update_machine.specs.Exports.{Decides, Ends, MachineEnters, Header, Hit, Machine, PolicyFile, MachineRetires, Row, MachineSubmits, made_by, most_journal_versions}
-use Rattle.policy_rules.specs.Exports.{action_text, rule_text}
-use Rattle.trace_audit.specs.Told.{Told, told_of}
+use Rattle.five_tuple.specs.Exports.{tuple_text_parts_round_byte}
+use Rattle.update_machine.specs.Exports.{MachineDecides, MachineEndsPacket, MachineEnters, Header, Hit, Machine, PolicyFile, MachineRetires, Row, MachineSubmits, machine_policy_made_by, most_journal_versions}
+use Rattle.policy_rules.specs.Exports.{policy_action_text, policy_rule_text}
+use Rattle.trace_audit.specs.Told.{AuditTold, audit_told_of}
 use Rattle.trace_audit.specs.Told as told
 
 -- ---- policies
@@ -16,7 +16,7 @@ trace_numbered_file files file = if file == 0 then None else slice_get files (fi
 
 -- the policy that the file of this number has, or makes of the newest one, if there is one
 abbrev pub audit_made_policy : List PolicyFile → ℕ → Option (List Row) → Option (List Row)
-audit_made_policy files file newest = result_ok (made_by (trace_numbered_file files file) newest)
+audit_made_policy files file newest = result_ok (machine_policy_made_by (trace_numbered_file files file) newest)
 
 abbrev pub audit_latest_policy : List (List Row) → Option (List Row)
 audit_latest_policy policies = slice_get policies (length policies - 1)
@@ -40,27 +40,27 @@ first_trace_state files = record {
 }
 
 -- a decision is printed in these texts
-pub record IsPrinted (rule action : List ℕ) (hit : Hit) : Type 0 where
-  pub of_rule : rule ≡ rule_text hit.rule
-  pub of_action : action ≡ action_text hit.action
+pub record IsAuditDecisionPrinted (rule action : List ℕ) (hit : Hit) : Type 0 where
+  pub of_rule : rule ≡ policy_rule_text hit.rule
+  pub of_action : action ≡ policy_action_text hit.action
 
 -- what a line says leads from one state to another
-abbrev pub Follows : List PolicyFile → TraceState → Told → TraceState → Type 0
-Follows files old (told.Row header) new = new ≡ record old { pending = header }
-Follows files old (told.Entered packet) new = (header : Header) × (old.pending ≡ Some header)
+abbrev pub AuditStateFollows : List PolicyFile → TraceState → AuditTold → TraceState → Type 0
+AuditStateFollows files old (told.Row header) new = new ≡ record old { pending = header }
+AuditStateFollows files old (told.Entered packet) new = (header : Header) × (old.pending ≡ Some header)
     × MachineEnters old.machine packet header new.machine × (new.pending ≡ None)
-Follows files old (told.Submitted file version) new =
+AuditStateFollows files old (told.Submitted file version) new =
     MachineSubmits old.machine version (audit_made_policy files file (audit_latest_policy old.machine.policies))
     new.machine
     × (version ≤ most_journal_versions) × (new.pending ≡ old.pending)
-Follows files old (told.Retired version) new =
+AuditStateFollows files old (told.Retired version) new =
     MachineRetires old.machine version new.machine × (new.pending ≡ old.pending)
-Follows files old (told.Decided packet version rule action) new = (hit : Hit)
-    × IsPrinted rule action hit × Decides old.machine packet version hit new.machine
+AuditStateFollows files old (told.Decided packet version rule action) new = (hit : Hit)
+    × IsAuditDecisionPrinted rule action hit × MachineDecides old.machine packet version hit new.machine
     × (new.pending ≡ old.pending)
-Follows files old (told.Ended packet end) new =
-    Ends old.machine packet end new.machine × (new.pending ≡ old.pending)
-Follows files old told.Nothing new = new ≡ old
+AuditStateFollows files old (told.Ended packet end) new =
+    MachineEndsPacket old.machine packet end new.machine × (new.pending ≡ old.pending)
+AuditStateFollows files old told.Nothing new = new ≡ old
 
 -- ---- lines
 
@@ -79,13 +79,13 @@ trace_lines_of_parts [] = []
 trace_lines_of_parts (rest ∷ []) = open_trace_line rest
 trace_lines_of_parts (text ∷ next ∷ parts) = Whole text ∷ trace_lines_of_parts (next ∷ parts)
 
-unfoldable pub lines_of : List ℕ → List TraceLine
-lines_of trace = trace_lines_of_parts (text_parts_round_byte 10 trace)
+unfoldable pub audit_lines_of : List ℕ → List TraceLine
+audit_lines_of trace = trace_lines_of_parts (tuple_text_parts_round_byte 10 trace)
 
 -- a good line leads from one state to another; one without its line feed is bad
 abbrev pub ReadsAuditLine : List PolicyFile → TraceState → TraceLine → TraceState → Type 0
 ReadsAuditLine files old (Whole text) new =
-    (told : Told) × (told_of text ≡ Some told) × Follows files old told new
+    (told : AuditTold) × (audit_told_of text ≡ Some told) × AuditStateFollows files old told new
 ReadsAuditLine files old (Open text) new = ⊥
 
 abbrev pub IsGoodAuditLine : List PolicyFile → TraceState → TraceLine → Type 0

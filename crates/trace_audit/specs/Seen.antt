@@ -2,10 +2,10 @@
 use Rattle.std.specs.Prelude.{if◌then◌else◌, ◌-◌, ◌==◌, Bool, List, MatchBool, None, Option, Some, nat_le, option_map, slice_get, ℕ}
 use Rattle.base.specs.Exports.{get, nat_cmp, option_or}
 use Rattle.five_tuple.specs.Exports.{header_of}
-use Rattle.update_machine.specs.Exports.{Action, Drop, Dropped, End, Hit, LeftBy, Lost, Out, PolicyFile, Stuck}
+use Rattle.update_machine.specs.Exports.{Action, Drop, Dropped, MachinePacketEnd, Hit, LeftBy, Lost, Out, PolicyFile, Stuck}
 use Rattle.update_machine.specs.Machine.{Packet}
-use Rattle.trace_audit.specs.Reading.{Follows, TraceLine, ReadsAuditLine, TraceState}
-use Rattle.trace_audit.specs.Told.{Told}
+use Rattle.trace_audit.specs.Reading.{AuditStateFollows, TraceLine, ReadsAuditLine, TraceState}
+use Rattle.trace_audit.specs.Told.{AuditTold}
 use Rattle.trace_audit.specs.Told as told
 use Rattle.trace_audit.specs.declared.auditor.Auditor.{Auditor}
 use Rattle.trace_audit.specs.declared.packets.PacketEnd.{PacketEnd}
@@ -20,13 +20,13 @@ use Rattle.trace_audit.specs.declared.told.End.TheVariants as end
 use Rattle.trace_audit.specs.declared.told.LineMeaning.{LineMeaning}
 use Rattle.trace_audit.specs.declared.told.LineMeaning.TheVariants as line
 
-abbrev pub trace_end_seen : code_end.End → End
+abbrev pub trace_end_seen : code_end.End → MachinePacketEnd
 trace_end_seen end.Dropped = Dropped
 trace_end_seen (end.LeftBy port) = LeftBy port
 trace_end_seen end.Lost = Lost
 trace_end_seen end.Stuck = Stuck
 
-abbrev pub trace_told_seen : LineMeaning → Told
+abbrev pub trace_told_seen : LineMeaning → AuditTold
 trace_told_seen (line.Row header) = told.Row header
 trace_told_seen (line.Entered packet) = told.Entered packet
 trace_told_seen (line.Submitted file version) = told.Submitted file version
@@ -47,11 +47,11 @@ trace_decision_by Default priority action = Some (record { rule = None; action =
 trace_decision_by Row priority action = Some (record { rule = Some priority; action = action })
 
 -- an end as the action says
-abbrev pub trace_end_by : Action → End
+abbrev pub trace_end_by : Action → MachinePacketEnd
 trace_end_by Drop = Dropped
 trace_end_by (Out port) = LeftBy port
 
-abbrev pub trace_ending_by : PacketEnd → Action → Option End
+abbrev pub trace_ending_by : PacketEnd → Action → Option MachinePacketEnd
 trace_ending_by Going action = None
 trace_ending_by AsDecided action = Some (trace_end_by action)
 trace_ending_by ending.Lost action = Some Lost
@@ -96,9 +96,9 @@ abbrev pub trace_packets_with_one : (ℕ → Option Packet) → ℕ → Packet �
 trace_packets_with_one packets number packet = λ other. if other == number then Some packet else packets other
 
 -- if good, what a line says led from one state to the other; if not, it leads to none
-abbrev pub IsTraceLineTaken : List PolicyFile → TraceState → Told → TraceState → Bool → Type 0
+abbrev pub IsTraceLineTaken : List PolicyFile → TraceState → AuditTold → TraceState → Bool → Type 0
 IsTraceLineTaken files old told new good = MatchBool good
-    (Follows files old told new) ((other : TraceState) → Follows files old told other → ⊥)
+    (AuditStateFollows files old told new) ((other : TraceState) → AuditStateFollows files old told other → ⊥)
 
 -- the same for a line
 abbrev pub IsTraceLineRead : List PolicyFile → TraceState → TraceLine → TraceState → Bool → Type 0

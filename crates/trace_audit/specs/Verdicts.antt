@@ -7,7 +7,7 @@ use Rattle.trace_audit.specs.declared.trace.Verdict.TheVariants.{Yes, No}
 
 -- the line of this number, from 1, is the first bad one: the lines before it are good, and the
 -- lines up to it aren't
-pub record IsFirstBad (files : List PolicyFile) (lines : List TraceLine) (number : ℕ) : Type 0 where
+pub record IsFirstBadAuditLine (files : List PolicyFile) (lines : List TraceLine) (number : ℕ) : Type 0 where
   pub some : 1 ≤ number
   pub there : number ≤ length lines
   pub before : AreGoodAuditLines files (take (number - 1) lines)
@@ -17,4 +17,4 @@ pub record IsFirstBad (files : List PolicyFile) (lines : List TraceLine) (number
 abbrev pub IsTraceAuditVerdict : List PolicyFile → List TraceLine → Verdict → Type 0
 IsTraceAuditVerdict files lines Yes = AreGoodAuditLines files lines
 IsTraceAuditVerdict files lines (No line) =
-    (number : ℕ) × IsFirstBad files lines number × (line ≡ min number 4294967295)
+    (number : ℕ) × IsFirstBadAuditLine files lines number × (line ≡ min number 4294967295)

@@ -1,10 +1,10 @@
 ghost use Rattle.std.specs.Prelude.{◌≡◌, ◌↔◌, IfOk, IsTrue, List, Some, option_copied};
 ghost use Rattle.std.specs.Result.{result_ok};
-ghost use Rattle.policy_rules.specs.Applied.{applied};
+ghost use Rattle.policy_rules.specs.Applied.{policy_change_applied};
 ghost use Rattle.policy_rules.specs.declared.file.PolicyFile.{PolicyFile};
 ghost use Rattle.update_machine.specs.Machine.{MachinePacketMayEnd};
 ghost use Rattle.trace_audit.specs.Reading.{trace_numbered_file, first_trace_state, audit_latest_policy, audit_made_policy};
-ghost use Rattle.update_machine.specs.Setting.{made_by};
+ghost use Rattle.update_machine.specs.Setting.{machine_policy_made_by};
 ghost use Rattle.trace_audit.specs.Seen.{IsTraceLineTaken, trace_end_seen, audit_packet_seen, trace_state_seen, trace_told_seen};
 ghost use Rattle.trace_audit.specs.Told as told;
 
@@ -59,7 +59,7 @@ fn audit_policy_made_by(
     newest: Option<&Policy>,
 ) -> Result<Option<Policy>, AllocError>
     ensures { IfOk result (λ made. made
-        ≡ result_ok (made_by (Some file.now) (option_copied newest.entry))) }
+        ≡ result_ok (machine_policy_made_by (Some file.now) (option_copied newest.entry))) }
 {
     match file {
         PolicyFile::Whole(policy) => Ok(Some(policy.clone()?)),
@@ -73,7 +73,7 @@ fn audit_policy_made_by(
 // The policy with the change applied to it; `None` if the policy refuses it.
 #[tactic(auto, using(crate::proofs::AuditMadePolicies::some_made, crate::proofs::AuditMadePolicies::none_made))]
 fn changed(alloc: Global, policy: &Policy, change: &Amendment) -> Result<Option<Policy>, AllocError>
-    ensures { IfOk result (λ made. made ≡ result_ok (applied policy.now change.now)) }
+    ensures { IfOk result (λ made. made ≡ result_ok (policy_change_applied policy.now change.now)) }
 {
     match apply(alloc, policy, change) {
         Ok(amended) => Ok(Some(amended)),

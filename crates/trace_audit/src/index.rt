@@ -1,5 +1,5 @@
 ghost use Rattle.std.specs.Prelude.{◌≡◌, ◌<◌, ◌+◌, List, IfOk, IfSome, OnOk, length, position};
-ghost use Rattle.policy_rules.specs.Exports.{IsFirstMatch, IsPolicy};
+ghost use Rattle.policy_rules.specs.Exports.{IsFirstPolicyMatch, IsPolicy};
 ghost use Rattle.policy_rules.specs.declared.policy.Hit.{Hit};
 ghost use Rattle.policy_rules.specs.declared.policy.Row.{Row};
 ghost use Rattle.trace_audit.specs.Index.{AreAuditShapesOf, HasAuditShape, IsBestAuditHit, IsBetterAuditHit, IsAuditIndexOf, IsAuditIndexUpTo, AuditIndexNotes, audit_better_index_hit, is_audit_index_shape, audit_shape_of_row, audit_index_slot_of, audit_slot_of_row};
@@ -231,8 +231,8 @@ impl IndexedAuditPolicy {
 
     /// The only first match of a header.
     pub fn first_match(&self, header: &Header) -> Hit
-        ensures is { IsFirstMatch self.now header.now result }
-        ensures only { (hit : Hit) → IsFirstMatch self.now header.now hit → hit ≡ result }
+        ensures is { IsFirstPolicyMatch self.now header.now result }
+        ensures only { (hit : Hit) → IsFirstPolicyMatch self.now header.now hit → hit ≡ result }
     {
         policy_laws();
         let rows = self.policy.rows();

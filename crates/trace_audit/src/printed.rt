@@ -1,6 +1,6 @@
 ghost use Rattle.std.specs.Prelude.{◌≡◌, ◌↔◌, IsTrue, bytes_eq, decimal};
-ghost use Rattle.policy_rules.specs.Policy.{action_text, rule_text};
-ghost use Rattle.trace_audit.specs.Reading.{IsPrinted};
+ghost use Rattle.policy_rules.specs.Policy.{policy_action_text, policy_rule_text};
+ghost use Rattle.trace_audit.specs.Reading.{IsAuditDecisionPrinted};
 
 use itoa::Buffer;
 use policy_rules::{Action, Hit};
@@ -14,7 +14,7 @@ fn is_trace_number(text: &[u8], n: u32) -> bool
 }
 
 fn is_trace_rule(text: &[u8], rule: Option<u32>) -> bool
-    ensures { result ≡ bytes_eq text.now (rule_text rule) }
+    ensures { result ≡ bytes_eq text.now (policy_rule_text rule) }
 {
     match rule {
         Some(priority) => is_trace_number(text, priority),
@@ -23,7 +23,7 @@ fn is_trace_rule(text: &[u8], rule: Option<u32>) -> bool
 }
 
 fn is_trace_action(text: &[u8], action: Action) -> bool
-    ensures { result ≡ bytes_eq text.now (action_text action) }
+    ensures { result ≡ bytes_eq text.now (policy_action_text action) }
 {
     match action {
         Action::Drop => text == b"drop".as_slice(),
@@ -36,7 +36,7 @@ fn is_trace_action(text: &[u8], action: Action) -> bool
 
 /// Whether the decision is printed in these texts.
 pub(crate) fn is_printed_in_trace(rule: &[u8], action: &[u8], hit: Hit) -> bool
-    ensures { IsTrue result ↔ IsPrinted rule.now action.now hit }
+    ensures { IsTrue result ↔ IsAuditDecisionPrinted rule.now action.now hit }
 {
     is_trace_rule(rule, hit.rule) && is_trace_action(action, hit.action)
 }

@@ -1,9 +1,9 @@
 ghost use Rattle.std.specs.Prelude.{◌≡◌, ◌∷◌, ◌==◌, ◌<◌, ◌^◌, [], IfSome, bytes_eq, codes, false, option_map};
 ghost use Rattle.std.specs.List.{list_any};
-ghost use Rattle.five_tuple.specs.Texts.{number_up_to, text_parts_round_byte};
+ghost use Rattle.five_tuple.specs.Texts.{tuple_number_up_to, tuple_text_parts_round_byte};
 ghost use Rattle.update_machine.specs.Machine as machine;
 ghost use Rattle.trace_audit.specs.Seen.{trace_end_seen, trace_told_seen};
-ghost use Rattle.trace_audit.specs.Told.{begins_with, audit_decided_told, audit_ended_told, audit_entered_told, audit_indented_told, is_trace_row_number, audit_left_told, trace_number_of_word, audit_packet_row_told, audit_retired_told, audit_row_told, audit_silent_told, audit_stuck_told, audit_submitted_told, told_of, trace_version_of_word};
+ghost use Rattle.trace_audit.specs.Told.{audit_line_begins_with, audit_decided_told, audit_ended_told, audit_entered_told, audit_indented_told, is_trace_row_number, audit_left_told, trace_number_of_word, audit_packet_row_told, audit_retired_told, audit_row_told, audit_silent_told, audit_stuck_told, audit_submitted_told, audit_told_of, trace_version_of_word};
 
 use crate::words::{Words, cut_audit_text_near};
 use five_tuple::{Header, read_number, read_tuple_fields};
@@ -65,7 +65,7 @@ fn version(word: &[u8]) -> Option<u32>
 // Whether the word is the number of a row, from 1, and a colon.
 #[tactic(auto, using(crate::proofs::AuditTraceLines::row_number_rest))]
 fn is_trace_row_number(word: &[u8]) -> bool
-    ensures { result ≡ is_trace_row_number (text_parts_round_byte 58 word.now) }
+    ensures { result ≡ is_trace_row_number (tuple_text_parts_round_byte 58 word.now) }
 {
     let Some((digits, rest)) = cut_audit_text_near(word, b':') else {
         return false;
@@ -252,9 +252,9 @@ fn read_silent<'a>(mut words: Words<'a>) -> Option<LineMeaning<'a>>
 #[tactic(auto, using(crate::proofs::AuditTraceLines::other_item), unfolding(crate::specs::Told::audit_item_told))]
 #[inline(never)]
 fn read_rare_item<'a>(mut words: Words<'a>) -> Option<LineMeaning<'a>>
-    requires decided { begins_with (codes "decided") words ≡ false }
-    requires entered { begins_with (codes "entered") words ≡ false }
-    requires dropped { begins_with (codes "dropped") words ≡ false }
+    requires decided { audit_line_begins_with (codes "decided") words ≡ false }
+    requires entered { audit_line_begins_with (codes "entered") words ≡ false }
+    requires dropped { audit_line_begins_with (codes "dropped") words ≡ false }
     ensures { option_map trace_told_seen result ≡ audit_indented_told ([] ∷ words.entry) }
 {
     if words.take(b"out".as_slice()) {
@@ -294,9 +294,9 @@ fn read_item<'a>(mut words: Words<'a>) -> Option<LineMeaning<'a>>
 }
 
 /// What a line says; `None` if it is bad whatever precedes it.
-#[tactic(auto, using(crate::proofs::AuditTraceLines::other_line), unfolding(crate::specs::Told::told_of))]
+#[tactic(auto, using(crate::proofs::AuditTraceLines::other_line), unfolding(crate::specs::Told::audit_told_of))]
 pub(crate) fn read_audit_line<'a>(line: &'a [u8]) -> Option<LineMeaning<'a>>
-    ensures { option_map trace_told_seen result ≡ told_of line.now }
+    ensures { option_map trace_told_seen result ≡ audit_told_of line.now }
 {
     let mut words = Words::of(line);
     if words.take(b"".as_slice()) {

@@ -1,7 +1,7 @@
 ghost use Rattle.std.specs.Prelude.{◌≡◌, ◌↔◌, All, IfOk};
-ghost use Rattle.policy_rules.specs.PolicyFiles.{IsPolicyRulesOrAmendment};
+ghost use Rattle.policy_rules.specs.PolicyFiles.{IsSoundPolicyFile};
 ghost use Rattle.trace_audit.specs.Decided.{AreTraceEndsJustified};
-ghost use Rattle.trace_audit.specs.Reading.{AreGoodAuditLines, Whole, lines_of};
+ghost use Rattle.trace_audit.specs.Reading.{AreGoodAuditLines, Whole, audit_lines_of};
 ghost use Rattle.trace_audit.specs.Run.{AreAuditedTraceRun};
 ghost use Rattle.trace_audit.specs.Seen.{IsTraceLineRead, trace_state_seen};
 ghost use Rattle.trace_audit.specs.Verdicts.{IsTraceAuditVerdict};
@@ -31,12 +31,12 @@ pub enum Verdict {
 /// # Errors
 /// Only out of memory.
 pub fn audit(alloc: Global, trace: &[u8], files: &[PolicyFile]) -> Result<Verdict, AllocError>
-    ensures verdict { IfOk result (IsTraceAuditVerdict files.now (lines_of trace.now)) }
+    ensures verdict { IfOk result (IsTraceAuditVerdict files.now (audit_lines_of trace.now)) }
     ensures exactly { IfOk result
-        (λ verdict. (verdict ≡ Yes) ↔ AreGoodAuditLines files.now (lines_of trace.now)) }
-    ensures run { IfOk result (λ verdict. verdict ≡ Yes → AreAuditedTraceRun files.now (lines_of trace.now)) }
+        (λ verdict. (verdict ≡ Yes) ↔ AreGoodAuditLines files.now (audit_lines_of trace.now)) }
+    ensures run { IfOk result (λ verdict. verdict ≡ Yes → AreAuditedTraceRun files.now (audit_lines_of trace.now)) }
     ensures justified { IfOk result
-        (λ verdict. verdict ≡ Yes → AreTraceEndsJustified files.now (lines_of trace.now)) }
+        (λ verdict. verdict ≡ Yes → AreTraceEndsJustified files.now (audit_lines_of trace.now)) }
 {
     trace_audit_files_sound(files);
     let mut auditor = Auditor::new(alloc, files)?;
@@ -60,7 +60,7 @@ pub fn audit(alloc: Global, trace: &[u8], files: &[PolicyFile]) -> Result<Verdic
 
 // Each file is sound, by the invariant of its type.
 fn trace_audit_files_sound(files: &[PolicyFile])
-    ensures { All IsPolicyRulesOrAmendment files.now }
+    ensures { All IsSoundPolicyFile files.now }
 {
     for file in files {
         audit_file_is_sound(file);
@@ -68,7 +68,7 @@ fn trace_audit_files_sound(files: &[PolicyFile])
 }
 
 fn audit_file_is_sound(file: &PolicyFile)
-    ensures { IsPolicyRulesOrAmendment file.now }
+    ensures { IsSoundPolicyFile file.now }
 {
     match file {
         PolicyFile::Whole(policy) => {

@@ -1,5 +1,5 @@
 ghost use Rattle.std.specs.Prelude.{◌≡◌, ◌∷◌, ◌==◌, [], IfNone, IfSome, IsTrue, List, MatchBool, bytes_eq, false, position, ℕ};
-ghost use Rattle.trace_audit.specs.Told.{IsTraceRestAfter, IsCut, IsNoSingleAuditWord, IsTraceWordTaken, TakesAuditWord, begins_with, trace_word_lacks_blank, words_of};
+ghost use Rattle.trace_audit.specs.Told.{IsTraceRestAfter, IsAuditTextCut, IsNoSingleAuditWord, IsTraceWordTaken, TakesAuditWord, audit_line_begins_with, trace_word_lacks_blank, audit_words_of};
 
 use memchr::memchr;
 use std::marker::Model;
@@ -23,7 +23,7 @@ fn near_place_in_trace(text: &[u8], byte: u8) -> Option<usize>
 #[inline(always)]
 fn cut_audit_text_at(text: &[u8], at: Option<usize>) -> Option<(&[u8], &[u8])>
     requires { (byte : ℕ) × (at ≡ position (λ b. b == byte) text.now) }
-    ensures { (byte : ℕ) → at ≡ position (λ b. b == byte) text.now → IsCut byte text.now result }
+    ensures { (byte : ℕ) → at ≡ position (λ b. b == byte) text.now → IsAuditTextCut byte text.now result }
 {
     match at {
         Some(place) => Some((&text[..place], &text[place + 1..])),
@@ -33,7 +33,7 @@ fn cut_audit_text_at(text: &[u8], at: Option<usize>) -> Option<(&[u8], &[u8])>
 
 /// The parts of the text before and after the first such byte; `None` if there is none.
 pub(crate) fn cut(text: &[u8], byte: u8) -> Option<(&[u8], &[u8])>
-    ensures { IsCut byte text.now result }
+    ensures { IsAuditTextCut byte text.now result }
 {
     cut_audit_text_at(text, place_of(text, byte))
 }
@@ -41,7 +41,7 @@ pub(crate) fn cut(text: &[u8], byte: u8) -> Option<(&[u8], &[u8])>
 /// The same for a byte that is likely to be near.
 #[inline(always)]
 pub(crate) fn cut_audit_text_near(text: &[u8], byte: u8) -> Option<(&[u8], &[u8])>
-    ensures { IsCut byte text.now result }
+    ensures { IsAuditTextCut byte text.now result }
 {
     cut_audit_text_at(text, near_place_in_trace(text, byte))
 }
@@ -86,7 +86,7 @@ impl<'a> Words<'a> {
     /// All words of a line.
     #[inline(always)]
     pub fn of(line: &'a [u8]) -> Words<'a>
-        ensures { result ≡ words_of line.now }
+        ensures { result ≡ audit_words_of line.now }
     {
         Words { rest: Some(line) }
     }
@@ -140,7 +140,7 @@ impl<'a> Words<'a> {
         requires { IsTrue (trace_word_lacks_blank word.now) }
         ensures { MatchBool result
             (IsTraceWordTaken word.now self.old self.new)
-            ((begins_with word.now self.old ≡ false) × (self.new ≡ self.old)) }
+            ((audit_line_begins_with word.now self.old ≡ false) × (self.new ≡ self.old)) }
     {
         let Some(rest) = self.rest else {
             return false;

@@ -2,15 +2,15 @@
 -- says, and each packet's row is followed by its entry.
 use Rattle.std.proofs.Common.{[], ◌++◌, ◌+◌, ◌-◌, ◌<◌, ◌==◌, ◌∙◌, ◌∷◌, ◌≡◌, ◌≤◌, All, Bool, List, None, Option, Some, ap, append_assoc, arith, cond, eqb-true, false, length, length-append, map, refl, slice_get, subst, sym, true, ℕ}
 use Rattle.base.proofs.Exports.{All-head, All-tail, result_ok, slice_get_within, sum_by-cons, ⊤}
-use Rattle.update_machine.specs.Exports.{HasMachineCause, JournalItemsHaveCauses, Header, Item, Machine, Net, Packet, PolicyFile, Row, Runs, Setting, Step, Takes, count_of, is_packet, is_journal_submission, made_by, journal_next_packet}
+use Rattle.update_machine.specs.Exports.{HasMachineCause, JournalItemsHaveCauses, Header, Item, Machine, Net, Packet, PolicyFile, Row, MachineRuns, Setting, Step, MachineTakes, machine_count_of, is_machine_packet_entry, is_journal_submission, machine_policy_made_by, journal_next_packet}
 use Rattle.net_file.specs.Exports.{IsNet, NetPortLaws}
 use Rattle.journal.specs.declared.item.Item.TheVariants as item
-use Rattle.journal_text.specs.Lines.{item_line}
-use Rattle.packet_laws.specs.Exports.{EachPacketRowEnters, IsPacketEntryOf, StepRow, gives_packet_law_step_row, packet_law_step_rows_in}
-use Rattle.steps.specs.Exports.{HasSwitch, max_events, max_step_number}
+use Rattle.journal_text.specs.Lines.{journal_item_line}
+use Rattle.packet_laws.specs.Exports.{EachPacketRowEnters, IsPacketEntryOf, PacketLawStepRow, gives_packet_law_step_row, packet_law_step_rows_in}
+use Rattle.steps.specs.Exports.{StepSwitchExists, max_events, max_step_number}
 use Rattle.update_machine.proofs.Exports.{count_of_append}
 use Rattle.update_machine.specs.Machine as machine
-use Rattle.trace_audit.specs.Exports.{Follows, ReadsAllAuditLines, TraceLine, TraceState, Whole}
+use Rattle.trace_audit.specs.Exports.{AuditStateFollows, ReadsAllAuditLines, TraceLine, TraceState, Whole}
 use Rattle.trace_texts.proofs.TraceTextItems.{IsReadable, TextLaws, line_told, told_item}
 
 -- what is pending behind an item
@@ -33,14 +33,14 @@ IsNext pending _ = ⊤
 
 row_follows : (files : List PolicyFile) (old new : Machine) (pending : Option Header) (row : ℕ)
     (step : Step) → new ≡ old
-    → Follows files (at old pending) (told_item (item.Row row step)) (at new (row_pending step))
+    → AuditStateFollows files (at old pending) (told_item (item.Row row step)) (at new (row_pending step))
 row_follows files old new pending row (Packet switch header) e = cc e
 row_follows files old new pending row step e = ap (λ m. at m None) e
 
 -- what the machine does is what the line tells; there are at most 64 versions then
 item_follows : (setting : Setting) (old new : Machine) (pending : Option Header) (first : Item)
-    → Takes setting old first new → IsNext pending first → length new.policies ≤ 64
-    → Follows setting.files (at old pending) (told_item first) (at new (pending_after pending first))
+    → MachineTakes setting old first new → IsNext pending first → length new.policies ≤ 64
+    → AuditStateFollows setting.files (at old pending) (told_item first) (at new (pending_after pending first))
 item_follows setting old new pending (item.Row row step) takes next few =
     row_follows setting.files old new pending row step takes
 item_follows setting old new pending (item.Entered packet switch header) takes next few =
@@ -84,7 +84,7 @@ same_small : (old new : Machine) → new.packets ≡ old.packets → AreSmall ol
 same_small old new same small j other is =
     small j other (sym (ap (λ (packets : ℕ → Option machine.Packet). packets j) same) ∙ is)
 
-takes_small : (setting : Setting) (old new : Machine) (first : Item) → Takes setting old first new
+takes_small : (setting : Setting) (old new : Machine) (first : Item) → MachineTakes setting old first new
     → EntersSmall first → AreSmall old → AreSmall new
 takes_small setting old new (item.Entered packet switch header) takes most small =
     put_small old new packet _ takes.after most small
@@ -107,14 +107,14 @@ takes_small setting old new first takes most small =
 
 -- the versions that there are, and those that are still to be submitted
 abbrev versions_with : Machine → List Item → ℕ
-versions_with now items = length now.policies + count_of is_journal_submission items
+versions_with now items = length now.policies + machine_count_of is_journal_submission items
 
 -- a version more behind a submission, and as many as before behind anything else
 module _ (setting : Setting) (old new : Machine) where
   as_many : {after : Machine} → new ≡ after → length new.policies ≡ length after.policies + 0
   as_many {after} e = omega (arith, ap (λ (m : Machine). length m.policies) e)
 
-  grows : (first : Item) → Takes setting old first new
+  grows : (first : Item) → MachineTakes setting old first new
       → length new.policies ≡ length old.policies + cond (is_journal_submission first) 1 0
   grows (item.Submitted file version) takes =
       cc (takes.after, length-append old.policies (takes.policy ∷ []))
@@ -127,32 +127,32 @@ module _ (setting : Setting) (old new : Machine) where
   grows (item.Stuck packet switch cause leg down) takes = as_many takes.after
   grows first takes = as_many takes
 
-  takes_many : (first : Item) (items : List Item) → Takes setting old first new
+  takes_many : (first : Item) (items : List Item) → MachineTakes setting old first new
       → versions_with new items ≡ versions_with old (first ∷ items)
   takes_many first items takes = omega (arith, grows, sum_by-cons)
 
 -- the row of a step of the network
-abbrev pub IsOwnRow : Net → StepRow → Type 0
+abbrev pub IsOwnRow : Net → PacketLawStepRow → Type 0
 IsOwnRow net asked = IsReadable net (item.Row asked.row asked.step)
 
 pub record Known (setting : Setting) (before : List Item) (now : Machine) (items : List Item)
     : Type 0 where
   pub versions : versions_with now items ≤ 64
   pub small : AreSmall now
-  pub few : count_of is_packet before + length (packet_law_step_rows_in items) ≤ max_events
+  pub few : machine_count_of is_machine_packet_entry before + length (packet_law_step_rows_in items) ≤ max_events
   pub rows : All (IsOwnRow setting.net) (packet_law_step_rows_in items)
   pub causes : JournalItemsHaveCauses (HasMachineCause setting) before items
 
-rows_behind : (net : Net) (rows more : List StepRow) → All (IsOwnRow net) (rows ++ more)
+rows_behind : (net : Net) (rows more : List PacketLawStepRow) → All (IsOwnRow net) (rows ++ more)
     → All (IsOwnRow net) more
 rows_behind net [] more all = all
 rows_behind net (row ∷ rows) more all =
     rows_behind net rows more (All-tail (IsOwnRow net) row (rows ++ more) all)
 
 known_next : (setting : Setting) (before : List Item) (old new : Machine) (first : Item)
-    (items : List Item) → Known setting before old (first ∷ items) → Takes setting old first new
+    (items : List Item) → Known setting before old (first ∷ items) → MachineTakes setting old first new
     → EntersSmall first
-    → count_of is_packet (before ++ first ∷ []) + length (packet_law_step_rows_in items) ≤ max_events
+    → machine_count_of is_machine_packet_entry (before ++ first ∷ []) + length (packet_law_step_rows_in items) ≤ max_events
     → Known setting (before ++ first ∷ []) new items
 known_next setting before old new first items known takes most few = record {
   versions = omega (arith, takes_many setting old new first items takes, known.versions);
@@ -163,15 +163,15 @@ known_next setting before old new first items known takes most few = record {
 }
 
 -- how many packets there are behind one more item
-one_more : (before : List Item) (first : Item) (packet : Bool) → is_packet first ≡ packet
-    → count_of is_packet (before ++ first ∷ []) ≡ count_of is_packet before + cond packet 1 0
-one_more before first packet is = count_of_append is_packet before (first ∷ [])
-    ∙ ap (λ n. count_of is_packet before + n) (sum_by-cons (λ x. cond (is_packet x) 1 0) first []
+one_more : (before : List Item) (first : Item) (packet : Bool) → is_machine_packet_entry first ≡ packet
+    → machine_count_of is_machine_packet_entry (before ++ first ∷ []) ≡ machine_count_of is_machine_packet_entry before + cond packet 1 0
+one_more before first packet is = count_of_append is_machine_packet_entry before (first ∷ [])
+    ∙ ap (λ n. machine_count_of is_machine_packet_entry before + n) (sum_by-cons (λ x. cond (is_machine_packet_entry x) 1 0) first []
     ∙ omega (arith, ap {B = ℕ} (λ (b : Bool). cond b 1 0) is))
 
-few_next : (before : List Item) (first : Item) (items : List Item) → is_packet first ≡ false
-    → count_of is_packet before + length (packet_law_step_rows_in (first ∷ items)) ≤ max_events
-    → count_of is_packet (before ++ first ∷ []) + length (packet_law_step_rows_in items) ≤ max_events
+few_next : (before : List Item) (first : Item) (items : List Item) → is_machine_packet_entry first ≡ false
+    → machine_count_of is_machine_packet_entry before + length (packet_law_step_rows_in (first ∷ items)) ≤ max_events
+    → machine_count_of is_machine_packet_entry (before ++ first ∷ []) + length (packet_law_step_rows_in items) ≤ max_events
 few_next before first items none few = omega (
   arith,
   one_more before first false none,
@@ -191,7 +191,7 @@ IsEntryReadable net _ = ⊤
 file_there : (files : List PolicyFile) (file : ℕ) (newest : Option (List Row)) (zero : Bool)
     (given : Option PolicyFile) (rows : List Row) → (file == 0) ≡ zero
     → cond zero None (slice_get files (file - 1)) ≡ given
-    → result_ok (made_by given newest) ≡ Some rows → file ≤ length files
+    → result_ok (machine_policy_made_by given newest) ≡ Some rows → file ≤ length files
 file_there files file newest true given rows e f g = omega (arith, eqb-true file 0 e)
 file_there files file newest false None rows e f g = absurd cc
 file_there files file newest false (Some given) rows e f g = omega (arith, slice_get_within)
@@ -200,13 +200,13 @@ file_there files file newest false (Some given) rows e f g = omega (arith, slice
 record IsEntry (net : Net) (header : Header) (entry : Item) : Type 0 where
   next : IsNext (Some header) entry
   small : EntersSmall entry
-  packet : is_packet entry ≡ true
+  packet : is_machine_packet_entry entry ≡ true
   no_row : gives_packet_law_step_row entry ≡ []
   readable : IsEntryReadable net entry
 
 module _ (laws : TextLaws) (ports : NetPortLaws) (setting : Setting) (sound : IsNet setting.net)
     (numbered : length setting.files ≤ max_step_number) where
-  readable : (before : List Item) (old new : Machine) (first : Item) → Takes setting old first new
+  readable : (before : List Item) (old new : Machine) (first : Item) → MachineTakes setting old first new
       → HasMachineCause setting before first → AreSmall old → length old.policies ≤ 64
       → IsEntryReadable setting.net first → IsReadable setting.net first
   readable before old new (item.Row row step) takes cause small few is = is
@@ -239,12 +239,12 @@ module _ (laws : TextLaws) (ports : NetPortLaws) (setting : Setting) (sound : Is
   readable before old new first takes cause small few is = tt
 
   abbrev line : Item → TraceLine
-  line first = Whole (item_line setting.net first)
+  line first = Whole (journal_item_line setting.net first)
 
   -- the line of the next item is good
   line_reads : (before : List Item) (old new : Machine) (pending : Option Header) (first : Item)
       (items : List Item) (rest : List TraceLine) (last : TraceState)
-      → Known setting before old (first ∷ items) → Takes setting old first new
+      → Known setting before old (first ∷ items) → MachineTakes setting old first new
       → IsNext pending first → IsEntryReadable setting.net first
       → ReadsAllAuditLines setting.files (at new (pending_after pending first)) rest last
       → ReadsAllAuditLines setting.files (at old pending) (line first ∷ rest) last
@@ -263,7 +263,7 @@ module _ (laws : TextLaws) (ports : NetPortLaws) (setting : Setting) (sound : Is
   -- ---- a packet's row and its entry
 
   entry_is : (serving : Bool) (i s : ℕ) (header : Header) (entry : Item)
-      → IsPacketEntryOf serving i s header entry → i ≤ max_step_number → HasSwitch setting.net s
+      → IsPacketEntryOf serving i s header entry → i ≤ max_step_number → StepSwitchExists setting.net s
       → IsEntry setting.net header entry
   entry_is serving i s header (item.Entered packet switch came) is most there =
       let number : packet ≡ i = is.0 in record {
@@ -271,13 +271,13 @@ module _ (laws : TextLaws) (ports : NetPortLaws) (setting : Setting) (sound : Is
         small = omega (arith, number, most);
         packet = refl;
         no_row = refl;
-        readable = (omega (arith, number, most), subst (HasSwitch setting.net) (sym is.1) there);
+        readable = (omega (arith, number, most), subst (StepSwitchExists setting.net) (sym is.1) there);
       }
   entry_is serving i s header (item.Closed packet switch) is most there =
       record { next = tt; small = tt; packet = refl; no_row = refl; readable = tt }
   entry_is serving i s header entry is most there = absurd is
 
-  next_small : (before : List Item) (n : ℕ) → count_of is_packet before + n ≤ max_events
+  next_small : (before : List Item) (n : ℕ) → machine_count_of is_machine_packet_entry before + n ≤ max_events
       → journal_next_packet before ≤ max_step_number
   unfolding journal_next_packet
   next_small before n few = omega (arith, few)
@@ -287,7 +287,7 @@ module _ (laws : TextLaws) (ports : NetPortLaws) (setting : Setting) (sound : Is
   pub reads_from : (ends : List TraceLine) → ((state : TraceState) → ReadsAllAuditLines setting.files state ends state)
       → (before : List Item) (old : Machine) (pending : Option Header) (items : List Item)
       (new : Machine) → Known setting before old items → EachPacketRowEnters before items
-      → Runs setting old items new
+      → MachineRuns setting old items new
       → (last : TraceState) × ReadsAllAuditLines setting.files (at old pending) (map line items ++ ends) last
   reads_from ends closed before old pending [] new known enters runs =
       (at old pending, closed (at old pending))
@@ -298,7 +298,7 @@ module _ (laws : TextLaws) (ports : NetPortLaws) (setting : Setting) (sound : Is
       let asked = item.Row row (Packet s header) in
       let own : IsReadable setting.net asked = All-head (IsOwnRow setting.net)
       (record { row = row; step = Packet s header }) (packet_law_step_rows_in (entry ∷ items)) known.rows in
-      let few : count_of is_packet before + length (packet_law_step_rows_in (asked ∷ entry ∷ items)) ≤ max_events =
+      let few : machine_count_of is_machine_packet_entry before + length (packet_law_step_rows_in (asked ∷ entry ∷ items)) ≤ max_events =
       known.few in
       let is : IsEntry setting.net header entry = entry_is _ (journal_next_packet before) s header entry
       enters.0 (next_small before (length (packet_law_step_rows_in (asked ∷ entry ∷ items))) few) own.2 in
@@ -310,7 +310,7 @@ module _ (laws : TextLaws) (ports : NetPortLaws) (setting : Setting) (sound : Is
         few,
         one_more before asked false refl,
         one_more (before ++ asked ∷ []) entry true is.packet,
-        ap (λ (rows : List StepRow). length rows) is.no_row,
+        ap (λ (rows : List PacketLawStepRow). length rows) is.no_row,
         length-append (gives_packet_law_step_row entry) (packet_law_step_rows_in items),
       )) in
       let rest = reads_from ends closed ((before ++ asked ∷ []) ++ entry ∷ []) runs.2.0

@@ -4,9 +4,9 @@ use Rattle.base.proofs.Exports.{codes, cond_both, list_all}
 use Rattle.base.specs.Exports.{has, switches}
 use Rattle.update_machine.specs.Exports.{Action, Advert, Advertise, Authority, Body, CacheRule, Cached, Cause, Collect, Confirm, Crash, Deliver, Expire, Forget, Hello, Hop, How, Install, Installed, Item, LinkDown, LinkUp, Lose, Net, NoAuthority, NoRoute, OpenAt, Packet, Place, Resend, Restart, Stamp, Stamped, Step, Update}
 use Rattle.ctrl_msg.specs.declared.message.Place.TheVariants as receiver
-use Rattle.net_file.specs.Exports.{IsNet, NameLaws, net_switch_names_text}
+use Rattle.net_file.specs.Exports.{IsNet, NetNameLaws, net_switch_names_text}
 use Rattle.journal.specs.declared.item.Item.TheVariants as item
-use Rattle.journal_text.specs.Lines.{advert_text, journal_body_text, boot_text, journal_cause_text, how_text, item_line, journal_mask_text, journal_text_with_name, journal_text_with_number, packet_at_text, journal_pair_text, journal_receiver_text, journal_cached_rule_text, state_text, journal_step_text, journal_two_numbers_text, version_text, journal_text_via}
+use Rattle.journal_text.specs.Lines.{journal_advert_text, journal_body_text, journal_boot_text, journal_cause_text, journal_how_text, journal_item_line, journal_mask_text, journal_text_with_name, journal_text_with_number, journal_packet_at_text, journal_pair_text, journal_receiver_text, journal_cached_rule_text, journal_state_text, journal_step_text, journal_two_numbers_text, journal_version_text, journal_text_via}
 use Rattle.trace_texts.proofs.TraceTextPieces.{IsOneLine, action_word, bits_line, fields_line, joined, name_line, names_line, number_line, rule_word, tested, word_line}
 
 -- a text behind another one, its bytes tested one by one
@@ -22,11 +22,11 @@ two_line : {text next : List ℕ} → IsOneLine text → IsOneLine next → (n m
 unfolding journal_two_numbers_text
 two_line a b n m = joined (joined (numbered a n) b) (number_line m)
 
-boot_line : {text : List ℕ} → IsOneLine text → (boot : ℕ) → IsOneLine (boot_text text boot)
+boot_line : {text : List ℕ} → IsOneLine text → (boot : ℕ) → IsOneLine (journal_boot_text text boot)
 boot_line a boot = joined (onto a (codes " boot ") refl) (number_line boot)
 
 version_line : {text : List ℕ} → IsOneLine text → (boot version : ℕ)
-    → IsOneLine (version_text text boot version)
+    → IsOneLine (journal_version_text text boot version)
 version_line a boot version =
     joined (onto (boot_line a boot) (codes " version ") refl) (number_line version)
 
@@ -40,16 +40,16 @@ cause_line : (cause : Cause) → IsOneLine (journal_cause_text cause)
 cause_line NoAuthority = tested (codes "no-authority") refl
 cause_line NoRoute = tested (codes "no-route") refl
 
-state_line : (up : Bool) → IsOneLine (state_text up)
+state_line : (up : Bool) → IsOneLine (journal_state_text up)
 state_line true = tested (codes "up") refl
 state_line false = tested (codes "down") refl
 
-module _ (laws : NameLaws) (net : Net) (sound : IsNet net) where
+module _ (laws : NetNameLaws) (net : Net) (sound : IsNet net) where
   named : {text : List ℕ} → IsOneLine text → (s : ℕ) → IsOneLine (journal_text_with_name net text s)
   named a s = joined (onto a (codes " ") refl) (name_line laws net sound s)
 
   at_line : {text : List ℕ} → IsOneLine text → (packet s : ℕ)
-      → IsOneLine (packet_at_text net text packet s)
+      → IsOneLine (journal_packet_at_text net text packet s)
   at_line a packet s =
       joined (onto (numbered a packet) (codes " ") refl) (name_line laws net sound s)
 
@@ -93,7 +93,7 @@ module _ (laws : NameLaws) (net : Net) (sound : IsNet net) where
   receiver_line (receiver.Switch s) = name_line laws net sound s
   receiver_line receiver.Controller = tested (codes "controller") refl
 
-  advert_line : (advert : Advert) → IsOneLine (advert_text net advert)
+  advert_line : (advert : Advert) → IsOneLine (journal_advert_text net advert)
   advert_line advert =
       joined (onto (joined (onto (boot_line (named (tested (codes "advert") refl) advert.origin)
       advert.boot) (codes " seq ") refl) (number_line advert.seq)) (codes " up") refl)
@@ -117,13 +117,13 @@ module _ (laws : NameLaws) (net : Net) (sound : IsNet net) where
 
   -- ---- items
 
-  how_line : (how : How) → IsOneLine (how_text net how)
+  how_line : (how : How) → IsOneLine (journal_how_text net how)
   how_line (Cached message) = numbered (tested (codes "cache") refl) message
   how_line (Authority switch partition) =
       joined (onto (named (tested (codes "authority") refl) switch) (codes " part ") refl)
       (number_line partition)
 
-  pub item_one_line : (item : Item) → IsOneLine (item_line net item)
+  pub item_one_line : (item : Item) → IsOneLine (journal_item_line net item)
   item_one_line (item.Row row step) =
       joined (onto (numbered (tested (codes "row") refl) row) (codes ": ") refl) (step_line step)
   item_one_line (item.Entered packet switch header) =

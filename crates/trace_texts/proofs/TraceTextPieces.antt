@@ -3,9 +3,9 @@
 use Rattle.std.proofs.Common.{[], if◌then◌else◌, ◌%◌, ◌&&◌, ◌++◌, ◌+◌, ◌/◌, ◌<◌, ◌==◌, ◌^◌, ◌∷◌, ◌≡◌, ◌≢◌, ◌≤◌, ◌⊎◌, All, Bool, List, None, Option, Some, arith, codes, decimal, false, get_or, inl, inr, length, ltb-true, nat_lt, ne_eqb, not, refl, slice_get, subst, suc, true, zero, ℕ}
 use Rattle.base.proofs.Exports.{All-append, All-cons, All-get_or, All-nil, All-weaker, AllPass-from_list_all, and_parts, cond_both, digit_glyph, digits, digits_onto, eqb-false, list_all, not-true, slice_get_cases, slice_split_at, slice_split_none}
 use Rattle.update_machine.specs.Exports.{Action, Drop, Fields, Net, Out, SwitchRow}
-use Rattle.five_tuple.specs.Exports.{address_text, fields_text, text_parts_round_byte, proto_number_text}
-use Rattle.net_file.specs.Exports.{IsNet, IsPlainNetByte, IsNetSwitchRow, NameLaws, is_name, switch_name_of, net_switch_names_text}
-use Rattle.policy_rules.specs.Exports.{action_text, rule_text}
+use Rattle.five_tuple.specs.Exports.{address_text, header_fields_text, tuple_text_parts_round_byte, proto_number_text}
+use Rattle.net_file.specs.Exports.{IsNet, IsPlainNetByte, IsNetSwitchRow, NetNameLaws, is_net_name, net_switch_name_of, net_switch_names_text}
+use Rattle.policy_rules.specs.Exports.{policy_action_text, policy_rule_text}
 use Rattle.ternary.specs.Exports.{WordValue, word_hex_digits, ternary_word_text}
 
 abbrev IsLineByte : ℕ → Type 0
@@ -89,11 +89,11 @@ tested_word text all = record {
   apart b is = let both = and_parts (not (b == 32)) (not (b == 10)) is in
       (eqb-false b 32 (not-true (b == 32) both.0), eqb-false b 10 (not-true (b == 10) both.1))
 
-pub rule_word : (rule : Option ℕ) → IsOneWord (rule_text rule)
+pub rule_word : (rule : Option ℕ) → IsOneWord (policy_rule_text rule)
 rule_word (Some priority) = number_word priority
 rule_word None = tested_word (codes "default") refl
 
-pub action_word : (action : Action) → IsOneWord (action_text action)
+pub action_word : (action : Action) → IsOneWord (policy_action_text action)
 action_word (Out port) = joined_words (tested_word (codes "out:") refl) (number_word port)
 action_word Drop = tested_word (codes "drop") refl
 
@@ -116,8 +116,8 @@ proto_word n =
     (λ _. cond_both (n == 17) _ _ IsOneWord (λ _. tested_word (codes "udp") refl)
     (λ _. number_word n)))
 
-pub fields_line : (fields : Fields) → IsOneLine (fields_text fields)
-unfolding fields_text
+pub fields_line : (fields : Fields) → IsOneLine (header_fields_text fields)
+unfolding header_fields_text
 fields_line fields = joined (word_line (address_word fields.src))
     (joined blank (joined (word_line (address_word fields.dst))
     (joined blank (joined (number_line fields.sport) (joined blank
@@ -143,18 +143,18 @@ bits_line w = joined (hex_line 26 w.value) (joined (tested (47 ∷ []) refl) (he
 plain_in_word : (byte : ℕ) → IsPlainNetByte byte → IsWordByte byte
 plain_in_word byte is = (is.no_blank, is.no_line_feed)
 
-module _ (laws : NameLaws) (net : Net) (sound : IsNet net) where
+module _ (laws : NetNameLaws) (net : Net) (sound : IsNet net) where
   row_name : (s : ℕ) (row : SwitchRow) → s < length net.switches → get_or net.switches s row ≡ row
-      → is_name row.name ≡ true
+      → is_net_name row.name ≡ true
   row_name s row within is =
       (subst IsNetSwitchRow is (All-get_or IsNetSwitchRow net.switches s row within sound.switches)).name
 
-  pub name_word : (s : ℕ) → IsOneWord (switch_name_of net s)
+  pub name_word : (s : ℕ) → IsOneWord (net_switch_name_of net s)
   name_word s = by (slice_get_cases net.switches s).1 where
     by : ((row : SwitchRow) × (s < length net.switches) × (slice_get net.switches s ≡ Some row)
         × (get_or net.switches s row ≡ row))
         ⊎ ((length net.switches ≤ s) × (slice_get net.switches s ≡ None))
-        → IsOneWord (switch_name_of net s)
+        → IsOneWord (net_switch_name_of net s)
     by (inl w) = rw w.2 (record {
       bytes = All-weaker IsPlainNetByte IsWordByte plain_in_word w.0.name
           (laws.plain w.0.name (row_name s w.0 w.1 w.3));
@@ -162,16 +162,16 @@ module _ (laws : NameLaws) (net : Net) (sound : IsNet net) where
     by (inr w) = rw w.1 (tested_word [] refl)
 
   -- a switch of the network has a name
-  pub name_is : (s : ℕ) → s < length net.switches → is_name (switch_name_of net s) ≡ true
+  pub name_is : (s : ℕ) → s < length net.switches → is_net_name (net_switch_name_of net s) ≡ true
   name_is s within = by (slice_get_cases net.switches s).1 where
     by : ((row : SwitchRow) × (s < length net.switches) × (slice_get net.switches s ≡ Some row)
         × (get_or net.switches s row ≡ row))
         ⊎ ((length net.switches ≤ s) × (slice_get net.switches s ≡ None))
-        → is_name (switch_name_of net s) ≡ true
+        → is_net_name (net_switch_name_of net s) ≡ true
     by (inl w) = rw w.2 (row_name s w.0 w.1 w.3)
     by (inr w) = absurd (omega (arith, within, w.0))
 
-  pub name_line : (s : ℕ) → IsOneLine (switch_name_of net s)
+  pub name_line : (s : ℕ) → IsOneLine (net_switch_name_of net s)
   name_line s = word_line (name_word s)
 
   pub names_line : (list : List ℕ) → IsOneLine (net_switch_names_text net list)
@@ -181,17 +181,17 @@ module _ (laws : NameLaws) (net : Net) (sound : IsNet net) where
 
 -- ---- parts of texts
 
-pub one_word : (text : List ℕ) → IsOneWord text → text_parts_round_byte 32 text ≡ text ∷ []
+pub one_word : (text : List ℕ) → IsOneWord text → tuple_text_parts_round_byte 32 text ≡ text ∷ []
 one_word text w = slice_split_none (λ b. b == 32) text
     (All-weaker IsWordByte (λ b. (b == 32) ≡ false) (λ b is. ne_eqb b 32 is.0) text w.bytes)
 
 pub first_word : (text rest : List ℕ) → IsOneWord text
-    → text_parts_round_byte 32 (text ++ 32 ∷ rest) ≡ text ∷ text_parts_round_byte 32 rest
+    → tuple_text_parts_round_byte 32 (text ++ 32 ∷ rest) ≡ text ∷ tuple_text_parts_round_byte 32 rest
 first_word text rest w = slice_split_at (λ b. b == 32) text 32 rest
     (All-weaker IsWordByte (λ b. (b == 32) ≡ false) (λ b is. ne_eqb b 32 is.0) text w.bytes) refl
 
 pub first_line : (text rest : List ℕ) → IsOneLine text
-    → text_parts_round_byte 10 (text ++ 10 ∷ rest) ≡ text ∷ text_parts_round_byte 10 rest
+    → tuple_text_parts_round_byte 10 (text ++ 10 ∷ rest) ≡ text ∷ tuple_text_parts_round_byte 10 rest
 first_line text rest w = slice_split_at (λ b. b == 10) text 10 rest
     (All-weaker IsLineByte (λ b. (b == 10) ≡ false) (λ b is. ne_eqb b 10 is) text w.bytes) refl
 
@@ -199,6 +199,6 @@ first_line text rest w = slice_split_at (λ b. b == 10) text 10 rest
 pub row_word : (row : ℕ) → IsOneWord (decimal row ++ 58 ∷ [])
 row_word row = joined_words (number_word row) (tested_word (58 ∷ []) refl)
 
-pub row_parts : (row : ℕ) → text_parts_round_byte 58 (decimal row ++ 58 ∷ []) ≡ decimal row ∷ [] ∷ []
+pub row_parts : (row : ℕ) → tuple_text_parts_round_byte 58 (decimal row ++ 58 ∷ []) ≡ decimal row ∷ [] ∷ []
 row_parts row = slice_split_at (λ b. b == 58) (decimal row) 58 [] (All-weaker IsGlyph
     (λ b. (b == 58) ≡ false) (λ b is. ne_eqb b 58 is.1) (decimal row) (decimal_glyphs row)) refl

@@ -1,4 +1,4 @@
-ghost use Rattle.trace_texts.specs.Texts.{TextsAreGood};
+ghost use Rattle.trace_texts.specs.Texts.{TraceTextsAreGood};
 
 use control_laws::versions_are_planned;
 use five_tuple::tuple_fields_read_back;
@@ -10,7 +10,7 @@ use packet_laws::{
 /// Each line of the text of a journal that answers a schedule is good. So are whole lines of meters
 /// after it, and the one that says whether the network is quiet: `audit` returns Yes for them.
 pub fn texts_are_good()
-    ensures { TextsAreGood }
+    ensures { TraceTextsAreGood }
 {
     tuple_fields_read_back();
     switch_name_laws();

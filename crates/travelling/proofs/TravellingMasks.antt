@@ -3,7 +3,7 @@ use Rattle.std.proofs.Common.{[], ◌%◌, ◌&&◌, ◌*◌, ◌+◌, ◌-◌, 
 use Rattle.base.proofs.Exports.{bit_at, bit_at-lt, bit_at-pow_same, bit_at_xor, cases_lt, get_or_past, has-xor_other, has-zero, has_above, has_least, least_below, nat_tests, shr_le}
 use Rattle.base.specs.Exports.{has, least_in_number_set}
 use Rattle.travelling.specs.SwitchIndex.{traveller_mark_flipped_if, has_traveller_marks, is_traveller_marked}
-use Rattle.travelling.specs.Travelling.{Flight, AreTravellersMarked, Flights, stands_at, flight}
+use Rattle.travelling.specs.Travelling.{TravellingFlight, AreTravellersMarked, TravellingFlights, travelling_stands_at, flight}
 
 -- ---- empty masks
 
@@ -11,15 +11,15 @@ pub none_marked : (i s : ℕ) → is_traveller_marked [] i s ≡ false
 none_marked i s = has-zero (i % 64)
 
 -- the same masks mark the same packets
-pub marked_on : (before after : Flights) (masks more : List ℕ) → AreTravellersMarked before masks
+pub marked_on : (before after : TravellingFlights) (masks more : List ℕ) → AreTravellersMarked before masks
     → ((i : ℕ) → flight after i ≡ flight before i)
     → ((j : ℕ) → get_or more j 0 ≡ get_or masks j 0) → AreTravellersMarked after more
 marked_on before after masks more marked same same_masks = λ i s below.
     ap (λ m. has m (i % 64)) (same_masks (i / 64 * 64 + s)) ∙ marked i s below
-    ∙ ap (stands_at s) (sym (same i))
+    ∙ ap (travelling_stands_at s) (sym (same i))
 
 -- there is a mask for each slot
-pub room_on : (before after : Flights) (masks more : List ℕ) (n : ℕ)
+pub room_on : (before after : TravellingFlights) (masks more : List ℕ) (n : ℕ)
     → ((i : ℕ) → i < length before → i + 64 ≤ length masks)
     → length after ≤ max (length before) (n + 1) → length masks ≤ length more
     → n + 64 ≤ length more → (i : ℕ) → i < length after → i + 64 ≤ length more
@@ -30,7 +30,7 @@ room_on before after masks more n room few grown new i below = by_place (cases_l
     by_place (inr high) = omega (arith, few, below, high, new)
 
 -- a packet that travels has a slot
-pub within_some : (slots : Flights) (i : ℕ) → is_some (flight slots i) ≡ true → i < length slots
+pub within_some : (slots : TravellingFlights) (i : ℕ) → is_some (flight slots i) ≡ true → i < length slots
 within_some slots i is = by_place (cases_lt i (length slots)) where
   by_place : (i < length slots) ⊎ (length slots ≤ i) → i < length slots
   by_place (inl below) = below
@@ -39,7 +39,7 @@ within_some slots i is = by_place (cases_lt i (length slots)) where
       cc
       )
 
-pub within_and : (P : Flight → Type 0) (slots : Flights) (i : ℕ)
+pub within_and : (P : TravellingFlight → Type 0) (slots : TravellingFlights) (i : ℕ)
     → IsSomeAnd (flight slots i) P → i < length slots
 within_and P slots i is = by_place (cases_lt i (length slots)) where
   by_place : (i < length slots) ⊎ (length slots ≤ i) → i < length slots

@@ -1,7 +1,7 @@
 -- The numbers of slots that pass a test.
 use Rattle.std.proofs.Common.{[], ◌++◌, ◌+◌, ◌<◌, ◌∙◌, ◌∷◌, ◌≡◌, ◌≤◌, Bool, List, None, ap, append-nil, append_assoc, arith, cond, false, filter, length, refl, suc, sym, zero, ℕ}
 use Rattle.base.proofs.Exports.{filter-append, filter_more, get_or_past, range_more, range_with_len}
-use Rattle.travelling.specs.Travelling.{Flights, stands_at, flight}
+use Rattle.travelling.specs.Travelling.{TravellingFlights, travelling_stands_at, flight}
 
 -- none between passes
 pub none_between : (test : ℕ → Bool) (from more : ℕ)
@@ -35,6 +35,6 @@ filter_on test from (suc more) =
     ∙ ap (λ k. filter test (range_with_len from k)) next_more)
 
 -- what a packet of no slot does
-pub beyond : (before : Flights) (s i : ℕ) → length before ≤ i
-    → stands_at s (flight before i) ≡ false
+pub beyond : (before : TravellingFlights) (s i : ℕ) → length before ≤ i
+    → travelling_stands_at s (flight before i) ≡ false
 beyond before s i past = rw (get_or_past before i None past) refl

@@ -1,6 +1,6 @@
 //! Packets that are kept on the heap, so that the slot of one that ended takes few bytes.
 ghost use Rattle.std.specs.Prelude.{◌≡◌, IfOk};
-ghost use Rattle.travelling.specs.Travelling.{FlightHasPlace, flight_placed_at};
+ghost use Rattle.travelling.specs.Travelling.{TravellingFlightHasPlace, travelling_flight_placed_at};
 
 use crate::stored_flight::StoredFlight;
 use std::alloc::{AllocError, Global};
@@ -15,9 +15,9 @@ pub struct HeldFlight {
 const _: () = prove!(size_of::<Option<HeldFlight>>() <= 16);
 
 impl Model for HeldFlight {
-    ghost use Rattle.travelling.specs.Travelling.{Flight};
+    ghost use Rattle.travelling.specs.Travelling.{TravellingFlight};
 
-    ghost Value = { Flight };
+    ghost Value = { TravellingFlight };
 
     ghost view = { λ held. held.kept.value };
 }
@@ -43,8 +43,8 @@ impl HeldFlight {
 
     /// Moves the packet to this place of its route. Allocates nothing.
     pub fn move_to(&mut self, place: u32)
-        requires { FlightHasPlace place self.old }
-        ensures { self.new ≡ flight_placed_at place self.old }
+        requires { TravellingFlightHasPlace place self.old }
+        ensures { self.new ≡ travelling_flight_placed_at place self.old }
     {
         self.kept.move_to(place);
     }

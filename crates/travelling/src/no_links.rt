@@ -1,6 +1,6 @@
 //! The empty set of links, which is kept once.
 ghost use Rattle.std.specs.Prelude.{◌≡◌, IfOk};
-ghost use Rattle.failover.specs.Links.{no_links};
+ghost use Rattle.failover.specs.Links.{no_failover_links};
 
 use journal::{DownSet, SharedLinks};
 use std::alloc::{AllocError, Global};
@@ -14,13 +14,13 @@ pub struct NoLinks {
 
 impl Model for NoLinks {
     ghost use Rattle.std.specs.Prelude.{◌≡◌, List, ℕ, unwrap_or};
-    ghost use Rattle.failover.specs.Links.{no_links};
+    ghost use Rattle.failover.specs.Links.{no_failover_links};
 
     ghost Value = { List ℕ };
 
-    ghost view = { λ n. unwrap_or n.made no_links };
+    ghost view = { λ n. unwrap_or n.made no_failover_links };
 
-    ghost invariant = { λ n. unwrap_or n.made no_links ≡ no_links };
+    ghost invariant = { λ n. unwrap_or n.made no_failover_links ≡ no_failover_links };
 }
 
 impl NoLinks {
@@ -34,7 +34,7 @@ impl NoLinks {
     /// # Errors
     /// Only out of memory.
     pub fn share(&mut self, alloc: Global) -> Result<SharedLinks, AllocError>
-        ensures { IfOk result (λ links. links ≡ no_links) }
+        ensures { IfOk result (λ links. links ≡ no_failover_links) }
     {
         if let Some(links) = &self.made {
             return links.clone();

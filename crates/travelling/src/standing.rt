@@ -1,6 +1,6 @@
 ghost use Rattle.std.specs.Prelude.{◌≡◌, ◌≢◌, ◌<◌, OnErr, OnOk, unwrap_or};
 ghost use Rattle.std.specs.Option.{option_copied};
-ghost use Rattle.failover.specs.Links.{no_links};
+ghost use Rattle.failover.specs.Links.{no_failover_links};
 ghost use Rattle.travelling.specs.Travelling.{traveller_found_down_at, traveller_standing_kept};
 
 use five_tuple::Header;
@@ -48,7 +48,7 @@ impl Standing {
 
     /// The links that it found down; `None` if it found none.
     pub fn links(&self) -> Option<&DownSet>
-        ensures { unwrap_or (option_copied result) no_links ≡ (traveller_standing_kept self.now).down }
+        ensures { unwrap_or (option_copied result) no_failover_links ≡ (traveller_standing_kept self.now).down }
     {
         match &self.down {
             None => None,

@@ -1,6 +1,6 @@
 ghost use Rattle.std.specs.Prelude.{◌≡◌, ◌<◌, IfOk};
 ghost use Rattle.tunnel.specs.Moves.{here, next};
-ghost use Rattle.travelling.specs.Travelling.{FlightHasPlace, flight_begun_at, flight_placed_at, traveller_standing_at, traveller_standing_kept, travels_by};
+ghost use Rattle.travelling.specs.Travelling.{TravellingFlightHasPlace, travelling_flight_begun_at, travelling_flight_placed_at, traveller_standing_at, traveller_standing_kept, travels_by};
 
 use crate::standing::Standing;
 use five_tuple::Header;
@@ -30,11 +30,11 @@ const _: () = prove!(size_of::<StoredFlight>() <= 104);
 
 impl Model for StoredFlight {
     ghost use Rattle.tunnel.specs.Tunnel.{IsTunnelPlaceOnRoute};
-    ghost use Rattle.travelling.specs.Travelling.{Flight, flight_kept};
+    ghost use Rattle.travelling.specs.Travelling.{TravellingFlight, travelling_flight_kept};
 
-    ghost Value = { Flight };
+    ghost Value = { TravellingFlight };
 
-    ghost view = { flight_kept };
+    ghost view = { travelling_flight_kept };
 
     ghost invariant = { λ k. IsTunnelPlaceOnRoute k.route k.place };
 }
@@ -44,7 +44,7 @@ impl StoredFlight {
     /// the set of links stay shared, and it allocates nothing.
     pub fn begin(at: Standing, leg: Leg, targets: Targets, route: SharedRoute) -> StoredFlight
         ensures { result
-            ≡ travels_by (flight_begun_at (traveller_standing_kept at) leg targets route) at.version at.rule }
+            ≡ travels_by (travelling_flight_begun_at (traveller_standing_kept at) leg targets route) at.version at.rule }
     {
         let _items = route.get().items();
         StoredFlight {
@@ -142,8 +142,8 @@ impl StoredFlight {
 
     /// Moves the packet to this place of its route. Allocates nothing.
     pub fn move_to(&mut self, place: u32)
-        requires { FlightHasPlace place self.old }
-        ensures { self.new ≡ flight_placed_at place self.old }
+        requires { TravellingFlightHasPlace place self.old }
+        ensures { self.new ≡ travelling_flight_placed_at place self.old }
     {
         self.place = place;
     }

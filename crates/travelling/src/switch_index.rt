@@ -6,7 +6,7 @@
 //! if none is there.
 ghost use Rattle.std.specs.Prelude.{◌≡◌, ◌+◌, ◌*◌, ◌/◌, ◌<◌, ◌≤◌, ◌==◌, ◌&&◌, ℕ, [], false, true, length, max, slice_index_or, OnOk};
 ghost use Rattle.travelling.specs.SwitchIndex.{AreTravellerBlockMarks, IsLeastTravellerMarked, IsNextTravellerInBlock, IsNextTravellerMarked, traveller_mark_flipped_if, has_traveller_marks, is_traveller_marked};
-ghost use Rattle.travelling.specs.Travelling.{stands_at};
+ghost use Rattle.travelling.specs.Travelling.{travelling_stands_at};
 
 use crate::held_flight::HeldFlight;
 use base::only_if;
@@ -67,8 +67,8 @@ impl TravellerSwitchIndex {
         requires { number + 64 ≤ length self.old }
         ensures room { length self.new ≡ length self.old }
         ensures marks { (i s : ℕ) → s < 64 → is_traveller_marked self.new i s
-            ≡ traveller_mark_flipped_if (i == number && stands_at s slot.now) (is_traveller_marked self.old i s) }
-        ensures below { (s : ℕ) → 64 ≤ s → stands_at s slot.now ≡ false }
+            ≡ traveller_mark_flipped_if (i == number && travelling_stands_at s slot.now) (is_traveller_marked self.old i s) }
+        ensures below { (s : ℕ) → 64 ≤ s → travelling_stands_at s slot.now ≡ false }
     {
         if let Some(held) = slot {
             self.flip(number, held.get().here());

@@ -9,7 +9,7 @@
 //! No slot is freed before the end, as in a journal.
 ghost use Rattle.std.specs.Prelude.{◌≡◌, ◌+◌, ◌<◌, ◌≤◌, ℕ, max, [], Some, None, is_some, option_map, length, slice_set, IfOk, IsSome, OnOk};
 ghost use Rattle.std.specs.Option.{IsSomeAnd, option_copied};
-ghost use Rattle.travelling.specs.Travelling.{AreTravellersMarked, FlightHasPlace, IsNextTravellerAt, IsNextTravellerFrom, TravellingStandBelow, TravellingWithOne, flight_placed_at, flight, traveller_standing_kept};
+ghost use Rattle.travelling.specs.Travelling.{AreTravellersMarked, TravellingFlightHasPlace, IsNextTravellerAt, IsNextTravellerFrom, TravellingStandBelow, TravellingWithOne, travelling_flight_placed_at, flight, traveller_standing_kept};
 
 use crate::held_flight::HeldFlight;
 use crate::no_links::NoLinks;
@@ -33,9 +33,9 @@ pub struct Travelling {
 }
 
 impl Model for Travelling {
-    ghost use Rattle.travelling.specs.Travelling.{IsTravellingTable, Flights};
+    ghost use Rattle.travelling.specs.Travelling.{IsTravellingTable, TravellingFlights};
 
-    ghost Value = { Flights };
+    ghost Value = { TravellingFlights };
 
     ghost view = { λ t. t.slots.items };
 
@@ -95,9 +95,9 @@ impl Travelling {
 
     /// Moves the packet to this place of its route. Allocates nothing.
     pub fn move_to(&mut self, packet: u32, place: u32)
-        requires { IsSomeAnd (flight self.old packet) (FlightHasPlace place) }
+        requires { IsSomeAnd (flight self.old packet) (TravellingFlightHasPlace place) }
         ensures { TravellingWithOne self.old packet
-            (option_map (flight_placed_at place) (flight self.old packet)) self.new }
+            (option_map (travelling_flight_placed_at place) (flight self.old packet)) self.new }
     {
         move_packet_slot(&mut self.slots, &mut self.by_switch, packet as usize, place);
     }
@@ -213,12 +213,12 @@ fn move_packet_slot(
     number: usize,
     place: u32,
 )
-    requires held { IsSomeAnd (flight slots.old.items number) (FlightHasPlace place) }
+    requires held { IsSomeAnd (flight slots.old.items number) (TravellingFlightHasPlace place) }
     requires room { number + 64 ≤ length by_switch.old }
     requires marked { AreTravellersMarked slots.old.items by_switch.old }
     requires below { TravellingStandBelow slots.old.items }
     ensures slots { slots.new.items ≡ slice_set slots.old.items number
-        (option_map (flight_placed_at place) (flight slots.old.items number)) }
+        (option_map (travelling_flight_placed_at place) (flight slots.old.items number)) }
     ensures room { length by_switch.new ≡ length by_switch.old }
     ensures marked { AreTravellersMarked slots.new.items by_switch.new }
     ensures below { TravellingStandBelow slots.new.items }

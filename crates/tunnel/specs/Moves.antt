@@ -3,7 +3,7 @@ use Rattle.std.specs.Prelude.{◌+◌, List, None, Option, Some, slice_get, slic
 use Rattle.five_tuple.specs.declared.header.Header.{Header}
 use Rattle.policy_rules.specs.declared.packet.Leg.{Leg}
 use Rattle.failover.specs.declared.advert.Advert.{Advert}
-use Rattle.failover.specs.Exports.{route_of, with_link}
+use Rattle.failover.specs.Exports.{route_of, with_failover_link}
 use Rattle.tunnel.specs.Tunnel.{TunnelValue}
 
 -- at the beginning of its route
@@ -33,17 +33,17 @@ advanced_tunnel t = record t { place = t.place + 1 }
 
 -- the link between this switch and another was found down
 abbrev pub tunnel_marked_down : TunnelValue → ℕ → TunnelValue
-tunnel_marked_down t other = record t { down = with_link t.down (here t) other }
+tunnel_marked_down t other = record t { down = with_failover_link t.down (here t) other }
 
 -- its route from here by the links that are known here, except those found down
 abbrev pub tunnel_route_from_here : TunnelValue → List (Option Advert) → ℕ → Option (List ℕ)
 tunnel_route_from_here t adverts near = route_of adverts (here t) t.targets near t.down
 
 -- it is at the beginning of this route
-abbrev pub on_route : TunnelValue → List ℕ → TunnelValue
-on_route t route = record t { route = route; place = 0 }
+abbrev pub tunnel_on_route : TunnelValue → List ℕ → TunnelValue
+tunnel_on_route t route = record t { route = route; place = 0 }
 
 -- it takes the new route if there is one, and stays on its old route otherwise
-abbrev pub put_on_route : TunnelValue → Option (List ℕ) → TunnelValue
-put_on_route t None = t
-put_on_route t (Some route) = on_route t route
+abbrev pub tunnel_put_on_route : TunnelValue → Option (List ℕ) → TunnelValue
+tunnel_put_on_route t None = t
+tunnel_put_on_route t (Some route) = tunnel_on_route t route

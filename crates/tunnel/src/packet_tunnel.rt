@@ -1,5 +1,5 @@
 ghost use Rattle.std.specs.Prelude.{◌≡◌, ◌≢◌, ◌<◌, ◌+◌, ◌↔◌, length, is_some, slice_get, IfSome, IsSome};
-ghost use Rattle.tunnel.specs.Moves.{tunnel_begun, here, next, advanced_tunnel, tunnel_marked_down, tunnel_route_from_here, put_on_route};
+ghost use Rattle.tunnel.specs.Moves.{tunnel_begun, here, next, advanced_tunnel, tunnel_marked_down, tunnel_route_from_here, tunnel_put_on_route};
 
 use failover::{Database, DownSet, Route};
 use five_tuple::Header;
@@ -108,7 +108,7 @@ impl Tunnel {
     /// none; then nothing changes.
     pub fn reroute(&mut self, base: &Database, near: u64) -> bool
         ensures found { result ≡ is_some (tunnel_route_from_here self.old base.now near) }
-        ensures after { self.new ≡ put_on_route self.old (tunnel_route_from_here self.old base.now near) }
+        ensures after { self.new ≡ tunnel_put_on_route self.old (tunnel_route_from_here self.old base.now near) }
     {
         match base.route(self.here(), &self.targets, near, &self.down) {
             None => false,

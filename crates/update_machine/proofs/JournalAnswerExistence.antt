@@ -1,10 +1,10 @@
 -- There is an answer exactly if each event has its steps.
 use Rattle.std.proofs.Common.{[], ◌++◌, ◌+◌, ◌<◌, ◌↔◌, ◌∙◌, ◌∷◌, ◌≡◌, List, None, Option, Some, ap, append-nil, append_assoc, arith, length, map, refl, subst, suc, sym, zero, ℕ}
-use Rattle.update_machine.specs.Exports.{Answers, AreAllMachineEventSteps, AreAnsweredByJournal, AreMachineSteps, AreMachineStepsOf, Event, HaveMachineSteps, Item, One, Setting, Step, StepOfRow, journal_after_steps, piece}
+use Rattle.update_machine.specs.Exports.{Answers, AreAllMachineEventSteps, AreAnsweredByJournal, AreMachineSteps, AreMachineStepsOf, Event, HaveMachineSteps, Item, One, Setting, Step, MachineStepOfRow, journal_after_steps, piece}
 use Rattle.update_machine.proofs.JournalFirstSteps.{one_answer}
 
 -- steps after others write after what those wrote
-pub after_append : (setting : Setting) (before : List Item) (steps more : List StepOfRow)
+pub after_append : (setting : Setting) (before : List Item) (steps more : List MachineStepOfRow)
     → journal_after_steps setting before (steps ++ more)
     ≡ journal_after_steps setting (journal_after_steps setting before steps) more
 after_append setting before [] more = refl
@@ -12,7 +12,7 @@ after_append setting before (next ∷ steps) more =
     after_append setting (before ++ piece setting before next.row next.step) steps more
 
 steps_go_on : (setting : Setting) (row last : ℕ) (events : List Event) (event : Event)
-    (before : List Item) (steps mine : List StepOfRow) → last ≡ length events + row
+    (before : List Item) (steps mine : List MachineStepOfRow) → last ≡ length events + row
     → AreMachineSteps setting row events before steps
     → AreMachineStepsOf setting last event (journal_after_steps setting before steps) mine
     → AreMachineSteps setting row (events ++ event ∷ []) before (steps ++ mine)
@@ -42,7 +42,7 @@ steps_go_on setting row last (first ∷ events) event before steps mine same all
 
 -- an answer goes on by one more event that has its steps
 pub answer_goes_on : (setting : Setting) (events : List Event) (event : Event)
-    (journal : List Item) (mine : List StepOfRow) → Answers setting events journal
+    (journal : List Item) (mine : List MachineStepOfRow) → Answers setting events journal
     → AreMachineStepsOf setting (length events + 1) event journal mine
     → Answers setting (events ++ event ∷ []) (journal_after_steps setting journal mine)
 answer_goes_on setting events event journal mine answers more = record {
@@ -76,13 +76,13 @@ answer_exists setting events have =
 -- the steps of events are those of the first ones, and then those of the others
 record Parts (setting : Setting) (row : ℕ) (first : List Event) (event : Event)
     (before : List Item) : Type 0 where
-  steps : List StepOfRow
+  steps : List MachineStepOfRow
   allowed : AreMachineSteps setting row first before steps
-  mine : List StepOfRow
+  mine : List MachineStepOfRow
   own : AreMachineStepsOf setting (length first + row) event (journal_after_steps setting before steps) mine
 
 steps_part : (setting : Setting) (row : ℕ) (first : List Event) (event : Event)
-    (others : List Event) (before : List Item) (steps : List StepOfRow)
+    (others : List Event) (before : List Item) (steps : List MachineStepOfRow)
     → AreMachineSteps setting row (first ++ event ∷ others) before steps
     → Parts setting row first event before
 steps_part setting row [] event others before steps all = record {
@@ -128,7 +128,7 @@ steps_answered setting steps = from setting [] steps ([], none_answered setting)
       → AreAnsweredByJournal at (first ++ map One others)
   from at first [] answered = subst (AreAnsweredByJournal at) (sym (append-nil first)) answered
   from at first (step ∷ others) answered =
-      let mine : List StepOfRow = record { row = length first + 1; step = step } ∷ [] in
+      let mine : List MachineStepOfRow = record { row = length first + 1; step = step } ∷ [] in
       subst (AreAnsweredByJournal at) (append_assoc first (One step ∷ []) (map One others))
       (from at (first ++ One step ∷ []) others (
         journal_after_steps at answered.0 mine,
@@ -148,7 +148,7 @@ pub record Nears (setting : Setting) (next : List Item → Option Step) (row : �
 
 -- so it ends
 abbrev pub HasEnd : Setting → (List Item → Option Step) → ℕ → List Item → Type 0
-HasEnd setting next row before = (steps : List StepOfRow) × AreAllMachineEventSteps setting next row before steps
+HasEnd setting next row before = (steps : List MachineStepOfRow) × AreAllMachineEventSteps setting next row before steps
 
 -- by one step it comes nearer to its end, if it hasn't come to it
 by_step : (setting : Setting) (next : List Item → Option Step) (row : ℕ)

@@ -1,19 +1,19 @@
 -- Answers, computed: what a drain and a flush stand for, and how often switches were called.
 use Rattle.std.proofs.Common.{[], ◌∷◌, ◌≡◌, List, refl}
-use Rattle.update_machine.specs.Exports.{Answers, Drain, Event, Flush, Item, One, Step, StepOfRow, journal_handled_count}
+use Rattle.update_machine.specs.Exports.{Answers, Drain, Event, Flush, Item, One, Step, MachineStepOfRow, journal_handled_count}
 use Rattle.update_machine.proofs.JournalExampleNetworks.{at, left_by, one, shielded}
 
 -- a packet enters and is drained; then the cache rule that it brought is delivered
-abbrev entering : List StepOfRow
+abbrev entering : List MachineStepOfRow
 entering = at 1 (Step.Packet 0 one) ∷ []
 
-abbrev draining : List StepOfRow
+abbrev draining : List MachineStepOfRow
 draining = at 2 (Step.Hop 1) ∷ at 2 (Step.Hop 1) ∷ []
 
-abbrev flushing : List StepOfRow
+abbrev flushing : List MachineStepOfRow
 flushing = at 3 (Step.Deliver 1) ∷ []
 
-abbrev taken : List StepOfRow
+abbrev taken : List MachineStepOfRow
 taken = at 1 (Step.Packet 0 one) ∷ at 2 (Step.Hop 1) ∷ at 2 (Step.Hop 1) ∷ at 3
     (Step.Deliver 1) ∷ []
 

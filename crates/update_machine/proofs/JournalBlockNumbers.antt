@@ -1,7 +1,7 @@
 -- Each block of a piece takes the next numbers.
 use Rattle.base.proofs.Exports.{⊤, flat_map-append, option_or, option_or-assoc, option_or-none, sum_by-append}
 use Rattle.std.proofs.Common.{[], ◌++◌, ◌+◌, ◌∙◌, ◌∷◌, ◌≡◌, ◌≤◌, Bool, List, None, Option, Some, ap, append-nil, append_assoc, arith, map, refl, subst, suc, sym, take, zero, ℕ}
-use Rattle.update_machine.specs.Exports.{Action, AuthorityRule, JournalBeginsAnswer, Body, Confirm, Crash, Deliver, Event, Exit, Expire, Forget, Found, JournalItemsHaveCauses, Header, Hop, How, Item, Leg, LinkDown, LinkUp, Lose, Message, Packet, Resend, Restart, Seek, Setting, Step, StepOfRow, MachineTakesNextNumber, Update, machine_after_hello, journal_after_steps, journal_all_given, journal_leg_arrival_items, machine_arrive_items, machine_authority_items, journal_authority_rule, journal_cache_items, confirm_items, controller_items, count_of, journal_crash_items, current_items, deliver_items, machine_delivery_items, machine_end_items, machine_expire_items, journal_first_given, folded_journal_from, journal_folded_value, machine_forget_items, found_items, go_on, journal_packet_header_at, machine_hop_items, in_turn, machine_installs_to, machine_installs_to_all, is_packet, is_sending, journal_items_then, journal_last_given, machine_leg_items, journal_leg_of, journal_link_changes, machine_link_items, lookup_at, machine_lookup_items, lose_items, machine_move_items, journal_next_message, journal_next_packet, machine_open_items, machine_packet_items, piece, journal_reroute_by, machine_reroute_items, machine_resend_items, restart_items, machine_retired_items, send_items, machine_sends_or_nothing, machine_sent_items_from, settling, journal_stamp_of, machine_step_items, submitted_items, journal_switch_items, machine_update_items}
+use Rattle.update_machine.specs.Exports.{Action, MachineAuthorityRule, JournalBeginsAnswer, Body, Confirm, Crash, Deliver, Event, Exit, Expire, Forget, Found, JournalItemsHaveCauses, Header, Hop, How, Item, Leg, LinkDown, LinkUp, Lose, Message, Packet, Resend, Restart, Seek, Setting, Step, MachineStepOfRow, MachineTakesNextNumber, Update, machine_after_hello, journal_after_steps, journal_all_given, journal_leg_arrival_items, machine_arrive_items, machine_authority_items, journal_authority_rule, journal_cache_items, machine_confirm_items, machine_controller_items, machine_count_of, journal_crash_items, machine_current_items, machine_deliver_items, machine_delivery_items, machine_end_items, machine_expire_items, journal_first_given, folded_journal_from, journal_folded_value, machine_forget_items, machine_found_items, machine_onward_items, journal_packet_header_at, machine_hop_items, machine_blocks_in_turn, machine_installs_to, machine_installs_to_all, is_machine_packet_entry, is_machine_sending_item, journal_items_then, journal_last_given, machine_leg_items, journal_leg_of, journal_link_changes, machine_link_items, machine_lookup_at, machine_lookup_items, machine_lose_items, machine_move_items, journal_next_message, journal_next_packet, machine_open_items, machine_packet_items, piece, journal_reroute_by, machine_reroute_items, machine_resend_items, machine_restart_items, machine_retired_items, machine_send_items, machine_sends_or_nothing, machine_sent_items_from, machine_settling, journal_stamp_of, machine_step_items, machine_submitted_items, journal_switch_items, machine_update_items}
 
 -- ---- causes of items, for any table of causes
 
@@ -40,9 +40,9 @@ BlocksHave cause (block ∷ blocks) = ((now : List Item) → JournalItemsHaveCau
 -- and so they have them in turn
 pub have_in_turn : (cause : List Item → Item → Type 0) (blocks : List (List Item → List Item))
     → BlocksHave cause blocks →
-    (journal : List Item) → JournalItemsHaveCauses cause journal (in_turn blocks journal)
+    (journal : List Item) → JournalItemsHaveCauses cause journal (machine_blocks_in_turn blocks journal)
 have_in_turn cause [] all journal = tt
-have_in_turn cause (block ∷ blocks) all journal = have_put cause (block journal) (in_turn blocks)
+have_in_turn cause (block ∷ blocks) all journal = have_put cause (block journal) (machine_blocks_in_turn blocks)
     journal (all.0 journal) (have_in_turn cause blocks all.1 (journal ++ block journal))
 
 -- ---- whatever causes each piece has, an answer has, and so has each beginning of one
@@ -62,7 +62,7 @@ PiecesHave cause setting = (journal : List Item) (row : ℕ) (step : Step)
 
 -- so the journal of any steps has them
 pub steps_have : (cause : List Item → Item → Type 0) (setting : Setting) → PiecesHave cause setting
-    → (before : List Item) (steps : List StepOfRow) → JournalItemsHaveCauses cause [] before
+    → (before : List Item) (steps : List MachineStepOfRow) → JournalItemsHaveCauses cause [] before
     → JournalItemsHaveCauses cause [] (journal_after_steps setting before steps)
 steps_have cause setting pieces before [] causes = causes
 steps_have cause setting pieces before (next ∷ steps) causes = steps_have cause setting pieces
@@ -97,7 +97,7 @@ first_given_append tells (item ∷ before) items =
     ∙ sym (option_or-assoc (tells item) (journal_first_given tells before) (journal_first_given tells items))
 
 pub count_of_append : (test : Item → Bool) (before items : List Item)
-    → count_of test (before ++ items) ≡ count_of test before + count_of test items
+    → machine_count_of test (before ++ items) ≡ machine_count_of test before + machine_count_of test items
 count_of_append test before items = sum_by-append _ before items
 
 pub all_given_append : {X : Type 0} (gives : Item → List X) (before items : List Item)
@@ -129,12 +129,12 @@ Next journal items = JournalItemsHaveCauses MachineTakesNextNumber journal items
 pub next_rises : (before : List Item) (next : Item)
     → journal_next_message before ≤ journal_next_message (before ++ next ∷ [])
 unfolding journal_next_message
-next_rises before next = omega (arith, count_of_append is_sending before (next ∷ []))
+next_rises before next = omega (arith, count_of_append is_machine_sending_item before (next ∷ []))
 
 pub next_sent : (journal : List Item) (n : ℕ) (message : Message)
     → journal_next_message (journal ++ Item.Sent n message ∷ []) ≡ journal_next_message journal + 1
 unfolding journal_next_message
-next_sent journal n message = rw (count_of_append is_sending journal) (omega arith)
+next_sent journal n message = rw (count_of_append is_machine_sending_item journal) (omega arith)
 
 sent_from_next : (messages : List Message) (journal : List Item) (n : ℕ) → n ≡ journal_next_message journal
     → Next journal (machine_sent_items_from n messages)
@@ -147,7 +147,7 @@ sent_from_next (message ∷ messages) journal n first = (
 )
 
 pub sends_next : (journal : List Item) (messages : List Message)
-    → Next journal (send_items journal messages)
+    → Next journal (machine_send_items journal messages)
 sends_next journal messages = sent_from_next messages journal (journal_next_message journal) refl
 
 -- ---- packets
@@ -163,12 +163,12 @@ unfolding machine_end_items
 end_next setting i s Action.Drop journal = grind arith
 end_next setting i s (Action.Out port) journal = grind (arith, leg_next)
 
-pub cache_next : (setting : Setting) (i s : ℕ) (found : AuthorityRule) (journal : List Item)
+pub cache_next : (setting : Setting) (i s : ℕ) (found : MachineAuthorityRule) (journal : List Item)
     → Next journal (journal_cache_items setting i s found journal)
 unfolding journal_cache_items
 cache_next setting i s found journal = grind (arith, sends_next)
 
-pub authority_next : (setting : Setting) (i s : ℕ) (found : Option AuthorityRule)
+pub authority_next : (setting : Setting) (i s : ℕ) (found : Option MachineAuthorityRule)
     (journal : List Item) → Next journal (machine_authority_items setting i s found journal)
 unfolding machine_authority_items
 authority_next setting i s None journal = tt
@@ -176,13 +176,13 @@ authority_next setting i s (Some found) journal =
     let decided : Item = Item.Decided i found.version found.rule.rule found.rule.action
     (How.Authority s found.part.number) in
     let blocks = journal_cache_items setting i s found ∷ machine_end_items setting i s found.rule.action ∷ [] in
-    have_first MachineTakesNextNumber decided (in_turn blocks) journal tt
+    have_first MachineTakesNextNumber decided (machine_blocks_in_turn blocks) journal tt
     (have_in_turn MachineTakesNextNumber blocks
     (cache_next setting i s found, (end_next setting i s found.rule.action, tt))
     (journal ++ decided ∷ []))
 
 pub found_next : (setting : Setting) (i s : ℕ) (what : Found) (journal : List Item)
-    → Next journal (found_items setting i s what journal)
+    → Next journal (machine_found_items setting i s what journal)
 found_next setting i s (Found.Cached entry) journal =
     let decided = Item.Decided i entry.version entry.rule entry.action (How.Cached entry.message) in
     have_first MachineTakesNextNumber decided (machine_end_items setting i s entry.action) journal tt
@@ -196,7 +196,7 @@ pub lookup_next : (setting : Setting) (i s : ℕ) (journal : List Item)
     → Next journal (machine_lookup_items setting i s journal)
 unfolding machine_lookup_items
 lookup_next setting i s journal = found_next setting i s
-    (lookup_at setting journal s (journal_packet_header_at journal i)) journal
+    (machine_lookup_at setting journal s (journal_packet_header_at journal i)) journal
 
 arrive_by_next : (setting : Setting) (i s : ℕ) (leg : Option Leg) (journal : List Item)
     → Next journal (journal_leg_arrival_items setting i s leg journal)
@@ -211,7 +211,7 @@ unfolding machine_arrive_items
 arrive_next setting i s journal = arrive_by_next setting i s (journal_leg_of journal i) journal
 
 go_on_next : (setting : Setting) (i s : ℕ) (journal : List Item)
-    → Next journal (go_on setting i s journal)
+    → Next journal (machine_onward_items setting i s journal)
 go_on_next setting i s journal = grind (arith, arrive_next)
 
 reroute_by_next : (setting : Setting) (i s : ℕ) (leg : Option Leg) (journal : List Item)
@@ -232,8 +232,8 @@ move_next setting i s journal = grind (arith, arrive_next, have_put, reroute_nex
 -- ---- the controller
 
 current_next : (setting : Setting) (journal : List Item)
-    → Next journal (current_items setting journal)
-unfolding current_items
+    → Next journal (machine_current_items setting journal)
+unfolding machine_current_items
 current_next setting journal = grind (arith, have_put, sends_next)
 
 open_next : (setting : Setting) (journal : List Item) → Next journal (machine_open_items setting journal)
@@ -246,10 +246,10 @@ unfolding machine_retired_items
 retired_next setting journal = grind (arith, have_put, sends_next)
 
 pub settling_next : (setting : Setting) (journal : List Item)
-    → Next journal (settling setting journal)
-unfolding settling
+    → Next journal (machine_settling setting journal)
+unfolding machine_settling
 settling_next setting journal =
-    have_in_turn MachineTakesNextNumber (current_items setting ∷ machine_open_items setting ∷ machine_retired_items setting ∷ [])
+    have_in_turn MachineTakesNextNumber (machine_current_items setting ∷ machine_open_items setting ∷ machine_retired_items setting ∷ [])
     (current_next setting, (open_next setting, (retired_next setting, tt))) journal
 
 installs_next : (setting : Setting) (s : ℕ) (journal : List Item)
@@ -263,8 +263,8 @@ unfolding machine_installs_to_all
 all_installs_next setting journal = sends_next journal _
 
 pub submitted_next : (setting : Setting) (journal : List Item)
-    → Next journal (submitted_items setting journal)
-submitted_next setting journal = have_in_turn MachineTakesNextNumber (machine_installs_to_all setting ∷ settling setting
+    → Next journal (machine_submitted_items setting journal)
+submitted_next setting journal = have_in_turn MachineTakesNextNumber (machine_installs_to_all setting ∷ machine_settling setting
     ∷ []) (all_installs_next setting, (settling_next setting, tt)) journal
 
 -- ---- deliveries
@@ -290,10 +290,10 @@ hello_next setting before (Body.Hello s boot) journal = grind (arith, installs_n
 hello_next setting before _ journal = tt
 
 controller_next : (setting : Setting) (before : List Item) (body : Body) (journal : List Item)
-    → Next journal (controller_items setting before body journal)
-unfolding controller_items
+    → Next journal (machine_controller_items setting before body journal)
+unfolding machine_controller_items
 controller_next setting before body journal =
-    have_in_turn MachineTakesNextNumber (settling setting ∷ machine_after_hello setting before body ∷ [])
+    have_in_turn MachineTakesNextNumber (machine_settling setting ∷ machine_after_hello setting before body ∷ [])
     (settling_next setting, (hello_next setting before body, tt)) journal
 
 pub delivery_next : (setting : Setting) (before : List Item) (number : ℕ) (journal : List Item)
@@ -307,7 +307,7 @@ delivery_next setting before number journal = grind (arith, switch_next, control
 packet_behind_row : (journal : List Item) (row : ℕ) (step : Step)
     → journal_next_packet (journal ++ Item.Row row step ∷ []) ≡ journal_next_packet journal
 unfolding journal_next_packet
-packet_behind_row journal row step = rw (count_of_append is_packet journal) (omega arith)
+packet_behind_row journal row step = rw (count_of_append is_machine_packet_entry journal) (omega arith)
 
 packet_next : (setting : Setting) (i s : ℕ) (header : Header) (journal : List Item)
     → i ≡ journal_next_packet journal → Next journal (machine_packet_items setting i s header journal)
@@ -335,8 +335,8 @@ sends_or_nothing_next journal (message ∷ messages) = sends_next journal (messa
 
 step_next : (setting : Setting) (before : List Item) (row : ℕ) (step : Step) → let behind =
     before ++ Item.Row row step ∷ [] in Next behind (machine_step_items setting before step behind)
-unfolding machine_hop_items lose_items deliver_items machine_forget_items machine_expire_items machine_update_items machine_link_items
-    journal_crash_items restart_items confirm_items machine_resend_items
+unfolding machine_hop_items machine_lose_items machine_deliver_items machine_forget_items machine_expire_items machine_update_items machine_link_items
+    journal_crash_items machine_restart_items machine_confirm_items machine_resend_items
 step_next setting before row (Packet switch header) = packet_next setting (journal_next_packet before)
     switch header _ (sym (packet_behind_row before row (Packet switch header)))
 step_next setting before row (Hop packet) = grind (arith, move_next)

@@ -1,13 +1,13 @@
 -- What caches and lookups are said to be, on journals of few items.
 use Rattle.std.proofs.Common.{[], ◌++◌, ◌∷◌, ◌≡◌, List, None, Ok, Some, codes, false, refl, ℕ}
-use Rattle.update_machine.specs.Exports.{Add, Body, CacheEntry, CacheRule, Change, Drop, Header, How, Is, Item, Net, Out, Redirect, Row, Rule, Setting, Stamp, Step, Whole, journal_boot_of, journal_cache_of, file_of, heard, is_up, lookup_at, journal_message_of, journal_plan_at, policy_in, raised_from, journal_stamp_of, machine_touched_by}
-use Rattle.five_tuple.specs.Exports.{cover_of, header_of}
-use Rattle.policy_rules.specs.Exports.{word_of_row}
-use Rattle.switch_table.specs.Exports.{cache_all_touched, same_key}
+use Rattle.update_machine.specs.Exports.{Add, Body, CacheEntry, CacheRule, Change, Drop, Header, How, Is, Item, Net, Out, Redirect, Row, Rule, Setting, Stamp, Step, Whole, journal_boot_of, journal_cache_of, journal_version_file, heard, is_up, machine_lookup_at, journal_message_of, journal_plan_at, machine_policy_in, machine_cache_raised_from, journal_stamp_of, machine_touched_by}
+use Rattle.five_tuple.specs.Exports.{port_range_cover_of, header_of}
+use Rattle.policy_rules.specs.Exports.{word_of_policy_row}
+use Rattle.switch_table.specs.Exports.{cache_all_touched, same_cache_key}
 use Rattle.switch_table.specs.declared.search.Found.TheVariants.{Authority, Cached}
-use Rattle.ternary.specs.Exports.{WordValue, holds, meets}
+use Rattle.ternary.specs.Exports.{WordValue, holds, word_meets}
 use Rattle.update_machine.proofs.JournalExampleNetworks.{advert, all_dropped, all_to, answered, any_word, cached as apart, at, by_action, delivered, denied, leaving, left_by, link, on, one, out_or_drop, plan_p, rule, switch, tables_of, to, two_switches, web}
-use Rattle.partition.specs.Plan.{Hosted}
+use Rattle.partition.specs.Plan.{HostedPolicyPartition}
 
 -- a and b; the plan of the first policy is on b, that of the second on a
 abbrev moved : Setting
@@ -40,22 +40,22 @@ entry number version word = record {
 -- two versions of one word are beside each other; the same version once more changes nothing
 pub by_version_and_word : (journal_cache_of moved (cached 1 1 web ++ cached 2 2 web ++ cached 3 1 web)
     0).entries ≡ entry 1 1 web ∷ entry 2 2 web ∷ []
-unfolding journal_cache_of journal_stamp_of heard is_up journal_boot_of journal_message_of same_key
+unfolding journal_cache_of journal_stamp_of heard is_up journal_boot_of journal_message_of same_cache_key
 by_version_and_word = refl
 
 -- a stamp removes what is of a lower version, and no more of it is taken in
 pub below_the_stamp : (journal_cache_of moved
     (cached 1 1 web ++ cached 2 2 web ++ stamped 3 2 ++ cached 4 1 any_word) 0).entries
     ≡ entry 2 2 web ∷ []
-unfolding journal_cache_of machine_touched_by file_of policy_in meets journal_stamp_of heard is_up journal_boot_of journal_message_of same_key
+unfolding journal_cache_of machine_touched_by journal_version_file machine_policy_in word_meets journal_stamp_of heard is_up journal_boot_of journal_message_of same_cache_key
 below_the_stamp = refl
 
 -- an equal or a lower stamp, which comes late, doesn't rise and removes nothing
-pub no_rise : raised_from 2 2 (record { entries = entry 1 1 web ∷ []; capacity = 4 })
+pub no_rise : machine_cache_raised_from 2 2 (record { entries = entry 1 1 web ∷ []; capacity = 4 })
     ≡ record { entries = entry 1 1 web ∷ []; capacity = 4 }
 no_rise = refl
 
-pub a_rise : raised_from 1 2 (record { entries = entry 1 1 web ∷ []; capacity = 4 })
+pub a_rise : machine_cache_raised_from 1 2 (record { entries = entry 1 1 web ∷ []; capacity = 4 })
     ≡ record { entries = []; capacity = 4 }
 a_rise = refl
 
@@ -63,25 +63,25 @@ a_rise = refl
 pub second_expires : (journal_cache_of moved
     (cached 1 1 web ++ cached 2 1 any_word ++ Item.Expired 0 1 2 ∷ []) 0).entries
     ≡ entry 1 1 web ∷ []
-unfolding journal_cache_of journal_stamp_of heard is_up journal_boot_of journal_message_of same_key
+unfolding journal_cache_of journal_stamp_of heard is_up journal_boot_of journal_message_of same_cache_key
 second_expires = refl
 
 -- it has room for four
 pub first_goes : (journal_cache_of moved (cached 1 1 web ++ cached 2 1 any_word ++ cached 3 2 web
     ++ cached 4 2 any_word ++ cached 5 3 web) 0).entries
     ≡ entry 2 1 any_word ∷ entry 3 2 web ∷ entry 4 2 any_word ∷ entry 5 3 web ∷ []
-unfolding journal_cache_of journal_stamp_of heard is_up journal_boot_of journal_message_of same_key
+unfolding journal_cache_of journal_stamp_of heard is_up journal_boot_of journal_message_of same_cache_key
 first_goes = refl
 
 -- a crash empties it
 pub empty_after_crash :
     (journal_cache_of moved (cached 1 1 web ++ Item.Down 0 ∷ Item.Booted 0 2 ∷ []) 0).entries ≡ []
-unfolding journal_cache_of journal_stamp_of heard is_up journal_boot_of journal_message_of same_key
+unfolding journal_cache_of journal_stamp_of heard is_up journal_boot_of journal_message_of same_cache_key
 empty_after_crash = refl
 
 -- another switch's cache is its own
 pub empty_at_b : (journal_cache_of moved (cached 1 1 web) 1).entries ≡ []
-unfolding journal_cache_of journal_stamp_of heard is_up journal_boot_of journal_message_of same_key
+unfolding journal_cache_of journal_stamp_of heard is_up journal_boot_of journal_message_of same_cache_key
 empty_at_b = refl
 
 -- ---- a change: the second file adds `200,any,10.1.0.0/16,any,80,tcp,drop`
@@ -98,7 +98,7 @@ abbrev amended : Setting
 amended = record moved { files = Whole (all_to (Out 2) ∷ []) ∷ Change (Add web_row ∷ []) ∷ [] }
 
 pub touches_its_row : machine_touched_by amended (Item.Submitted 2 2 ∷ []) 2 ≡ web ∷ []
-unfolding machine_touched_by policy_in file_of cover_of word_of_row
+unfolding machine_touched_by machine_policy_in journal_version_file port_range_cover_of word_of_policy_row
 touches_its_row = refl
 
 -- what the stamp of its version leaves of these entries
@@ -108,44 +108,44 @@ left_of entries = (journal_cache_of amended (entries ++ Item.Submitted 2 2
 
 -- what meets the row goes, what doesn't goes over, and the earlier one of its word before it
 pub goes_over_alone : left_of (cached 1 1 web ++ cached 2 1 apart) ≡ entry 2 2 apart ∷ []
-unfolding journal_cache_of machine_touched_by policy_in file_of cover_of word_of_row meets journal_stamp_of heard is_up journal_boot_of journal_message_of same_key
+unfolding journal_cache_of machine_touched_by machine_policy_in journal_version_file port_range_cover_of word_of_policy_row word_meets journal_stamp_of heard is_up journal_boot_of journal_message_of same_cache_key
 goes_over_alone = refl
 
 pub stays_before_it : left_of (cached 1 1 apart ++ cached 2 2 apart ++ cached 3 2 web)
     ≡ entry 2 2 apart ∷ entry 3 2 web ∷ []
-unfolding journal_cache_of machine_touched_by policy_in file_of cover_of word_of_row meets journal_stamp_of heard is_up journal_boot_of journal_message_of same_key
+unfolding journal_cache_of machine_touched_by machine_policy_in journal_version_file port_range_cover_of word_of_policy_row word_meets journal_stamp_of heard is_up journal_boot_of journal_message_of same_cache_key
 stays_before_it = refl
 
 -- ---- what a says of a header
 
 -- a version that was submitted says nothing before its stamp
-pub by_the_stamp : lookup_at moved (Item.Submitted 2 2 ∷ []) 0 one ≡ Redirect 0 (1 ∷ [])
-unfolding lookup_at journal_plan_at journal_cache_of journal_stamp_of heard is_up journal_boot_of journal_message_of file_of policy_in holds
+pub by_the_stamp : machine_lookup_at moved (Item.Submitted 2 2 ∷ []) 0 one ≡ Redirect 0 (1 ∷ [])
+unfolding machine_lookup_at journal_plan_at journal_cache_of journal_stamp_of heard is_up journal_boot_of journal_message_of journal_version_file machine_policy_in holds
 by_the_stamp = refl
 
-pub by_the_next_stamp : lookup_at moved (Item.Submitted 2 2 ∷ stamped 1 2) 0 one ≡ Authority 0 0
-unfolding lookup_at journal_plan_at journal_cache_of machine_touched_by meets journal_stamp_of heard is_up journal_boot_of journal_message_of file_of policy_in holds
+pub by_the_next_stamp : machine_lookup_at moved (Item.Submitted 2 2 ∷ stamped 1 2) 0 one ≡ Authority 0 0
+unfolding machine_lookup_at journal_plan_at journal_cache_of machine_touched_by word_meets journal_stamp_of heard is_up journal_boot_of journal_message_of journal_version_file machine_policy_in holds
 by_the_next_stamp = refl
 
 -- nor do entries of another version than the stamp
 pub no_entry_of_the_stamp :
-    lookup_at moved (Item.Submitted 2 2 ∷ cached 1 2 any_word) 0 one ≡ Redirect 0 (1 ∷ [])
-unfolding lookup_at journal_plan_at journal_cache_of journal_stamp_of heard is_up journal_boot_of journal_message_of file_of policy_in holds same_key
+    machine_lookup_at moved (Item.Submitted 2 2 ∷ cached 1 2 any_word) 0 one ≡ Redirect 0 (1 ∷ [])
+unfolding machine_lookup_at journal_plan_at journal_cache_of journal_stamp_of heard is_up journal_boot_of journal_message_of journal_version_file machine_policy_in holds same_cache_key
 no_entry_of_the_stamp = refl
 
-pub entry_of_the_stamp : lookup_at moved (Item.Submitted 2 2 ∷ cached 1 2 any_word ++ stamped 2 2) 0
+pub entry_of_the_stamp : machine_lookup_at moved (Item.Submitted 2 2 ∷ cached 1 2 any_word ++ stamped 2 2) 0
     one ≡ Cached (entry 1 2 any_word)
-unfolding lookup_at journal_plan_at journal_cache_of machine_touched_by meets journal_stamp_of heard is_up journal_boot_of journal_message_of file_of policy_in holds same_key
+unfolding machine_lookup_at journal_plan_at journal_cache_of machine_touched_by word_meets journal_stamp_of heard is_up journal_boot_of journal_message_of journal_version_file machine_policy_in holds same_cache_key
 entry_of_the_stamp = refl
 
 -- of two entries that hold a header the first one, and none where none holds it
 pub first_entry_first :
-    lookup_at moved (cached 1 1 web ++ cached 2 1 any_word) 0 denied ≡ Cached (entry 1 1 web)
-unfolding lookup_at journal_plan_at journal_cache_of journal_stamp_of heard is_up journal_boot_of journal_message_of file_of policy_in holds same_key
+    machine_lookup_at moved (cached 1 1 web ++ cached 2 1 any_word) 0 denied ≡ Cached (entry 1 1 web)
+unfolding machine_lookup_at journal_plan_at journal_cache_of journal_stamp_of heard is_up journal_boot_of journal_message_of journal_version_file machine_policy_in holds same_cache_key
 first_entry_first = refl
 
-pub entry_without_it : lookup_at moved (cached 1 1 web) 0 one ≡ Redirect 0 (1 ∷ [])
-unfolding lookup_at journal_plan_at journal_cache_of journal_stamp_of heard is_up journal_boot_of journal_message_of file_of policy_in holds same_key
+pub entry_without_it : machine_lookup_at moved (cached 1 1 web) 0 one ≡ Redirect 0 (1 ∷ [])
+unfolding machine_lookup_at journal_plan_at journal_cache_of journal_stamp_of heard is_up journal_boot_of journal_message_of journal_version_file machine_policy_in holds same_cache_key
 entry_without_it = refl
 
 -- ---- a whole day of a small campus, computed: cache rules, a link that fails, an update
@@ -193,10 +193,10 @@ later_rules = to_web 1 792282834252930994268843021830 20282408399448217011795093
     9 (Some 200) (Out 3)
     ∷ rule any_word 10 None Drop ∷ []
 
-abbrev plan_1 : List Hosted
+abbrev plan_1 : List HostedPolicyPartition
 plan_1 = on (1 ∷ 2 ∷ []) (rule word_1 0 (Some 600) (Out 2) ∷ later_rules)
 
-abbrev plan_2 : List Hosted
+abbrev plan_2 : List HostedPolicyPartition
 plan_2 = on (1 ∷ 2 ∷ []) (rule word_1 0 (Some 600) Drop ∷ later_rules)
 
 abbrev campus_net : Net

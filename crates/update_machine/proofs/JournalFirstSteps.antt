@@ -1,12 +1,12 @@
 -- Of two lists of first steps of the same events, one begins the other.
 use Rattle.std.proofs.Common.{[], ◌++◌, ◌+◌, ◌∙◌, ◌∷◌, ◌≡◌, ◌⊎◌, List, None, Option, Some, ap, append-nil, append_assoc, arith, inl, inr, length, length-append, refl, subst, sym, ℕ}
 use Rattle.base.proofs.Exports.{same_Some}
-use Rattle.update_machine.specs.Exports.{Answers, JournalAnswersSoFar, AreAllMachineEventSteps, AreJournalFirstSteps, AreFirstMachineStepsOf, AreFirstMachineEventSteps, AreMachineSteps, AreMachineStepsOf, Drain, Event, Flush, Item, One, Setting, Step, StepOfRow, journal_after_steps, journal_next_delivery, journal_next_hop, piece}
+use Rattle.update_machine.specs.Exports.{Answers, JournalAnswersSoFar, AreAllMachineEventSteps, AreJournalFirstSteps, AreFirstMachineStepsOf, AreFirstMachineEventSteps, AreMachineSteps, AreMachineStepsOf, Drain, Event, Flush, Item, One, Setting, Step, MachineStepOfRow, journal_after_steps, journal_next_delivery, journal_next_hop, piece}
 
 -- ---- there is one answer to the events of a schedule
 
 -- two steps of the row, each of which is the next one
-pub same_next : (next : Option Step) (row : ℕ) (x y : StepOfRow) → x.row ≡ row → y.row ≡ row
+pub same_next : (next : Option Step) (row : ℕ) (x y : MachineStepOfRow) → x.row ≡ row → y.row ≡ row
     → next ≡ Some x.step → next ≡ Some y.step → x ≡ y
 same_next next row x y mine yours first second =
     ap (λ row. record { row = row; step = x.step }) (mine ∙ sym yours)
@@ -15,14 +15,14 @@ same_next next row x y mine yours first second =
 
 -- and what is true after the one is true after the other
 pub same_onward : (setting : Setting) (before : List Item) (Onward : List Item → Type 0)
-    (x y : StepOfRow) → x ≡ y → Onward (before ++ piece setting before y.row y.step)
+    (x y : MachineStepOfRow) → x ≡ y → Onward (before ++ piece setting before y.row y.step)
     → Onward (before ++ piece setting before x.row x.step)
 same_onward setting before Onward x y same =
     subst (λ z. Onward (before ++ piece setting before z.row z.step)) (sym same)
 
 -- a flush, or a drain, has one list of steps
 all_same : (setting : Setting) (next : List Item → Option Step) (row : ℕ) (before : List Item)
-    (one other : List StepOfRow) →
+    (one other : List MachineStepOfRow) →
     AreAllMachineEventSteps setting next row before one → AreAllMachineEventSteps setting next row before other → one ≡ other
 all_same setting next row before [] [] first second = refl
 all_same setting next row before [] (y ∷ other) first second =
@@ -36,7 +36,7 @@ all_same setting next row before (x ∷ one) (y ∷ other) first second =
     (same_onward setting before (λ js. AreAllMachineEventSteps setting next row js other) x y same second.2))
 
 pub event_same : (setting : Setting) (row : ℕ) (event : Event) (before : List Item)
-    (one other : List StepOfRow) → AreMachineStepsOf setting row event before one
+    (one other : List MachineStepOfRow) → AreMachineStepsOf setting row event before one
     → AreMachineStepsOf setting row event before other → one ≡ other
 event_same setting row (One step) before one other first second = first ∙ sym second
 event_same setting row Flush before one other first second = all_same setting journal_next_delivery row
@@ -45,7 +45,7 @@ event_same setting row Drain before one other first second = all_same setting jo
     one other first second
 
 pub one_list_of_steps : (setting : Setting) (row : ℕ) (events : List Event) (before : List Item)
-    (one other : List StepOfRow) →
+    (one other : List MachineStepOfRow) →
     AreMachineSteps setting row events before one → AreMachineSteps setting row events before other → one ≡ other
 one_list_of_steps setting row [] before one other first second = first ∙ sym second
 one_list_of_steps setting row (event ∷ events) before one other first second =
@@ -65,34 +65,34 @@ one_answer setting events one other first second = first.written ∙ ap (journal
 -- ---- first steps
 
 -- the second list is the first, and then these
-pub record Begins (xs ys : List StepOfRow) : Type 0 where
-  pub rest : List StepOfRow
+pub record Begins (xs ys : List MachineStepOfRow) : Type 0 where
+  pub rest : List MachineStepOfRow
   pub is : ys ≡ xs ++ rest
 
-pub begins_nil : (ys : List StepOfRow) → Begins [] ys
+pub begins_nil : (ys : List MachineStepOfRow) → Begins [] ys
 begins_nil ys = record { rest = ys; is = refl }
 
-begins_itself : (xs ys : List StepOfRow) → ys ≡ xs → Begins xs ys
+begins_itself : (xs ys : List MachineStepOfRow) → ys ≡ xs → Begins xs ys
 begins_itself xs ys same = record { rest = []; is = same ∙ sym (append-nil xs) }
 
-pub begins_cons : (x y : StepOfRow) (xs ys : List StepOfRow) → x ≡ y → Begins xs ys
+pub begins_cons : (x y : MachineStepOfRow) (xs ys : List MachineStepOfRow) → x ≡ y → Begins xs ys
     → Begins (x ∷ xs) (y ∷ ys)
 begins_cons x y xs ys same begins =
     record { rest = begins.rest; is = ap (λ z. z ∷ ys) (sym same) ∙ ap (λ zs. x ∷ zs) begins.is }
 
-begins_more : (xs ys zs : List StepOfRow) → Begins xs ys → Begins xs (ys ++ zs)
+begins_more : (xs ys zs : List MachineStepOfRow) → Begins xs ys → Begins xs (ys ++ zs)
 begins_more xs ys zs begins = record {
   rest = begins.rest ++ zs;
   is = cc (begins.is, append_assoc xs begins.rest zs);
 }
 
-begins_behind : (ws xs ys : List StepOfRow) → Begins xs ys → Begins (ws ++ xs) (ws ++ ys)
+begins_behind : (ws xs ys : List MachineStepOfRow) → Begins xs ys → Begins (ws ++ xs) (ws ++ ys)
 begins_behind ws xs ys begins = record {
   rest = begins.rest;
   is = cc (begins.is, append_assoc ws xs begins.rest);
 }
 
-begins_along : (xs ys us vs : List StepOfRow) → us ≡ xs → vs ≡ ys → Begins xs ys → Begins us vs
+begins_along : (xs ys us vs : List MachineStepOfRow) → us ≡ xs → vs ≡ ys → Begins xs ys → Begins us vs
 begins_along xs ys us vs first second begins = record {
   rest = begins.rest;
   is = second ∙ begins.is ∙ ap (λ zs. zs ++ begins.rest) (sym first);
@@ -100,7 +100,7 @@ begins_along xs ys us vs first second begins = record {
 
 -- first steps of a flush, or of a drain, begin all of its steps
 some_of_all : (setting : Setting) (next : List Item → Option Step) (row : ℕ) (before : List Item)
-    (one all : List StepOfRow) →
+    (one all : List MachineStepOfRow) →
     AreFirstMachineEventSteps setting next row before one → AreAllMachineEventSteps setting next row before all → Begins one all
 some_of_all setting next row before [] all first second = begins_nil all
 some_of_all setting next row before (x ∷ one) [] first second =
@@ -112,13 +112,13 @@ some_of_all setting next row before (x ∷ one) (y ∷ all) first second =
     (same_onward setting before (λ js. AreAllMachineEventSteps setting next row js all) x y same second.2))
 
 -- of two lists of its first steps, one begins the other
-either_cons : (x y : StepOfRow) (xs ys : List StepOfRow) → x ≡ y → Begins xs ys ⊎ Begins ys xs
+either_cons : (x y : MachineStepOfRow) (xs ys : List MachineStepOfRow) → x ≡ y → Begins xs ys ⊎ Begins ys xs
     → Begins (x ∷ xs) (y ∷ ys) ⊎ Begins (y ∷ ys) (x ∷ xs)
 either_cons x y xs ys same (inl begins) = inl (begins_cons x y xs ys same begins)
 either_cons x y xs ys same (inr begins) = inr (begins_cons y x ys xs (sym same) begins)
 
 some_either : (setting : Setting) (next : List Item → Option Step) (row : ℕ) (before : List Item)
-    (one other : List StepOfRow) → AreFirstMachineEventSteps setting next row before one
+    (one other : List MachineStepOfRow) → AreFirstMachineEventSteps setting next row before one
     → AreFirstMachineEventSteps setting next row before other → Begins one other ⊎ Begins other one
 some_either setting next row before [] other first second = inl (begins_nil other)
 some_either setting next row before (x ∷ one) [] first second = inr (begins_nil (x ∷ one))
@@ -128,19 +128,19 @@ some_either setting next row before (x ∷ one) (y ∷ other) first second =
     (some_either setting next row (before ++ piece setting before x.row x.step) one other first.2
     (same_onward setting before (λ js. AreFirstMachineEventSteps setting next row js other) x y same second.2))
 
-one_step : (step : StepOfRow) (one all : List StepOfRow) → (one ≡ []) ⊎ (one ≡ step ∷ [])
+one_step : (step : MachineStepOfRow) (one all : List MachineStepOfRow) → (one ≡ []) ⊎ (one ≡ step ∷ [])
     → all ≡ step ∷ [] → Begins one all
 one_step step one all (inl none) is = begins_along [] all one all none refl (begins_nil all)
 one_step step one all (inr whole) is = begins_itself one all (is ∙ sym whole)
 
-one_step_either : (step : StepOfRow) (one other : List StepOfRow) → (one ≡ []) ⊎ (one ≡ step ∷ [])
+one_step_either : (step : MachineStepOfRow) (one other : List MachineStepOfRow) → (one ≡ []) ⊎ (one ≡ step ∷ [])
     → (other ≡ []) ⊎ (other ≡ step ∷ []) → Begins one other ⊎ Begins other one
 one_step_either step one other first (inr whole) = inl (one_step step one other first whole)
 one_step_either step one other first (inl none) =
     inr (begins_along [] one other one none refl (begins_nil one))
 
 event_begins : (setting : Setting) (row : ℕ) (event : Event) (before : List Item)
-    (one all : List StepOfRow) → AreFirstMachineStepsOf setting row event before one
+    (one all : List MachineStepOfRow) → AreFirstMachineStepsOf setting row event before one
     → AreMachineStepsOf setting row event before all → Begins one all
 event_begins setting row (One step) before one all first second =
     one_step (record { row = row; step = step }) one all first second
@@ -150,7 +150,7 @@ event_begins setting row Drain before one all first second = some_of_all setting
     one all first second
 
 event_either : (setting : Setting) (row : ℕ) (event : Event) (before : List Item)
-    (one other : List StepOfRow) → AreFirstMachineStepsOf setting row event before one
+    (one other : List MachineStepOfRow) → AreFirstMachineStepsOf setting row event before one
     → AreFirstMachineStepsOf setting row event before other → Begins one other ⊎ Begins other one
 event_either setting row (One step) before one other first second =
     one_step_either (record { row = row; step = step }) one other first second
@@ -159,7 +159,7 @@ event_either setting row Flush before one other first second = some_either setti
 event_either setting row Drain before one other first second = some_either setting journal_next_hop row
     before one other first second
 
-either_behind : (ws vs xs ys one other : List StepOfRow) → ws ≡ vs → one ≡ ws ++ xs
+either_behind : (ws vs xs ys one other : List MachineStepOfRow) → ws ≡ vs → one ≡ ws ++ xs
     → other ≡ vs ++ ys → Begins xs ys ⊎ Begins ys xs → Begins one other ⊎ Begins other one
 either_behind ws vs xs ys one other same first second (inl begins) =
     inl (begins_along (ws ++ xs) (ws ++ ys) one other first
@@ -169,7 +169,7 @@ either_behind ws vs xs ys one other same first second (inr begins) =
     first (begins_behind ws ys xs begins))
 
 pub first_steps_either : (setting : Setting) (row : ℕ) (events : List Event) (before : List Item)
-    (one other : List StepOfRow) → AreJournalFirstSteps setting row events before one
+    (one other : List MachineStepOfRow) → AreJournalFirstSteps setting row events before one
     → AreJournalFirstSteps setting row events before other → Begins one other ⊎ Begins other one
 first_steps_either setting row [] before one other first second =
     inl (begins_itself one other (second ∙ sym first))
@@ -189,7 +189,7 @@ first_steps_either setting row (event ∷ events) before one other (inr first) (
 
 -- and first steps begin all steps
 pub first_begin_all : (setting : Setting) (row : ℕ) (events : List Event) (before : List Item)
-    (one all : List StepOfRow) → AreJournalFirstSteps setting row events before one
+    (one all : List MachineStepOfRow) → AreJournalFirstSteps setting row events before one
     → AreMachineSteps setting row events before all → Begins one all
 first_begin_all setting row [] before one all first whole =
     record { rest = []; is = whole ∙ ap (λ steps. steps ++ []) (sym first) }
@@ -203,11 +203,11 @@ first_begin_all setting row (event ∷ events) before one all (inr first) whole 
     (begins_behind first.0 first.1 whole.1 (first_begin_all setting (row + 1) events
     (journal_after_steps setting before first.0) first.1 whole.1 first.4 (rw mine at whole.4)))
 
-no_rest : (rest : List StepOfRow) → length rest ≡ 0 → rest ≡ []
+no_rest : (rest : List MachineStepOfRow) → length rest ≡ 0 → rest ≡ []
 no_rest [] none = refl
 no_rest (x ∷ rest) none = cc
 
-as_long : (xs ys : List StepOfRow) → length xs ≡ length ys → Begins xs ys → xs ≡ ys
+as_long : (xs ys : List MachineStepOfRow) → length xs ≡ length ys → Begins xs ys → xs ≡ ys
 as_long xs ys same begins = sym (begins.is ∙ ap (λ rest. xs ++ rest) (no_rest begins.rest
     (omega (arith, same, ap length begins.is ∙ length-append xs begins.rest))) ∙ append-nil xs)
 

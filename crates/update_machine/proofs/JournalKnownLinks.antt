@@ -1,18 +1,18 @@
 -- What a switch knows of the network's links, by the laws of adverts and routes.
 use Rattle.std.proofs.Common.{[], ◌&&◌, ◌++◌, ◌<◌, ◌==◌, ◌^◌, ◌||◌, ◌↔◌, ◌∙◌, ◌∷◌, ◌≡◌, ◌≢◌, ◌≤◌, ◌⊎◌, Bool, Contains, Err, IsFalse, IsTrue, List, None, Ok, Option, Result, Some, ap, arith, bit_or, false, filter, get_or, get_or-set_other, get_or-set_same, if◌then◌else◌, inl, inr, length, length-set, map, max, min, nat_lt, option_to_list, refl, rules, set, set-set, slice_index, slice_set, subst, sym, true, unwrap_or, ℕ}
 use Rattle.base.proofs.Exports.{AllByRecursion, any_filtered, any_weaker, cases_eq, cases_lt, false_from_ne_true, get_or-map-range_with_len, has-or, has-pow_other, has_mask, list_any, map-set, nat_tests, option_map_or, or-false, or_left, or_right, set-get_or, set_past}
-use Rattle.failover.specs.Exports.{AreAdvertsByOrigin, IsIsolated, IsNewestAdvert, IsPath, IsReachable, IsRoute, LinksLeadTo, adverts_after_hearing, after_hearing_all, first_advert, first_adverts, first_of, has_route_link, held_advert, is_route_link, known_links, route_links_at, neighbours_by_adverts, neighbours_named_by_advert, no_adverts, no_links, with_link}
+use Rattle.failover.specs.Exports.{AreAdvertsByOrigin, IsFailoverTargetIsolated, IsNewestAdvert, IsFailoverPath, IsFailoverReachable, IsRoute, FailoverLinksLeadTo, adverts_after_hearing, adverts_after_hearing_all, first_advert, first_adverts, first_failover_advert_below, link_set_has, held_advert, is_known_route_link, failover_known_links, route_links_at, neighbours_by_adverts, neighbours_named_by_advert, no_adverts, no_failover_links, with_failover_link}
 use Rattle.failover.proofs.FailoverHeldAdverts.{by_origin-first, by_origin-hearing, by_origin-none, held-first}
-use Rattle.update_machine.specs.Exports.{Advert, Exit, Header, IsSettingPlanOf, Item, JournalKnownLinkLaws, LinkRow, JournalMessageStarts, Out, JournalPacketStarts, Row, Setting, MachineStartLaws, acked_stamp, journal_advert_known, journal_adverts_begun, journal_adverts_heard, journal_adverts_known, journal_adverts_of_others, journal_boot_of, journal_cache_of, journal_can_use, item_changes_found, journal_controller_heard, journal_current_mark, journal_decision_of, machine_end_items, file_of, finds_down, folded_journal_from, journal_found_down, journal_handled_count, has_acked, journal_packet_header, heard, holds_version, setting_hosted_or_none, journal_ingress_of, is_cut_off_in_journal, is_deliverable, is_forgotten_in_journal, is_first_boot_in_journal, is_link_up_in_journal, is_member, is_over, is_up, is_usable_in_journal, journal_known_boot, journal_leaving_item, machine_leg_items, journal_leg_of, journal_links_known, lookup_at, journal_message_of, near, journal_next_message, journal_next_packet, journal_next_switch, next_travelling, next_waiting, no_switch, journal_opened_at, own_advert, journal_own_advert_sent, journal_own_seq, owner, journal_plan_at, policy_in, journal_present_step, journal_retired_mark, journal_route_from, journal_route_in, route_place, sendings, serves, journal_stamp_of, standing, journal_steps_in, machine_stuck_on_leg_item, setting_switches_of, journal_tables_at, machine_takes_route, travels, usable_links, journal_version_count, was_delivered}
-use Rattle.net_file.specs.Exports.{are_linked_in_net, joins, links_of, net_port_owner}
-use Rattle.switch_table.specs.Exports.{table_lookup}
+use Rattle.update_machine.specs.Exports.{Advert, Exit, Header, IsMachineSettingPlanOf, Item, JournalKnownLinkLaws, LinkRow, JournalMessageStarts, Out, JournalPacketStarts, Row, Setting, MachineStartLaws, acked_stamp, journal_advert_known, journal_adverts_begun, journal_adverts_heard, journal_adverts_known, journal_adverts_of_others, journal_boot_of, journal_cache_of, journal_can_use, machine_item_changes_found, journal_controller_heard, journal_current_mark, journal_decision_of, machine_end_items, journal_version_file, machine_item_finds_down, folded_journal_from, journal_found_down, journal_handled_count, has_acked, journal_packet_header, heard, holds_version, machine_hosted_or_none, journal_ingress_of, is_cut_off_in_journal, is_deliverable, is_forgotten_in_journal, is_first_boot_in_journal, is_link_up_in_journal, is_member, is_over, is_up, is_usable_in_journal, journal_known_boot, journal_leaving_item, machine_leg_items, journal_leg_of, journal_links_known, machine_lookup_at, journal_message_of, near, journal_next_message, journal_next_packet, journal_next_switch, next_travelling, next_waiting, machine_no_switch, journal_opened_at, own_advert, journal_own_advert_sent, journal_own_seq, owner, journal_plan_at, machine_policy_in, journal_present_step, journal_retired_mark, journal_route_from, journal_route_in, journal_route_place, machine_sendings, serves, journal_stamp_of, journal_standing_of, journal_steps_in, machine_stuck_on_leg_item, machine_switches_of, journal_tables_at, machine_takes_route, travels_in_journal, machine_usable_links, journal_version_count, was_delivered_in_journal}
+use Rattle.net_file.specs.Exports.{are_linked_in_net, net_link_joins, links_of, net_port_owner}
+use Rattle.switch_table.specs.Exports.{switch_table_lookup}
 use Rattle.failover.proofs.FailoverNewestAdvert.{held_newest}
 use Rattle.failover.proofs.FailoverKnownLinks.{has_known, isolated_tells}
 use Rattle.failover.proofs.RouteSearch.{known_route_is_route}
 use Rattle.base.specs.Exports.{has, switches}
 use Rattle.failover.proofs.RouteLinkBalls.{or_cases}
-use Rattle.failover.proofs.FailoverLinkSets.{has_route_link-none}
-use Rattle.partition.specs.Plan.{Hosted}
+use Rattle.failover.proofs.FailoverLinkSets.{link_set_has-none}
+use Rattle.partition.specs.Plan.{HostedPolicyPartition}
 use Rattle.policy_rules.specs.Exports.{NoPolicyPlan}
 
 -- ---- what a journal without items says
@@ -47,17 +47,17 @@ versions_start s v = by_test (v == 1) where
   by_test false = refl
 
 packet_starts : (i : ℕ) → JournalPacketStarts i
-unfolding journal_packet_header journal_ingress_of standing travels journal_decision_of journal_leg_of journal_route_in route_place journal_next_switch
+unfolding journal_packet_header journal_ingress_of journal_standing_of travels_in_journal journal_decision_of journal_leg_of journal_route_in journal_route_place journal_next_switch
     journal_found_down
 packet_starts i = search rules
 
 message_starts : (n : ℕ) → JournalMessageStarts n
-unfolding journal_message_of was_delivered is_forgotten_in_journal is_deliverable
+unfolding journal_message_of was_delivered_in_journal is_forgotten_in_journal is_deliverable
 message_starts n = search rules
 
 -- the own advert is the one that the switch began with
 own_first : (setting : Setting) (s : ℕ) → s < length setting.net.switches
-    → first_of (map (links_of setting.net.links) (setting_switches_of setting))
+    → first_failover_advert_below (map (links_of setting.net.links) (machine_switches_of setting))
     (length setting.net.switches) s ≡ Some (first_advert s (links_of setting.net.links s))
 own_first setting s there =
     let below : nat_lt s (length setting.net.switches) ≡ true = grind (arith, nat_tests) in
@@ -67,24 +67,24 @@ own_first setting s there =
 
 adverts_start : (setting : Setting) (s : ℕ) → s < length setting.net.switches
     → length setting.net.switches ≤ 64 → journal_adverts_known setting [] s ≡ first_adverts
-    (map (links_of setting.net.links) (setting_switches_of setting)) (length setting.net.switches)
+    (map (links_of setting.net.links) (machine_switches_of setting)) (length setting.net.switches)
 unfolding journal_adverts_known heard is_up journal_boot_of
 adverts_start setting s there few =
-    let near = map (links_of setting.net.links) (setting_switches_of setting) in
+    let near = map (links_of setting.net.links) (machine_switches_of setting) in
     let count : ℕ = length setting.net.switches in
     rw (advert_start setting s) (ap (slice_set (first_adverts near count) s)
     (sym (held-first near count s (omega (arith, few, there)) ∙ own_first setting s there))
     ∙ set-get_or (first_adverts near count) s None)
 
-lookup_start : (setting : Setting) (s : ℕ) (header : Header) → lookup_at setting [] s header
-    ≡ table_lookup (journal_tables_at setting [] 1 s) header
-unfolding lookup_at journal_cache_of journal_stamp_of heard is_up journal_boot_of
+lookup_start : (setting : Setting) (s : ℕ) (header : Header) → machine_lookup_at setting [] s header
+    ≡ switch_table_lookup (journal_tables_at setting [] 1 s) header
+unfolding machine_lookup_at journal_cache_of journal_stamp_of heard is_up journal_boot_of
 lookup_start setting s header = refl
 
 pub start_laws : MachineStartLaws
-unfolding journal_boot_of is_up serves heard journal_stamp_of journal_version_count file_of journal_known_boot is_over is_member
+unfolding journal_boot_of is_up serves heard journal_stamp_of journal_version_count journal_version_file journal_known_boot is_over is_member
     journal_opened_at journal_controller_heard acked_stamp journal_current_mark journal_retired_mark is_link_up_in_journal journal_cache_of
-    journal_handled_count journal_steps_in journal_next_packet next_travelling journal_next_message next_waiting sendings
+    journal_handled_count journal_steps_in journal_next_packet next_travelling journal_next_message next_waiting machine_sendings
     journal_present_step
 start_laws = search (
   rules,
@@ -105,13 +105,13 @@ begun_by_origin : (setting : Setting) (journal : List Item) (s : ℕ)
     → AreAdvertsByOrigin (journal_adverts_begun setting journal s)
 begun_by_origin setting journal s = by_test (is_first_boot_in_journal journal s) where
   by_test : (b : Bool) → AreAdvertsByOrigin (if b then first_adverts (map (links_of setting.net.links)
-      (setting_switches_of setting)) (length setting.net.switches) else no_adverts)
-  by_test true = by_origin-first (map (links_of setting.net.links) (setting_switches_of setting))
+      (machine_switches_of setting)) (length setting.net.switches) else no_adverts)
+  by_test true = by_origin-first (map (links_of setting.net.links) (machine_switches_of setting))
       (length setting.net.switches)
   by_test false = by_origin-none
 
 all_by_origin : (adverts : List (Option Advert)) (heard : List Advert) → AreAdvertsByOrigin adverts
-    → AreAdvertsByOrigin (after_hearing_all adverts heard)
+    → AreAdvertsByOrigin (adverts_after_hearing_all adverts heard)
 all_by_origin adverts [] sound = sound
 all_by_origin adverts (advert ∷ heard) sound = all_by_origin (adverts_after_hearing adverts advert) heard
     (by_origin-hearing adverts advert sound)
@@ -149,8 +149,8 @@ own_known setting journal s small = get_or-set_same (journal_adverts_of_others s
 
 links_are : (setting : Setting) (journal : List Item) (s : ℕ) (down : List ℕ)
     → journal_links_known setting journal s down
-    ≡ known_links (journal_adverts_known setting journal s) s (near setting journal s) down
-unfolding journal_adverts_known known_links neighbours_by_adverts
+    ≡ failover_known_links (journal_adverts_known setting journal s) s (near setting journal s) down
+unfolding journal_adverts_known failover_known_links neighbours_by_adverts
 links_are setting journal s down =
     let others : List (Option Advert) = journal_adverts_of_others setting journal s in
     let own : Option Advert = journal_own_advert_sent (own_advert setting journal s) in
@@ -160,7 +160,7 @@ links_are setting journal s down =
 
 pub has_known_link : (setting : Setting) (journal : List Item) (s : ℕ) (down : List ℕ)
     (one other : ℕ) → one < 64 → other < 64
-    → has (slice_index (journal_links_known setting journal s down) one) other ≡ is_route_link
+    → has (slice_index (journal_links_known setting journal s down) one) other ≡ is_known_route_link
     (neighbours_by_adverts (journal_adverts_known setting journal s) s (near setting journal s)) down one other
 has_known_link setting journal s down one other one_small other_small =
     ap (λ links. has (slice_index links one) other) (links_are setting journal s down)
@@ -175,7 +175,7 @@ route_known setting journal s targets down = rw (links_are setting journal s dow
     (known_route_is_route (journal_adverts_known setting journal s) s targets (near setting journal s) down)
 
 none_reached : (links : List ℕ) (from : ℕ) (targets : List ℕ) → IsRoute links from targets None
-    → AllByRecursion (λ target. ¬ IsReachable links from target) targets
+    → AllByRecursion (λ target. ¬ IsFailoverReachable links from target) targets
 unfolding IsRoute
 none_reached links from [] is = tt
 none_reached links from (target ∷ targets) (inl some) = absurd some
@@ -185,13 +185,13 @@ none_reached links from (target ∷ targets) (inr rest) =
 -- where it has no route, no path leads to any target
 pub unreached : (setting : Setting) (journal : List Item) (s : ℕ) (targets down : List ℕ)
     → journal_route_from setting journal s targets down ≡ None
-    → AllByRecursion (λ target. ¬ IsReachable (journal_links_known setting journal s down) s target) targets
+    → AllByRecursion (λ target. ¬ IsFailoverReachable (journal_links_known setting journal s down) s target) targets
 unreached setting journal s targets down none = none_reached (journal_links_known setting journal s down) s
     targets (rw none at (route_known setting journal s targets down))
 
 cut_off_known : (setting : Setting) (journal : List Item) (s target : ℕ) (down : List ℕ)
     → IsTrue (is_cut_off_in_journal setting journal s down target)
-    ↔ IsIsolated (journal_links_known setting journal s down) s target
+    ↔ IsFailoverTargetIsolated (journal_links_known setting journal s down) s target
 unfolding is_cut_off_in_journal
 cut_off_known setting journal s target down = rw (links_are setting journal s down)
     (isolated_tells (journal_adverts_known setting journal s) s target (near setting journal s) down
@@ -201,23 +201,23 @@ cut_off_known setting journal s target down = rw (links_are setting journal s do
 
 -- each path ends at a switch
 ends_below : (links : List ℕ) (at target : ℕ) (path : List ℕ) → at < 64 → 64 ≤ target
-    → LinksLeadTo links target at path → ⊥
+    → FailoverLinksLeadTo links target at path → ⊥
 ends_below links at target [] here past leads = omega (arith, leads, here, past)
 ends_below links at target (next ∷ path) here past leads =
     ends_below links next target path leads.0 past leads.2
 
 no_path : (links : List ℕ) (from target : ℕ) (path : List ℕ) → 64 ≤ target
-    → IsPath links from target path → ⊥
-unfolding IsPath
+    → IsFailoverPath links from target path → ⊥
+unfolding IsFailoverPath
 no_path links from target [] past path = path
 no_path links from target (first ∷ path) past is = ends_below links first target path is.1 past is.2
 
 no_route : (links : List ℕ) (from : ℕ) (route : Option (List ℕ))
-    → IsRoute links from (no_switch ∷ []) route → route ≡ None
+    → IsRoute links from (machine_no_switch ∷ []) route → route ≡ None
 unfolding IsRoute
 no_route links from None is = refl
 no_route links from (Some path) (inl is) =
-    absurd (no_path links from no_switch path (omega arith) is.path)
+    absurd (no_path links from machine_no_switch path (omega arith) is.path)
 no_route links from (Some path) (inr is) = is.1
 
 portless_stuck : (setting : Setting) (journal : List Item) (i s port : ℕ) → s < 64
@@ -226,11 +226,11 @@ portless_stuck : (setting : Setting) (journal : List Item) (i s port : ℕ) → 
 unfolding machine_end_items machine_leg_items
 portless_stuck setting journal i s port small none =
     let elsewhere : (owner setting port == s) ≡ false =
-    ap (λ o. unwrap_or o no_switch == s) none ∙ (grind (arith, nat_tests)) in
+    ap (λ o. unwrap_or o machine_no_switch == s) none ∙ (grind (arith, nat_tests)) in
     let stuck =
-    ap (λ o. journal_route_from setting journal s (unwrap_or o no_switch ∷ []) (journal_found_down journal i)) none
+    ap (λ o. journal_route_from setting journal s (unwrap_or o machine_no_switch ∷ []) (journal_found_down journal i)) none
     ∙ no_route (journal_links_known setting journal s (journal_found_down journal i)) s _
-    (route_known setting journal s (no_switch ∷ []) (journal_found_down journal i)) in
+    (route_known setting journal s (machine_no_switch ∷ []) (journal_found_down journal i)) in
     ap (λ b. elim b [
       | true ↦ journal_leaving_item journal i port ∷ []
       | false ↦ machine_leg_items setting journal i s (Exit port)
@@ -253,14 +253,14 @@ pub near_usable : (setting : Setting) (journal : List Item) (one two : ℕ) → 
     → has (near setting journal one) two ≡ journal_can_use setting journal one two
 unfolding near
 near_usable setting journal one two small =
-    has_mask (are_linked_in_net (usable_links setting journal) one) two small
-    ∙ any_filtered (joins one two) (is_usable_in_journal journal) setting.net.links
+    has_mask (are_linked_in_net (machine_usable_links setting journal) one) two small
+    ∙ any_filtered (net_link_joins one two) (is_usable_in_journal journal) setting.net.links
 
 -- a usable link is of the network
 pub usable_linked : (setting : Setting) (journal : List Item) (one two : ℕ)
     → IsTrue (journal_can_use setting journal one two) → IsTrue (are_linked_in_net setting.net.links one two)
 usable_linked setting journal one two is =
-    any_weaker (joins one two) (is_usable_in_journal journal) setting.net.links is
+    any_weaker (net_link_joins one two) (is_usable_in_journal journal) setting.net.links is
 
 -- ---- links that packets found down
 
@@ -292,9 +292,9 @@ row_gained links low high k x is = elim (cases_lt low (length links)) [
   ]
 ]
 
-link_gained : (links : List ℕ) (one two x y : ℕ) → IsTrue (has_route_link (with_link links one two) x y)
-    → IsTrue (has_route_link links x y) ⊎ (((one == x && two == y) || (one == y && two == x)) ≡ true)
-unfolding has_route_link with_link
+link_gained : (links : List ℕ) (one two x y : ℕ) → IsTrue (link_set_has (with_failover_link links one two) x y)
+    → IsTrue (link_set_has links x y) ⊎ (((one == x && two == y) || (one == y && two == x)) ≡ true)
+unfolding link_set_has with_failover_link
 link_gained links one two x y is =
     elim (row_gained links (min one two) (max one two) (min x y) (max x y) is) [
       | inl old ↦ inl old
@@ -303,65 +303,65 @@ link_gained links one two x y is =
 
 -- each link that items add to a set was found down by one of them
 found_by : (i x y : ℕ) (before : List Item) (links : List ℕ) (items : List Item)
-    → IsTrue (has_route_link (folded_journal_from (item_changes_found i) before links items) x y)
-    → (has_route_link links x y || list_any (finds_down i x y) items) ≡ true
+    → IsTrue (link_set_has (folded_journal_from (machine_item_changes_found i) before links items) x y)
+    → (link_set_has links x y || list_any (machine_item_finds_down i x y) items) ≡ true
 found_by i x y before links [] is = or_left _ _ is
 found_by i x y before links (Item.FoundDown packet one two ∷ items) is = by_packet (packet == i)
-    refl (found_by i x y (before ++ Item.FoundDown packet one two ∷ []) (item_changes_found i before
+    refl (found_by i x y (before ++ Item.FoundDown packet one two ∷ []) (machine_item_changes_found i before
     links (Item.FoundDown packet one two)) items is)
   where
     by_packet : (b : Bool) → (packet == i) ≡ b
-        → (has_route_link (item_changes_found i before links (Item.FoundDown packet one two)) x y
-        || list_any (finds_down i x y) items) ≡ true → (has_route_link links x y
-        || list_any (finds_down i x y) (Item.FoundDown packet one two ∷ items)) ≡ true
+        → (link_set_has (machine_item_changes_found i before links (Item.FoundDown packet one two)) x y
+        || list_any (machine_item_finds_down i x y) items) ≡ true → (link_set_has links x y
+        || list_any (machine_item_finds_down i x y) (Item.FoundDown packet one two ∷ items)) ≡ true
     by_packet false e rest = rw e (rw e at rest)
     by_packet true e rest = elim (or_cases _ _ (rw e at rest)) [
       | inl there ↦ elim (link_gained links one two x y there) [
         | inl old ↦ or_left _ _ old
-        | inr new ↦ or_right (has_route_link links x y) _ (rw (e, new) refl)
+        | inr new ↦ or_right (link_set_has links x y) _ (rw (e, new) refl)
       ]
-      | inr later ↦ or_right (has_route_link links x y) _
-          (or_right (finds_down i x y (Item.FoundDown packet one two)) _ later)
+      | inr later ↦ or_right (link_set_has links x y) _
+          (or_right (machine_item_finds_down i x y (Item.FoundDown packet one two)) _ later)
     ]
 found_by i x y before links (next ∷ items) is = found_by i x y (before ++ next ∷ []) links items is
 
 -- a link of the set was found down
 pub link_found : (journal : List Item) (i one two : ℕ)
-    → IsTrue (has_route_link (journal_found_down journal i) one two)
-    → IsTrue (list_any (finds_down i one two) journal)
+    → IsTrue (link_set_has (journal_found_down journal i) one two)
+    → IsTrue (list_any (machine_item_finds_down i one two) journal)
 unfolding journal_found_down
 link_found journal i one two is =
-    cc (has_route_link-none one two, found_by i one two [] no_links journal is)
+    cc (link_set_has-none one two, found_by i one two [] no_failover_links journal is)
 
 -- so what wasn't found down isn't in the set
 pub link_not_found : (journal : List Item) (i one two : ℕ)
-    → IsFalse (list_any (finds_down i one two) journal)
-    → IsFalse (has_route_link (journal_found_down journal i) one two)
-link_not_found journal i one two none = false_from_ne_true (has_route_link (journal_found_down journal i) one two)
+    → IsFalse (list_any (machine_item_finds_down i one two) journal)
+    → IsFalse (link_set_has (journal_found_down journal i) one two)
+link_not_found journal i one two none = false_from_ne_true (link_set_has (journal_found_down journal i) one two)
     (λ is. let there = link_found journal i one two is in cc)
 
 -- ---- plans of versions
 
 -- a plan that has a partition is that of its version's policy
-pub plan_is : (setting : Setting) (journal : List Item) (version : ℕ) (hosted : Hosted)
+pub plan_is : (setting : Setting) (journal : List Item) (version : ℕ) (hosted : HostedPolicyPartition)
     → Contains (journal_plan_at setting journal version) hosted
-    → IsSettingPlanOf setting journal version (journal_plan_at setting journal version)
+    → IsMachineSettingPlanOf setting journal version (journal_plan_at setting journal version)
 unfolding journal_plan_at
 plan_is setting journal version hosted there =
-    by_policy (policy_in setting journal version) refl there
+    by_policy (machine_policy_in setting journal version) refl there
   where
-    plan_by : Option (List Row) → List Hosted
-    plan_by policy = option_map_or (λ rows. setting_hosted_or_none (setting.plan rows)) policy []
+    plan_by : Option (List Row) → List HostedPolicyPartition
+    plan_by policy = option_map_or (λ rows. machine_hosted_or_none (setting.plan rows)) policy []
 
-    by_plan : (rows : List Row) (plan : Result (List Hosted) NoPolicyPlan)
-        → policy_in setting journal version ≡ Some rows → setting.plan rows ≡ plan
-        → Contains (setting_hosted_or_none plan) hosted
-        → IsSettingPlanOf setting journal version (setting_hosted_or_none plan)
+    by_plan : (rows : List Row) (plan : Result (List HostedPolicyPartition) NoPolicyPlan)
+        → machine_policy_in setting journal version ≡ Some rows → setting.plan rows ≡ plan
+        → Contains (machine_hosted_or_none plan) hosted
+        → IsMachineSettingPlanOf setting journal version (machine_hosted_or_none plan)
     by_plan rows (Err why) policy is there = absurd (omega (arith, there.1))
     by_plan rows (Ok plan) policy is there = (rows, policy, is)
 
-    by_policy : (policy : Option (List Row)) → policy_in setting journal version ≡ policy
+    by_policy : (policy : Option (List Row)) → machine_policy_in setting journal version ≡ policy
         → Contains (plan_by policy) hosted
-        → IsSettingPlanOf setting journal version (plan_by policy)
+        → IsMachineSettingPlanOf setting journal version (plan_by policy)
     by_policy None is there = absurd (omega (arith, there.1))
     by_policy (Some rows) is there = by_plan rows (setting.plan rows) is refl there

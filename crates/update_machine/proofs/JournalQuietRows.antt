@@ -1,7 +1,7 @@
 -- Quiet networks and others, computed.
 use Rattle.std.proofs.Common.{[], ◌++◌, ◌<◌, ◌||◌, ◌∙◌, ◌∷◌, ◌≡◌, ◌≤◌, ◌⊎◌, All, Bool, IsFalse, IsTrue, List, Some, arith, false, inl, inr, map, not, refl, suc, sym, true, true≢false, zero, ℕ}
 use Rattle.base.proofs.Exports.{All-from_recursion, All-weaker, AllByRecursion, list_any}
-use Rattle.update_machine.specs.Exports.{AreMachineMessagesReceived, AreMachineMarksSettled, Body, Drop, How, IsQuietMachineJournal, Item, MachineCurrentMayRise, Message, Step, Tables, acked_stamp, journal_boot_of, journal_can_use, journal_claim_of, journal_controller_heard, journal_current_mark, finds_down, has_acked, is_joining, is_link_up_in_journal, is_member, is_over, is_up, is_waited_for, journal_known_boot, journal_knows_link, journal_message_of, journal_next_current, journal_next_retired, journal_opened_at, journal_retired_mark, serves, setting_switches_of, journal_version_count, was_delivered}
+use Rattle.update_machine.specs.Exports.{AreMachineMessagesReceived, AreMachineMarksSettled, Body, Drop, How, IsQuietMachineJournal, Item, MachineCurrentMayRise, Message, Step, Tables, acked_stamp, journal_boot_of, journal_can_use, journal_claim_of, journal_controller_heard, journal_current_mark, machine_item_finds_down, has_acked, is_joining, is_link_up_in_journal, is_member, is_over, is_up, is_waited_for_in_journal, journal_known_boot, journal_knows_link, journal_message_of, journal_next_current, journal_next_retired, journal_opened_at, journal_retired_mark, serves, machine_switches_of, journal_version_count, was_delivered_in_journal}
 use Rattle.update_machine.proofs.JournalExampleNetworks.{advert, answered, any_word, at, delivered, left_by, one, open_net, plan_q, ring, round, tables_of, to, to_controller}
 use Rattle.switch_table.specs.Exports.{cache_all_touched}
 
@@ -40,8 +40,8 @@ unfolding is_link_up_in_journal serves
 usable_rows = refl
 
 -- the packet found two links down, whichever end is named first
-pub found_rows : list_any (finds_down 1 1 3) round ∷ list_any (finds_down 1 3 1) round
-    ∷ list_any (finds_down 1 2 3) round ∷ list_any (finds_down 2 1 3) round ∷ []
+pub found_rows : list_any (machine_item_finds_down 1 1 3) round ∷ list_any (machine_item_finds_down 1 3 1) round
+    ∷ list_any (machine_item_finds_down 1 2 3) round ∷ list_any (machine_item_finds_down 2 1 3) round ∷ []
     ≡ true ∷ true ∷ false ∷ false ∷ []
 found_rows = refl
 
@@ -49,13 +49,13 @@ found_rows = refl
 
 -- no switch is joining, so none that is acknowledged current
 none_joins : (journal : List Item)
-    → AllByRecursion (λ s. is_joining journal s ≡ false) (setting_switches_of open_net)
+    → AllByRecursion (λ s. is_joining journal s ≡ false) (machine_switches_of open_net)
     → All (λ s. IsTrue (is_joining journal s)
-    → IsFalse (has_acked journal s (journal_current_mark journal))) (setting_switches_of open_net)
+    → IsFalse (has_acked journal s (journal_current_mark journal))) (machine_switches_of open_net)
 none_joins journal none = All-weaker (λ s. is_joining journal s ≡ false)
     (λ s. IsTrue (is_joining journal s) → IsFalse (has_acked journal s (journal_current_mark journal)))
-    (λ s not_joining joins. absurd (true≢false (sym joins ∙ not_joining))) (setting_switches_of open_net)
-    (All-from_recursion (λ s. is_joining journal s ≡ false) (setting_switches_of open_net) none)
+    (λ s not_joining joins. absurd (true≢false (sym joins ∙ not_joining))) (machine_switches_of open_net)
+    (All-from_recursion (λ s. is_joining journal s ≡ false) (machine_switches_of open_net) none)
 
 only_two : (v : ℕ) → 1 < v → v ≤ 2 → v ≡ 2
 only_two v above below = omega (arith, above, below)
@@ -154,11 +154,11 @@ update_rows = refl
 -- ---- quiet rows
 
 by_parts : (journal : List Item)
-    → AllByRecursion (λ s. IsTrue (is_up journal s || not (is_waited_for journal s)))
-    (setting_switches_of open_net) → AreMachineMessagesReceived open_net journal journal → IsQuietMachineJournal open_net journal
+    → AllByRecursion (λ s. IsTrue (is_up journal s || not (is_waited_for_in_journal journal s)))
+    (machine_switches_of open_net) → AreMachineMessagesReceived open_net journal journal → IsQuietMachineJournal open_net journal
 by_parts journal switches messages = record {
-  switches = All-from_recursion (λ s. IsTrue (is_up journal s || not (is_waited_for journal s)))
-      (setting_switches_of open_net) switches;
+  switches = All-from_recursion (λ s. IsTrue (is_up journal s || not (is_waited_for_in_journal journal s)))
+      (machine_switches_of open_net) switches;
   messages = messages;
 }
 
@@ -182,17 +182,17 @@ unmet delivered (inr none) lacks = absurd none
 -- ---- switches
 
 pub quiet_at_first : IsQuietMachineJournal open_net []
-unfolding was_delivered is_up journal_boot_of journal_current_mark
+unfolding was_delivered_in_journal is_up journal_boot_of journal_current_mark
 quiet_at_first = by_parts _ (refl, (refl, tt)) tt
 
 -- a is down, and waited for until it is confirmed
 pub waits_for_a : IsQuietMachineJournal open_net (Item.Row 1 (Step.Crash 0) ∷ Item.Down 0 ∷ []) → ⊥
-unfolding was_delivered is_up journal_boot_of journal_current_mark
+unfolding was_delivered_in_journal is_up journal_boot_of journal_current_mark
 waits_for_a quiet = true≢false (sym (quiet.switches 0 0 (omega arith)))
 
 pub quiet_without_a : IsQuietMachineJournal open_net
     (Item.Row 1 (Step.Crash 0) ∷ Item.Down 0 ∷ Item.Row 2 (Step.Confirm 0) ∷ Item.OverNow 0 ∷ [])
-unfolding was_delivered is_up journal_boot_of journal_current_mark
+unfolding was_delivered_in_journal is_up journal_boot_of journal_current_mark
 quiet_without_a = by_parts _ (refl, (refl, tt)) tt
 
 -- ---- messages
@@ -201,7 +201,7 @@ quiet_without_a = by_parts _ (refl, (refl, tt)) tt
 pub update_waits : IsQuietMachineJournal open_net (Item.Row 1 (Step.Update 2) ∷ Item.Submitted 2 2
     ∷ Item.Sent 1 (to 0 (Body.Install 1 (tables_of plan_q 2 0)))
     ∷ Item.Sent 2 (to 1 (Body.Install 1 (tables_of plan_q 2 1))) ∷ []) → ⊥
-unfolding was_delivered is_up journal_boot_of journal_current_mark
+unfolding was_delivered_in_journal is_up journal_boot_of journal_current_mark
 update_waits quiet = elim (quiet.messages.0 0 (omega arith) refl) [
   | inl delivered ↦ true≢false (sym delivered)
   | inr replaced ↦ elim replaced [ inl other ↦ true≢false (sym other.1) | inr none ↦ absurd none ]
@@ -209,7 +209,7 @@ update_waits quiet = elim (quiet.messages.0 0 (omega arith) refl) [
 
 -- all but a cache rule was, which doesn't matter
 pub quiet_once_updated : IsQuietMachineJournal open_net updated
-unfolding was_delivered is_up journal_boot_of journal_current_mark
+unfolding was_delivered_in_journal is_up journal_boot_of journal_current_mark
 quiet_once_updated = by_parts _ (refl, (refl, tt)) (
   λ s there m. inl refl,
   (
@@ -246,7 +246,7 @@ restarted = Item.Row 1 (Step.Resend 0) ∷ Item.Sent 1 (to 0 (advert 1 1 1 1))
     ∷ Item.Sent 5 (to_controller (Body.Stamped 0 1 1)) ∷ []
 
 pub quiet_in_boot_2 : IsQuietMachineJournal open_net restarted
-unfolding was_delivered is_up journal_boot_of journal_current_mark
+unfolding was_delivered_in_journal is_up journal_boot_of journal_current_mark
 quiet_in_boot_2 = by_parts _ (refl, (refl, tt)) (
   neither _ _ refl refl,
   (
@@ -257,19 +257,19 @@ quiet_in_boot_2 = by_parts _ (refl, (refl, tt)) (
 
 -- an advert that was sent since does matter
 pub advert_waits : IsQuietMachineJournal open_net (restarted ++ Item.Sent 6 (to 0 (advert 1 1 2 1)) ∷ []) → ⊥
-unfolding was_delivered is_up journal_boot_of journal_current_mark
+unfolding was_delivered_in_journal is_up journal_boot_of journal_current_mark
 advert_waits quiet = unmet _ (quiet.messages.1.1.1.1.1.0 0 (omega arith) refl) refl
 
 -- nor does what was sent before a boot began that has the number of the one before
 pub boot_begins : IsQuietMachineJournal open_net (Item.Sent 1 (to 0 (Body.Stamp 1 1 [])) ∷ Item.Booted 0 1 ∷ [])
-unfolding was_delivered is_up journal_boot_of journal_current_mark
+unfolding was_delivered_in_journal is_up journal_boot_of journal_current_mark
 boot_begins = by_parts _ (refl, (refl, tt)) (neither _ _ refl refl, tt)
 
 -- tables of a version below the current one, and their acknowledgement, don't matter
 pub quiet_without_old_tables : IsQuietMachineJournal open_net
     (Item.Sent 1 (to 0 (Body.Install 1 (tables_of plan_q 1 0)))
     ∷ Item.Sent 2 (to_controller (Body.Installed 0 1 1)) ∷ Item.Current 2 ∷ [])
-unfolding was_delivered is_up journal_boot_of journal_current_mark
+unfolding was_delivered_in_journal is_up journal_boot_of journal_current_mark
 quiet_without_old_tables = by_parts _ (refl, (refl, tt)) (
   neither _ _ refl refl,
   (neither _ _ refl refl, tt),
@@ -278,7 +278,7 @@ quiet_without_old_tables = by_parts _ (refl, (refl, tt)) (
 -- a delivery before its sending delivers nothing
 pub delivered_too_early :
     IsQuietMachineJournal open_net (Item.Delivered 1 ∷ Item.Sent 1 (to_controller (Body.Hello 0 1)) ∷ []) → ⊥
-unfolding was_delivered is_up journal_boot_of journal_current_mark
+unfolding was_delivered_in_journal is_up journal_boot_of journal_current_mark
 delivered_too_early quiet = unmet _ (quiet.messages.0 0 (omega arith) refl) refl
 
 -- ---- replaced messages
@@ -289,7 +289,7 @@ pub quiet_by_later : IsQuietMachineJournal open_net
     ∷ Item.Sent 3 (to 0 (advert 1 1 1 1)) ∷ Item.Sent 4 (to_controller (Body.Hello 1 1))
     ∷ Item.Sent 5 (to 0 (Body.Stamp 1 3 [])) ∷ Item.Sent 6 (to 0 (advert 1 1 2 0))
     ∷ Item.Delivered 4 ∷ Item.Delivered 5 ∷ Item.Delivered 6 ∷ [])
-unfolding was_delivered is_up journal_boot_of journal_current_mark
+unfolding was_delivered_in_journal is_up journal_boot_of journal_current_mark
 quiet_by_later = by_parts _ (refl, (refl, tt)) (
   λ s there m. inr (inr (inr (inl (record { receiver = refl; says = inl refl }, refl)))),
   (
@@ -309,14 +309,14 @@ hello = to_controller (Body.Hello 1 1)
 -- the earlier of two equal messages doesn't replace the later one
 pub later_waits :
     IsQuietMachineJournal open_net (Item.Sent 1 hello ∷ Item.Sent 2 hello ∷ Item.Delivered 1 ∷ []) → ⊥
-unfolding was_delivered is_up journal_boot_of journal_current_mark
+unfolding was_delivered_in_journal is_up journal_boot_of journal_current_mark
 later_waits quiet = unmet _ (quiet.messages.1.0 1 (omega arith) refl) refl
 
 -- other tables of the same version don't replace those before them
 pub other_tables_wait : (one other : Tables) → one.version ≡ 1 → (one ≡ other → ⊥)
     → IsQuietMachineJournal open_net (Item.Sent 1 (to 0 (Body.Install 1 one))
     ∷ Item.Sent 2 (to 0 (Body.Install 1 other)) ∷ Item.Delivered 2 ∷ []) → ⊥
-unfolding was_delivered is_up journal_boot_of journal_current_mark
+unfolding was_delivered_in_journal is_up journal_boot_of journal_current_mark
 other_tables_wait one other version apart quiet =
     elim (quiet.messages.0 0 (omega arith) (rw version refl)) [
       | inl delivered ↦ true≢false (sym delivered)

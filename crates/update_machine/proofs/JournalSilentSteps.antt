@@ -1,9 +1,9 @@
 -- What is counted over the steps of a journal stays as it is behind items that don't concern it.
 use Rattle.std.proofs.Common.{[], ◌++◌, ◌+◌, ◌||◌, ◌∙◌, ◌∷◌, ◌≡◌, Bool, IsFalse, List, None, Option, add-zero, ap, append-nil, append_assoc, arith, false, if◌then◌else◌, refl, subst, sum_by, sym, true, unwrap_or, ℕ}
 use Rattle.base.proofs.Exports.{⊤, filter_agree, list_any, option_or, option_or-none, sum_by-cons}
-use Rattle.update_machine.specs.Exports.{Hop, Item, LinkRow, NoneConcern, MachinePacketKeeps, Setting, StepItems, JournalSwitchKeeps, journal_all_given, journal_body_to_switch, journal_boot_of, journal_cache_of, changes_journal_cache, item_changes_found, changes_journal_heard, changes_hops, changes_journal_leg, item_changes_steps, item_concerns_calls, concerns_links, concerns_packet, concerns_switch, count_of, journal_decision_of, journal_first_given, folded_journal_from, journal_folded_value, journal_found_down, machine_item_gives_boot, machine_item_gives_decision, machine_item_gives_header, machine_item_gives_ingress, gives_journal_link, machine_item_gives_route, machine_item_gives_serving, machine_item_gives_standing, machine_item_gives_travelling, machine_item_gives_switch_up, journal_handled_count, journal_packet_header, heard, holds_version, journal_hop_calls, journal_ingress_of, is_machine_entry_at, is_link_up_in_journal, is_journal_message_to, is_machine_packet_move, is_up, is_usable_in_journal, journal_last_given, journal_leg_of, near, journal_next_switch, journal_route_in, route_place, serves, journal_stamp_of, standing, journal_hop_stays_on_way, journal_steps_in, machine_stuck_at_link, travels, journal_travels_at, machine_steps_with_item}
+use Rattle.update_machine.specs.Exports.{Hop, Item, LinkRow, NoMachineItemConcerns, MachinePacketKeeps, Setting, MachineStepItems, JournalSwitchKeeps, journal_all_given, journal_body_to_switch, journal_boot_of, journal_cache_of, changes_journal_cache, machine_item_changes_found, changes_journal_heard, machine_item_changes_hops, changes_journal_leg, machine_item_changes_steps, machine_item_concerns_calls, machine_item_concerns_links, machine_item_concerns_packet, machine_item_concerns_switch, machine_count_of, journal_decision_of, journal_first_given, folded_journal_from, journal_folded_value, journal_found_down, machine_item_gives_boot, machine_item_gives_decision, machine_item_gives_header, machine_item_gives_ingress, gives_journal_link, machine_item_gives_route, machine_item_gives_serving, machine_item_gives_standing, machine_item_gives_travelling, machine_item_gives_switch_up, journal_handled_count, journal_packet_header, heard, holds_version, journal_hop_calls, journal_ingress_of, is_machine_entry_at, is_link_up_in_journal, is_journal_message_to, is_machine_packet_move, is_up, is_usable_in_journal, journal_last_given, journal_leg_of, near, journal_next_switch, journal_route_in, journal_route_place, serves, journal_stamp_of, journal_standing_of, journal_hop_stays_on_way, journal_steps_in, machine_stuck_at_link, travels_in_journal, journal_travels_at, machine_steps_with_item}
 use Rattle.update_machine.proofs.JournalBlockNumbers.{all_given_append, count_of_append, first_given_append, folded_append, last_given_append}
-use Rattle.failover.specs.Exports.{no_links}
+use Rattle.failover.specs.Exports.{no_failover_links}
 
 -- ---- items that don't concern what a fold says leave it as it is: for each of the folds
 
@@ -20,13 +20,13 @@ Keeps {X} concerns changes = (before : List Item) (value : X) (item : Item)
 
 -- and so does what is said, behind many of them
 abbrev pub Stays : {X : Type 0} (concerns : List Item → Item → Bool) (says : List Item → X) → Type 0
-Stays concerns says = (before items : List Item) → NoneConcern concerns before items
+Stays concerns says = (before items : List Item) → NoMachineItemConcerns concerns before items
     → says (before ++ items) ≡ says before
 
 -- items that don't concern more than it don't concern it either
 pub fewer : (less more : List Item → Item → Bool) →
     ((before : List Item) (item : Item) → IsFalse (more before item) → IsFalse (less before item)) →
-    (before items : List Item) → NoneConcern more before items → NoneConcern less before items
+    (before items : List Item) → NoMachineItemConcerns more before items → NoMachineItemConcerns less before items
 fewer less more implies before [] none = tt
 fewer less more implies before (item ∷ items) none =
     (implies before item none.0, fewer less more implies (before ++ item ∷ []) items none.1)
@@ -68,12 +68,12 @@ first_stays tells concerns silent = stays (journal_first_given tells) concerns
     ∙ option_or-none (journal_first_given tells js))
 
 pub count_stays : (test : Item → Bool) (concerns : List Item → Item → Bool)
-    → Silent concerns test false → Stays concerns (count_of test)
-count_stays test concerns silent = stays (count_of test) concerns
+    → Silent concerns test false → Stays concerns (machine_count_of test)
+count_stays test concerns silent = stays (machine_count_of test) concerns
     (λ js item apart.
-    let none_counted : count_of test (item ∷ []) ≡ 0 = rw (silent js item apart) refl in
-    count_of_append test js (item ∷ []) ∙ ap (λ k. count_of test js + k) none_counted
-    ∙ add-zero (count_of test js))
+    let none_counted : machine_count_of test (item ∷ []) ≡ 0 = rw (silent js item apart) refl in
+    count_of_append test js (item ∷ []) ∙ ap (λ k. machine_count_of test js + k) none_counted
+    ∙ add-zero (machine_count_of test js))
 
 pub given_stays : {X : Type 0} (gives : Item → List X) (concerns : List Item → Item → Bool)
     → Silent concerns gives [] → Stays concerns (journal_all_given gives)
@@ -92,26 +92,26 @@ folded_stays changes start concerns silent = stays (journal_folded_value changes
 
 -- ---- the newest step ends where the journal does
 
-abbrev EndsWith : List Item → List StepItems → Type 0
+abbrev EndsWith : List Item → List MachineStepItems → Type 0
 EndsWith journal [] = ⊤
 EndsWith journal (newest ∷ steps) = newest.before ++ newest.items ≡ journal
 
-with_ends : (journal : List Item) (item : Item) (steps : List StepItems) → EndsWith journal steps
+with_ends : (journal : List Item) (item : Item) (steps : List MachineStepItems) → EndsWith journal steps
     → EndsWith (journal ++ item ∷ []) (machine_steps_with_item steps item)
 with_ends journal item [] ends = tt
 with_ends journal item (newest ∷ steps) ends =
     cc (append_assoc newest.before newest.items (item ∷ []), ends)
 
-more_ends : (journal : List Item) (item : Item) (steps : List StepItems) → EndsWith journal steps
-    → EndsWith (journal ++ item ∷ []) (item_changes_steps journal steps item)
+more_ends : (journal : List Item) (item : Item) (steps : List MachineStepItems) → EndsWith journal steps
+    → EndsWith (journal ++ item ∷ []) (machine_item_changes_steps journal steps item)
 more_ends journal (Item.Row row step) steps ends = refl
 more_ends journal other steps ends = with_ends journal other steps ends
 
-all_end : (before items : List Item) (steps : List StepItems) → EndsWith before steps
-    → EndsWith (before ++ items) (folded_journal_from item_changes_steps before steps items)
+all_end : (before items : List Item) (steps : List MachineStepItems) → EndsWith before steps
+    → EndsWith (before ++ items) (folded_journal_from machine_item_changes_steps before steps items)
 all_end before [] steps ends = subst (λ js. EndsWith js steps) (sym (append-nil before)) ends
 all_end before (item ∷ items) steps ends = rw (append_assoc before (item ∷ []) items) at
-    (all_end (before ++ item ∷ []) items (item_changes_steps before steps item)
+    (all_end (before ++ item ∷ []) items (machine_item_changes_steps before steps item)
     (more_ends before item steps ends))
 
 steps_end : (journal : List Item) → EndsWith journal (journal_steps_in journal)
@@ -125,14 +125,14 @@ is_row (Item.Row row step) = true
 is_row _ = false
 
 -- the item alone weighs nothing, and the newest step as much with it as without it
-pub record LeavesWeight (weigh : StepItems → ℕ) (before : List Item) (item : Item) : Type 0 where
+pub record LeavesWeight (weigh : MachineStepItems → ℕ) (before : List Item) (item : Item) : Type 0 where
   pub alone : weigh (record { before = before; items = item ∷ [] }) ≡ 0
-  pub more : (newest : StepItems) → newest.before ++ newest.items ≡ before → is_row item ≡ false
+  pub more : (newest : MachineStepItems) → newest.before ++ newest.items ≡ before → is_row item ≡ false
       → weigh (record newest { items = newest.items ++ item ∷ [] }) ≡ weigh newest
 
-weight_by : (weigh : StepItems → ℕ) (before : List Item) (item : Item) (steps : List StepItems)
+weight_by : (weigh : MachineStepItems → ℕ) (before : List Item) (item : Item) (steps : List MachineStepItems)
     → EndsWith before steps → LeavesWeight weigh before item
-    → sum_by weigh (item_changes_steps before steps item) ≡ sum_by weigh steps
+    → sum_by weigh (machine_item_changes_steps before steps item) ≡ sum_by weigh steps
 weight_by weigh before (Item.Row row step) steps ends leaves =
     sum_by-cons weigh (record { before = before; items = Item.Row row step ∷ [] }) steps
     ∙ ap (λ k. k + sum_by weigh steps) leaves.alone ∙ omega arith
@@ -142,12 +142,12 @@ weight_by weigh before other (newest ∷ steps) ends leaves =
     ∙ ap (λ k. k + sum_by weigh steps) (leaves.more newest ends refl)
     ∙ sym (sum_by-cons weigh newest steps)
 
-pub weight_stays : (weigh : StepItems → ℕ) (before : List Item) (item : Item)
+pub weight_stays : (weigh : MachineStepItems → ℕ) (before : List Item) (item : Item)
     → LeavesWeight weigh before item
     → sum_by weigh (journal_steps_in (before ++ item ∷ [])) ≡ sum_by weigh (journal_steps_in before)
 unfolding journal_steps_in
 weight_stays weigh before item leaves =
-    ap (sum_by weigh) (folded_append item_changes_steps [] before (item ∷ []))
+    ap (sum_by weigh) (folded_append machine_item_changes_steps [] before (item ∷ []))
     ∙ weight_by weigh before item (journal_steps_in before) (steps_end before) leaves
 
 -- ---- calls
@@ -183,7 +183,7 @@ stuck_more last still (Item.FoundDown packet one two ∷ next ∷ items) =
     stuck_more last still (next ∷ items)
 stuck_more last still (first ∷ items) = stuck_more last still items
 
-calls_more : (s : ℕ) (newest : StepItems) (more : List Item) (last : Item) → is_still last ≡ true
+calls_more : (s : ℕ) (newest : MachineStepItems) (more : List Item) (last : Item) → is_still last ≡ true
     → is_row last ≡ false → (items : List Item)
     → journal_hop_calls s (record newest { items = more }) (items ++ last ∷ []) ≡ journal_hop_calls s newest items
 calls_more s newest more (Item.Row row step) still row_less [] = cc
@@ -195,28 +195,28 @@ calls_more s newest more last still row_less (Item.Row row (Hop packet) ∷ item
     same = rw (move_more last still items, stuck_more last still items) refl
 calls_more s newest more last still row_less (first ∷ items) = refl
 
-calls_still : (s : ℕ) (before : List Item) (item : Item) → IsFalse (item_concerns_calls s before item)
+calls_still : (s : ℕ) (before : List Item) (item : Item) → IsFalse (machine_item_concerns_calls s before item)
     → is_still item ≡ true
 calls_still s before (Item.Hopped packet switch) apart = cc
 calls_still s before (Item.Stuck packet switch cause leg down) apart = cc
 calls_still s before _ apart = refl
 
-calls_alone : (s : ℕ) (before : List Item) (item : Item) → IsFalse (item_concerns_calls s before item)
+calls_alone : (s : ℕ) (before : List Item) (item : Item) → IsFalse (machine_item_concerns_calls s before item)
     → journal_hop_calls s (record { before = before; items = item ∷ [] }) (item ∷ []) ≡ 0
 calls_alone s before (Item.Row row (Hop packet)) apart = rw apart refl
 calls_alone s before (Item.Row row other) apart = refl
 calls_alone s before _ apart = refl
 
-entry_silent : (s : ℕ) → Silent (item_concerns_calls s) (is_machine_entry_at s) false
+entry_silent : (s : ℕ) → Silent (machine_item_concerns_calls s) (is_machine_entry_at s) false
 entry_silent s before (Item.Entered packet switch header) apart = apart
 entry_silent s before (Item.Closed packet switch) apart = apart
 entry_silent s before _ apart = refl
 
-call_stays : (s : ℕ) (before : List Item) (item : Item) → IsFalse (item_concerns_calls s before item)
+call_stays : (s : ℕ) (before : List Item) (item : Item) → IsFalse (machine_item_concerns_calls s before item)
     → journal_handled_count (before ++ item ∷ []) s ≡ journal_handled_count before s
 unfolding journal_handled_count
 call_stays s before item apart =
-    let entries = count_stays (is_machine_entry_at s) (item_concerns_calls s) (entry_silent s) before
+    let entries = count_stays (is_machine_entry_at s) (machine_item_concerns_calls s) (entry_silent s) before
     (item ∷ []) (apart, tt) in
     let calls : sum_by (λ step. journal_hop_calls s step step.items) (journal_steps_in (before ++ item ∷ []))
     ≡ sum_by (λ step. journal_hop_calls s step step.items) (journal_steps_in before) =
@@ -227,22 +227,22 @@ call_stays s before item apart =
     }) in
     rw (entries, calls) refl
 
-pub calls_stay : (s : ℕ) → Stays (item_concerns_calls s) (λ js. journal_handled_count js s)
+pub calls_stay : (s : ℕ) → Stays (machine_item_concerns_calls s) (λ js. journal_handled_count js s)
 calls_stay s before items none =
-    stays (λ js. journal_handled_count js s) (item_concerns_calls s) (call_stays s) before items none
+    stays (λ js. journal_handled_count js s) (machine_item_concerns_calls s) (call_stays s) before items none
 
 -- ---- items that don't concern a switch, or the links, leave its facts as they are
 
-boot_silent : (s : ℕ) → Silent (concerns_switch s) (machine_item_gives_boot s) None
+boot_silent : (s : ℕ) → Silent (machine_item_concerns_switch s) (machine_item_gives_boot s) None
 boot_silent s before (Item.Booted switch boot) apart = rw apart refl
 boot_silent s before _ apart = refl
 
-up_silent : (s : ℕ) → Silent (concerns_switch s) (machine_item_gives_switch_up s) None
+up_silent : (s : ℕ) → Silent (machine_item_concerns_switch s) (machine_item_gives_switch_up s) None
 up_silent s before (Item.Booted switch boot) apart = rw apart refl
 up_silent s before (Item.Down switch) apart = rw apart refl
 up_silent s before _ apart = refl
 
-serving_silent : (s : ℕ) → Silent (concerns_switch s) (machine_item_gives_serving s) None
+serving_silent : (s : ℕ) → Silent (machine_item_concerns_switch s) (machine_item_gives_serving s) None
 serving_silent s before (Item.Booted switch boot) apart = rw apart refl
 serving_silent s before (Item.Down switch) apart = rw apart refl
 serving_silent s before (Item.Opened switch version) apart = rw apart refl
@@ -253,14 +253,14 @@ said_nothing : (before : List Item) (s number : ℕ) → IsFalse (is_journal_mes
     → journal_body_to_switch before s number ≡ None
 said_nothing before s number apart = grind arith
 
-heard_silent : (s : ℕ) → Keeps (concerns_switch s) (changes_journal_heard s)
+heard_silent : (s : ℕ) → Keeps (machine_item_concerns_switch s) (changes_journal_heard s)
 heard_silent s before bodies (Item.Booted switch boot) apart = rw apart refl
 heard_silent s before bodies (Item.Down switch) apart = rw apart refl
 heard_silent s before bodies (Item.Delivered number) apart = rw (said_nothing before s number apart)
     refl
 heard_silent s before bodies _ apart = refl
 
-cache_silent : (setting : Setting) (s : ℕ) → Keeps (concerns_switch s) (changes_journal_cache setting s)
+cache_silent : (setting : Setting) (s : ℕ) → Keeps (machine_item_concerns_switch s) (changes_journal_cache setting s)
 cache_silent setting s before cache (Item.Booted switch boot) apart = rw apart refl
 cache_silent setting s before cache (Item.Down switch) apart = rw apart refl
 cache_silent setting s before cache (Item.Expired switch place message) apart = rw apart refl
@@ -269,7 +269,7 @@ cache_silent setting s before cache (Item.Delivered number) apart = rw (said_not
 cache_silent setting s before cache _ apart = refl
 
 pub switch_keeps : (setting : Setting) (s : ℕ) (before items : List Item)
-    → NoneConcern (concerns_switch s) before items → JournalSwitchKeeps setting s before (before ++ items)
+    → NoMachineItemConcerns (machine_item_concerns_switch s) before items → JournalSwitchKeeps setting s before (before ++ items)
 unfolding journal_boot_of is_up serves heard journal_stamp_of holds_version journal_cache_of
 switch_keeps setting s before items none =
     let boot = last_or_stays _ 1 _ (boot_silent s) before items none in
@@ -286,22 +286,22 @@ switch_keeps setting s before items none =
 
 -- ---- links
 
-served_silent : (s : ℕ) → Silent concerns_links (machine_item_gives_serving s) None
+served_silent : (s : ℕ) → Silent machine_item_concerns_links (machine_item_gives_serving s) None
 served_silent s before (Item.Booted switch boot) apart = cc
 served_silent s before (Item.Down switch) apart = cc
 served_silent s before (Item.Opened switch version) apart = cc
 served_silent s before _ apart = refl
 
-link_silent : (low high : ℕ) → Silent concerns_links (gives_journal_link low high) None
+link_silent : (low high : ℕ) → Silent machine_item_concerns_links (gives_journal_link low high) None
 link_silent low high before (Item.LinkIs one two up) apart = cc
 link_silent low high before _ apart = refl
 
-served_stays : (before items : List Item) → NoneConcern concerns_links before items → (s : ℕ)
+served_stays : (before items : List Item) → NoMachineItemConcerns machine_item_concerns_links before items → (s : ℕ)
     → serves (before ++ items) s ≡ serves before s
 unfolding serves
 served_stays before items none s = last_or_stays _ true _ (served_silent s) before items none
 
-pub link_stays : (before items : List Item) → NoneConcern concerns_links before items
+pub link_stays : (before items : List Item) → NoMachineItemConcerns machine_item_concerns_links before items
     → (one other : ℕ) → is_link_up_in_journal (before ++ items) one other ≡ is_link_up_in_journal before one other
 unfolding is_link_up_in_journal
 link_stays before items none one other = last_or_stays _ true _ (link_silent _ _) before items none
@@ -322,26 +322,26 @@ unfolding near
 near_same setting before after serving up s = cc (filter_agree (is_usable_in_journal after) (is_usable_in_journal before)
     (usable_same before after serving up) setting.net.links)
 
-pub near_stays : (setting : Setting) (s : ℕ) → Stays concerns_links (λ js. near setting js s)
+pub near_stays : (setting : Setting) (s : ℕ) → Stays machine_item_concerns_links (λ js. near setting js s)
 near_stays setting s before items none = near_same setting before
     (before ++ items) (served_stays before items none) (link_stays before items none) s
 
 -- ---- items that don't concern a packet leave its facts as they are
 
-header_silent : (i : ℕ) → Silent (concerns_packet i) (machine_item_gives_header i) None
+header_silent : (i : ℕ) → Silent (machine_item_concerns_packet i) (machine_item_gives_header i) None
 header_silent i before (Item.Entered packet switch header) apart = rw apart refl
 header_silent i before _ apart = refl
 
-ingress_silent : (i : ℕ) → Silent (concerns_packet i) (machine_item_gives_ingress i) None
+ingress_silent : (i : ℕ) → Silent (machine_item_concerns_packet i) (machine_item_gives_ingress i) None
 ingress_silent i before (Item.Entered packet switch header) apart = rw apart refl
 ingress_silent i before _ apart = refl
 
-standing_silent : (i : ℕ) → Silent (concerns_packet i) (machine_item_gives_standing i) None
+standing_silent : (i : ℕ) → Silent (machine_item_concerns_packet i) (machine_item_gives_standing i) None
 standing_silent i before (Item.Entered packet switch header) apart = rw apart refl
 standing_silent i before (Item.Hopped packet switch) apart = rw apart refl
 standing_silent i before _ apart = refl
 
-travel_silent : (i : ℕ) → Silent (concerns_packet i) (machine_item_gives_travelling i) None
+travel_silent : (i : ℕ) → Silent (machine_item_concerns_packet i) (machine_item_gives_travelling i) None
 travel_silent i before (Item.Entered packet switch header) apart = rw apart refl
 travel_silent i before (Item.Dropped packet) apart = rw apart refl
 travel_silent i before (Item.Left packet port leaving) apart = rw apart refl
@@ -349,35 +349,35 @@ travel_silent i before (Item.Lost packet) apart = rw apart refl
 travel_silent i before (Item.Stuck packet switch cause leg down) apart = rw apart refl
 travel_silent i before _ apart = refl
 
-decision_silent : (i : ℕ) → Silent (concerns_packet i) (machine_item_gives_decision i) None
+decision_silent : (i : ℕ) → Silent (machine_item_concerns_packet i) (machine_item_gives_decision i) None
 decision_silent i before (Item.Decided packet version rule action how) apart = rw apart refl
 decision_silent i before _ apart = refl
 
-leg_silent : (i : ℕ) → Keeps (concerns_packet i) (changes_journal_leg i)
+leg_silent : (i : ℕ) → Keeps (machine_item_concerns_packet i) (changes_journal_leg i)
 leg_silent i before leg (Item.Seeking packet version partition route) apart = rw apart refl
 leg_silent i before leg (Item.Exiting packet route) apart = rw apart refl
 leg_silent i before leg _ apart = refl
 
-route_silent : (i : ℕ) → Silent (concerns_packet i) (machine_item_gives_route i) None
+route_silent : (i : ℕ) → Silent (machine_item_concerns_packet i) (machine_item_gives_route i) None
 route_silent i before (Item.Seeking packet version partition route) apart = rw apart refl
 route_silent i before (Item.Exiting packet route) apart = rw apart refl
 route_silent i before (Item.Rerouted packet route) apart = rw apart refl
 route_silent i before _ apart = refl
 
-hops_silent : (i : ℕ) → Keeps (concerns_packet i) (changes_hops i)
+hops_silent : (i : ℕ) → Keeps (machine_item_concerns_packet i) (machine_item_changes_hops i)
 hops_silent i before hops (Item.Seeking packet version partition route) apart = rw apart refl
 hops_silent i before hops (Item.Exiting packet route) apart = rw apart refl
 hops_silent i before hops (Item.Rerouted packet route) apart = rw apart refl
 hops_silent i before hops (Item.Hopped packet switch) apart = rw apart refl
 hops_silent i before hops _ apart = refl
 
-found_silent : (i : ℕ) → Keeps (concerns_packet i) (item_changes_found i)
+found_silent : (i : ℕ) → Keeps (machine_item_concerns_packet i) (machine_item_changes_found i)
 found_silent i before links (Item.FoundDown packet one two) apart = rw apart refl
 found_silent i before links _ apart = refl
 
-pub packet_keeps : (i : ℕ) (before items : List Item) → NoneConcern (concerns_packet i) before items
+pub packet_keeps : (i : ℕ) (before items : List Item) → NoMachineItemConcerns (machine_item_concerns_packet i) before items
     → MachinePacketKeeps i before (before ++ items)
-unfolding journal_packet_header journal_ingress_of standing travels journal_decision_of journal_leg_of journal_route_in route_place journal_next_switch
+unfolding journal_packet_header journal_ingress_of journal_standing_of travels_in_journal journal_decision_of journal_leg_of journal_route_in journal_route_place journal_next_switch
     journal_found_down
 packet_keeps i before items none =
     let route = last_or_stays _ [] _ (route_silent i) before items none in
@@ -391,5 +391,5 @@ packet_keeps i before items none =
       route = route;
       route_place = place;
       next = rw (route, place) refl;
-      found = folded_stays _ no_links _ (found_silent i) before items none;
+      found = folded_stays _ no_failover_links _ (found_silent i) before items none;
     }

@@ -1,7 +1,7 @@
 -- Where there is an answer there is a play: all of it, or the steps before the first one that would
 -- begin full.
 use Rattle.std.proofs.Common.{[], ◌++◌, ◌+◌, ◌↔◌, ◌∙◌, ◌∷◌, ◌≡◌, ◌≤◌, ◌⊎◌, All, List, None, Option, Some, ap, append_assoc, arith, inl, inr, length, option_map, refl, subst, suc, sym, take_all, ℕ}
-use Rattle.update_machine.specs.Exports.{Answers, JournalAnswersSoFar, JournalAnswersWithRoom, AreAllMachineEventSteps, AreAnsweredByJournal, AreJournalFirstSteps, AreFirstMachineStepsOf, AreFirstMachineEventSteps, AreMachineSteps, AreMachineStepsOf, JournalBeginsAnswer, Deliver, Drain, Event, Flush, HasMachinePlay, HasRoom, MachineJournalsHaveRoom, Hop, IsMachineJournalFull, IsMachinePlay, Item, One, Setting, Step, StepOfRow, JournalStopsFull, journal_after_steps, count_of, machine_journal_full_at, is_sending, journal_next_delivery, journal_next_hop, journal_next_message, next_travelling, next_waiting, piece}
+use Rattle.update_machine.specs.Exports.{Answers, JournalAnswersSoFar, JournalAnswersWithRoom, AreAllMachineEventSteps, AreAnsweredByJournal, AreJournalFirstSteps, AreFirstMachineStepsOf, AreFirstMachineEventSteps, AreMachineSteps, AreMachineStepsOf, JournalBeginsAnswer, Deliver, Drain, Event, Flush, HasMachinePlay, MachineJournalHasRoom, MachineJournalsHaveRoom, Hop, IsMachineJournalFull, IsMachinePlay, Item, One, Setting, Step, MachineStepOfRow, JournalStopsFull, journal_after_steps, machine_count_of, machine_journal_full_at, is_machine_sending_item, journal_next_delivery, journal_next_hop, journal_next_message, next_travelling, next_waiting, piece}
 use Rattle.base.proofs.Exports.{⊤, AllByRecursion, cases_lt}
 use Rattle.policy_rules.proofs.PolicyRulesCallerLemmas.{append_not_nil}
 use Rattle.update_machine.proofs.JournalFirstSteps.{Begins, begins_cons, begins_nil, first_begin_all, first_steps_either, one_answer}
@@ -9,7 +9,7 @@ use Rattle.update_machine.proofs.JournalFirstSteps.{Begins, begins_cons, begins_
 -- ---- an answer answers as far as it goes, and begins itself
 
 pub all_are_first : (setting : Setting) (row : ℕ) (events : List Event) (before : List Item)
-    (steps : List StepOfRow) → AreMachineSteps setting row events before steps
+    (steps : List MachineStepOfRow) → AreMachineSteps setting row events before steps
     → AreJournalFirstSteps setting row events before steps
 all_are_first setting row [] before steps all = all
 all_are_first setting row (event ∷ events) before steps all = inr (
@@ -50,10 +50,10 @@ IsEventOf Is (One step) = Is step
 IsEventOf Is Flush = ⊤
 IsEventOf Is Drain = ⊤
 
-abbrev pub AreOf : (Step → Type 0) → List StepOfRow → Type 0
-AreOf Is steps = AllByRecursion (λ (next : StepOfRow). Is next.step) steps
+abbrev pub AreOf : (Step → Type 0) → List MachineStepOfRow → Type 0
+AreOf Is steps = AllByRecursion (λ (next : MachineStepOfRow). Is next.step) steps
 
-pub are_both : (Is : Step → Type 0) (mine rest : List StepOfRow) → AreOf Is mine → AreOf Is rest
+pub are_both : (Is : Step → Type 0) (mine rest : List MachineStepOfRow) → AreOf Is mine → AreOf Is rest
     → AreOf Is (mine ++ rest)
 are_both Is [] rest one other = other
 are_both Is (next ∷ mine) rest one other = (one.0, are_both Is mine rest one.1 other)
@@ -74,7 +74,7 @@ deliveries : (Is : Step → Type 0) → HasNexts Is → IsNext Is journal_next_d
 deliveries Is has before = next_is Is Deliver has.delivery (next_waiting before)
 
 some_are : (Is : Step → Type 0) (setting : Setting) (next : List Item → Option Step)
-    → IsNext Is next → (row : ℕ) (before : List Item) (steps : List StepOfRow)
+    → IsNext Is next → (row : ℕ) (before : List Item) (steps : List MachineStepOfRow)
     → AreFirstMachineEventSteps setting next row before steps → AreOf Is steps
 some_are Is setting next are row before [] some = tt
 some_are Is setting next are row before (first ∷ steps) some = (
@@ -84,7 +84,7 @@ some_are Is setting next are row before (first ∷ steps) some = (
 )
 
 pub firsts_are : (Is : Step → Type 0) → HasNexts Is → (setting : Setting) (row : ℕ) (event : Event)
-    (before : List Item) (steps : List StepOfRow) → IsEventOf Is event
+    (before : List Item) (steps : List MachineStepOfRow) → IsEventOf Is event
     → AreFirstMachineStepsOf setting row event before steps → AreOf Is steps
 firsts_are Is has setting row (One step) before steps is (inl none) = subst (AreOf Is) (sym none) tt
 firsts_are Is has setting row (One step) before steps is (inr one) = rw one (is, tt)
@@ -95,7 +95,7 @@ firsts_are Is has setting row Drain before steps is are =
 
 -- all steps are first ones
 all_some : (setting : Setting) (next : List Item → Option Step) (row : ℕ) (before : List Item)
-    (steps : List StepOfRow) → AreAllMachineEventSteps setting next row before steps
+    (steps : List MachineStepOfRow) → AreAllMachineEventSteps setting next row before steps
     → AreFirstMachineEventSteps setting next row before steps
 all_some setting next row before [] all = tt
 all_some setting next row before (first ∷ steps) all = (
@@ -105,21 +105,21 @@ all_some setting next row before (first ∷ steps) all = (
 )
 
 pub all_first : (setting : Setting) (row : ℕ) (event : Event) (before : List Item)
-    (steps : List StepOfRow) → AreMachineStepsOf setting row event before steps
+    (steps : List MachineStepOfRow) → AreMachineStepsOf setting row event before steps
     → AreFirstMachineStepsOf setting row event before steps
 all_first setting row (One step) before steps all = inr all
 all_first setting row Flush before steps all = all_some setting journal_next_delivery row before steps all
 all_first setting row Drain before steps all = all_some setting journal_next_hop row before steps all
 
 pub event_steps_are : (Is : Step → Type 0) → HasNexts Is → (setting : Setting) (row : ℕ)
-    (event : Event) (before : List Item) (steps : List StepOfRow) → IsEventOf Is event
+    (event : Event) (before : List Item) (steps : List MachineStepOfRow) → IsEventOf Is event
     → AreMachineStepsOf setting row event before steps → AreOf Is steps
 event_steps_are Is has setting row event before steps is all = firsts_are Is has setting row event
     before steps is (all_first setting row event before steps all)
 
 -- and so are the first steps of events
 pub first_steps_are : (Is : Step → Type 0) → HasNexts Is → (setting : Setting) (row : ℕ)
-    (events : List Event) (before : List Item) (steps : List StepOfRow)
+    (events : List Event) (before : List Item) (steps : List MachineStepOfRow)
     → All (IsEventOf Is) events → AreJournalFirstSteps setting row events before steps → AreOf Is steps
 first_steps_are Is has setting row [] before steps is are = subst (AreOf Is) (sym are) tt
 first_steps_are Is has setting row (event ∷ events) before steps is (inl are) =
@@ -131,13 +131,13 @@ first_steps_are Is has setting row (event ∷ events) before steps is (inr are) 
 
 -- ---- there is one play of the events of a schedule
 
-pub full_by_count : (journal : List Item) → IsMachineJournalFull journal ↔ machine_journal_full_at ≤ count_of is_sending journal
+pub full_by_count : (journal : List Item) → IsMachineJournalFull journal ↔ machine_journal_full_at ≤ machine_count_of is_machine_sending_item journal
 unfolding journal_next_message
 full_by_count journal = (λ full. omega (arith, full), λ many. omega (arith, many))
 
 -- ---- room
 
-pub rooms_append : (setting : Setting) (before : List Item) (xs ys : List StepOfRow)
+pub rooms_append : (setting : Setting) (before : List Item) (xs ys : List MachineStepOfRow)
     → MachineJournalsHaveRoom setting before xs → MachineJournalsHaveRoom setting (journal_after_steps setting before xs) ys
     → MachineJournalsHaveRoom setting before (xs ++ ys)
 rooms_append setting before [] ys room more = more
@@ -145,29 +145,29 @@ rooms_append setting before (x ∷ xs) ys room more =
     (room.0, rooms_append setting (before ++ piece setting before x.row x.step) xs ys room.1 more)
 
 -- each of the steps began with room
-room_before : (setting : Setting) (before : List Item) (xs : List StepOfRow) (y : StepOfRow)
-    (zs : List StepOfRow) → MachineJournalsHaveRoom setting before (xs ++ y ∷ zs)
-    → HasRoom (journal_after_steps setting before xs)
+room_before : (setting : Setting) (before : List Item) (xs : List MachineStepOfRow) (y : MachineStepOfRow)
+    (zs : List MachineStepOfRow) → MachineJournalsHaveRoom setting before (xs ++ y ∷ zs)
+    → MachineJournalHasRoom (journal_after_steps setting before xs)
 room_before setting before [] y zs room = room.0
 room_before setting before (x ∷ xs) y zs room =
     room_before setting (before ++ piece setting before x.row x.step) xs y zs room.1
 
 -- so none of them is where a play stops
-none_stops : {X : Type 0} (setting : Setting) (xs : List StepOfRow) (x : StepOfRow)
-    (ys : List StepOfRow) → IsMachineJournalFull (journal_after_steps setting [] xs) → MachineJournalsHaveRoom setting [] ys
+none_stops : {X : Type 0} (setting : Setting) (xs : List MachineStepOfRow) (x : MachineStepOfRow)
+    (ys : List MachineStepOfRow) → IsMachineJournalFull (journal_after_steps setting [] xs) → MachineJournalsHaveRoom setting [] ys
     → Begins (xs ++ x ∷ []) ys → X
 none_stops setting xs x ys full room begins =
-    let there : HasRoom (journal_after_steps setting [] xs) = room_before setting [] xs x begins.rest
+    let there : MachineJournalHasRoom (journal_after_steps setting [] xs) = room_before setting [] xs x begins.rest
     (subst (MachineJournalsHaveRoom setting []) (begins.is ∙ append_assoc xs (x ∷ []) begins.rest) room) in
     absurd (omega (arith, full, there))
 
 -- ---- lists with a last element
 
-pub nil_front : (xs ys : List StepOfRow) → [] ≡ xs ++ ys → xs ≡ []
+pub nil_front : (xs ys : List MachineStepOfRow) → [] ≡ xs ++ ys → xs ≡ []
 nil_front [] ys is = refl
 nil_front (x ∷ xs) ys is = cc is
 
-same_ends : (xs ys : List StepOfRow) (x y : StepOfRow) → xs ++ x ∷ [] ≡ ys ++ y ∷ []
+same_ends : (xs ys : List MachineStepOfRow) (x y : MachineStepOfRow) → xs ++ x ∷ [] ≡ ys ++ y ∷ []
     → (xs ≡ ys) × (x ≡ y)
 same_ends [] [] x y is = (refl, cc is)
 same_ends [] (b ∷ ys) x y is = absurd (append_not_nil ys y (cc is))
@@ -176,7 +176,7 @@ same_ends (a ∷ xs) (b ∷ ys) x y is = let rest = same_ends xs ys x y (cc is) 
     (ap (λ z. z ∷ xs) (cc is) ∙ ap (λ zs. b ∷ zs) rest.0, rest.1)
 
 -- what begins a list is the whole list, or begins it without its last element
-whole_or_front : (xs ys : List StepOfRow) (y : StepOfRow) → Begins xs (ys ++ y ∷ [])
+whole_or_front : (xs ys : List MachineStepOfRow) (y : MachineStepOfRow) → Begins xs (ys ++ y ∷ [])
     → (xs ≡ ys ++ y ∷ []) ⊎ Begins xs ys
 whole_or_front [] ys y begins = inr (begins_nil ys)
 whole_or_front (x ∷ xs) [] y begins = let tails : [] ≡ xs ++ begins.rest = cc begins.is in
@@ -252,7 +252,7 @@ one_play setting events one other (Some row) (Some last) first second =
 -- ---- first steps of first steps
 
 some_front : (setting : Setting) (next : List Item → Option Step) (row : ℕ) (before : List Item)
-    (xs ys : List StepOfRow) → AreFirstMachineEventSteps setting next row before (xs ++ ys)
+    (xs ys : List MachineStepOfRow) → AreFirstMachineEventSteps setting next row before (xs ++ ys)
     → AreFirstMachineEventSteps setting next row before xs
 some_front setting next row before [] ys some = tt
 some_front setting next row before (x ∷ xs) ys some = (
@@ -261,7 +261,7 @@ some_front setting next row before (x ∷ xs) ys some = (
   some_front setting next row (before ++ piece setting before x.row x.step) xs ys some.2,
 )
 
-one_front : (step : StepOfRow) (xs ys : List StepOfRow)
+one_front : (step : MachineStepOfRow) (xs ys : List MachineStepOfRow)
     → (xs ++ ys ≡ []) ⊎ (xs ++ ys ≡ step ∷ []) → (xs ≡ []) ⊎ (xs ≡ step ∷ [])
 one_front step [] ys first = inl refl
 one_front step (x ∷ xs) ys (inl none) = cc none
@@ -269,7 +269,7 @@ one_front step (x ∷ xs) ys (inr one) = let tail : [] ≡ xs ++ ys = cc one in
     inr (ap (λ zs. x ∷ zs) (nil_front xs ys tail) ∙ ap (λ z. z ∷ []) (cc one))
 
 event_front : (setting : Setting) (row : ℕ) (event : Event) (before : List Item)
-    (xs ys : List StepOfRow) → AreFirstMachineStepsOf setting row event before (xs ++ ys)
+    (xs ys : List MachineStepOfRow) → AreFirstMachineStepsOf setting row event before (xs ++ ys)
     → AreFirstMachineStepsOf setting row event before xs
 event_front setting row (One step) before xs ys first =
     one_front (record { row = row; step = step }) xs ys first
@@ -279,12 +279,12 @@ event_front setting row Drain before xs ys first =
     some_front setting journal_next_hop row before xs ys first
 
 -- the steps go past these ones, by more of them
-record GoPast (xs ys mine rest : List StepOfRow) : Type 0 where
-  more : List StepOfRow
+record GoPast (xs ys mine rest : List MachineStepOfRow) : Type 0 where
+  more : List MachineStepOfRow
   is : xs ≡ mine ++ more
   left : rest ≡ more ++ ys
 
-front_or_past : (xs ys mine rest : List StepOfRow) → xs ++ ys ≡ mine ++ rest
+front_or_past : (xs ys mine rest : List MachineStepOfRow) → xs ++ ys ≡ mine ++ rest
     → Begins xs mine ⊎ GoPast xs ys mine rest
 front_or_past [] ys mine rest is = inl (begins_nil mine)
 front_or_past (x ∷ xs) ys [] rest is = inr (record { more = x ∷ xs; is = refl; left = sym is })
@@ -301,7 +301,7 @@ front_or_past (x ∷ xs) ys (m ∷ mine) rest is =
     })
 
 pub first_front : (setting : Setting) (row : ℕ) (events : List Event) (before : List Item)
-    (xs ys : List StepOfRow) → AreJournalFirstSteps setting row events before (xs ++ ys)
+    (xs ys : List MachineStepOfRow) → AreJournalFirstSteps setting row events before (xs ++ ys)
     → AreJournalFirstSteps setting row events before xs
 first_front setting row [] before xs ys none = nil_front xs ys (sym none)
 first_front setting row (event ∷ events) before xs ys (inl first) =
@@ -310,7 +310,7 @@ first_front setting row (event ∷ events) before xs ys (inr first) =
     by (first_front setting (row + 1) events (journal_after_steps setting before first.0))
     (front_or_past xs ys first.0 first.1 first.2.split)
   where
-    by : ((front back : List StepOfRow) → AreJournalFirstSteps setting (row + 1) events
+    by : ((front back : List MachineStepOfRow) → AreJournalFirstSteps setting (row + 1) events
         (journal_after_steps setting before first.0) (front ++ back) → AreJournalFirstSteps setting
         (row + 1) events (journal_after_steps setting before first.0) front)
         → Begins xs first.0 ⊎ GoPast xs ys first.0 first.1
@@ -341,15 +341,15 @@ stop_begins setting events journal row stop =
     begins_itself setting events journal (stop_so_far setting events journal row stop)
 
 -- the first of the steps that would begin full
-record FirstFull (setting : Setting) (before : List Item) (steps : List StepOfRow) : Type 0 where
-  done : List StepOfRow
-  next : StepOfRow
-  rest : List StepOfRow
+record FirstFull (setting : Setting) (before : List Item) (steps : List MachineStepOfRow) : Type 0 where
+  done : List MachineStepOfRow
+  next : MachineStepOfRow
+  rest : List MachineStepOfRow
   split : steps ≡ done ++ next ∷ rest
   room : MachineJournalsHaveRoom setting before done
   full : IsMachineJournalFull (journal_after_steps setting before done)
 
-room_or_full : (setting : Setting) (before : List Item) (steps : List StepOfRow)
+room_or_full : (setting : Setting) (before : List Item) (steps : List MachineStepOfRow)
     → MachineJournalsHaveRoom setting before steps ⊎ FirstFull setting before steps
 room_or_full setting before [] = inl tt
 room_or_full setting before (step ∷ steps) = elim (cases_lt machine_journal_full_at (journal_next_message before)) [

@@ -1,7 +1,7 @@
 -- What switches, links and messages are said to be, on journals of few items.
 use Rattle.std.proofs.Common.{[], ◌++◌, ◌∷◌, ◌≡◌, List, None, Some, false, refl, true, ℕ}
-use Rattle.update_machine.specs.Exports.{Body, Collect, Install, Item, Stamp, Step, journal_advert_known, journal_adverts_known, journal_boot_of, heard, holds_version, is_deliverable, is_forgotten_in_journal, is_link_up_in_journal, is_up, journal_message_of, near, next_travelling, next_waiting, own_advert, journal_own_seq, serves, journal_stamp_of, journal_steps_in, travels, was_delivered}
-use Rattle.failover.specs.Exports.{adverts_after_hearing, first_adverts, is_news}
+use Rattle.update_machine.specs.Exports.{Body, Collect, Install, Item, Stamp, Step, journal_advert_known, journal_adverts_known, journal_boot_of, heard, holds_version, is_deliverable, is_forgotten_in_journal, is_link_up_in_journal, is_up, journal_message_of, near, next_travelling, next_waiting, own_advert, journal_own_seq, serves, journal_stamp_of, journal_steps_in, travels_in_journal, was_delivered_in_journal}
+use Rattle.failover.specs.Exports.{adverts_after_hearing, first_adverts, is_advert_news}
 use Rattle.base.specs.Exports.{small_number_mask, number_set_where, switches}
 use Rattle.update_machine.proofs.JournalExampleNetworks.{advert, one, open_net, plan_p, ring, tables_of, to}
 
@@ -103,7 +103,7 @@ pub adverts_of_a :
     × (journal_advert_known open_net (told 1 (advert 0 1 9 0)) 0 0
     ≡ Some (record { origin = 0; boot = 1; seq = 1; up = 2 }))
 unfolding journal_adverts_known own_advert journal_own_seq journal_steps_in near is_link_up_in_journal serves is_up journal_boot_of heard
-    journal_message_of first_adverts adverts_after_hearing is_news switches small_number_mask number_set_where
+    journal_message_of first_adverts adverts_after_hearing is_advert_news switches small_number_mask number_set_where
 adverts_of_a = (refl, refl, refl, refl, refl, refl)
 
 -- ---- messages
@@ -125,22 +125,22 @@ unfolding is_deliverable is_forgotten_in_journal journal_message_of
 unsent_is_none = refl
 
 pub third_waits : next_waiting sent ≡ Some 3
-unfolding next_waiting is_deliverable is_forgotten_in_journal was_delivered journal_message_of
+unfolding next_waiting is_deliverable is_forgotten_in_journal was_delivered_in_journal journal_message_of
 third_waits = refl
 
 pub first_waits_first :
     next_waiting (Item.Sent 1 (to 0 (Stamp 1 1 [])) ∷ Item.Sent 2 (to 0 (Stamp 1 1 [])) ∷ []) ≡ Some 1
-unfolding next_waiting is_deliverable is_forgotten_in_journal was_delivered journal_message_of
+unfolding next_waiting is_deliverable is_forgotten_in_journal was_delivered_in_journal journal_message_of
 first_waits_first = refl
 
 -- ---- packets
 
 pub first_travels_first : next_travelling (Item.Entered 1 0 one ∷ Item.Entered 2 0 one
     ∷ Item.Entered 3 0 one ∷ []) ≡ Some 1
-unfolding next_travelling travels
+unfolding next_travelling travels_in_journal
 first_travels_first = refl
 
 pub second_travels_next : next_travelling (Item.Entered 1 0 one ∷ Item.Entered 2 0 one
     ∷ Item.Entered 3 0 one ∷ Item.Dropped 1 ∷ []) ≡ Some 2
-unfolding next_travelling travels
+unfolding next_travelling travels_in_journal
 second_travels_next = refl

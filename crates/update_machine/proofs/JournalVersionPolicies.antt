@@ -1,9 +1,9 @@
 -- The files, policies and plans of versions: what more items make of them, and their numbers.
 use Rattle.std.proofs.Common.{[], ◌++◌, ◌+◌, ◌-◌, ◌<◌, ◌==◌, ◌↔◌, ◌∙◌, ◌∷◌, ◌≡◌, ◌≢◌, ◌≤◌, ◌⊎◌, Bool, Err, IsFalse, IsOk, IsTrue, List, None, Ok, Option, Result, Some, ap, arith, eq-eqb, false, if◌then◌else◌, inl, inr, is_some, length, length-append, option_and_then, option_to_list, refl, slice_get, subst, suc, sym, true, unwrap_or, zero, ℕ}
 use Rattle.base.proofs.Exports.{cases_eq, nat_tests, option_map_or, option_or, result_ok}
-use Rattle.partition.specs.Plan.{Hosted}
+use Rattle.partition.specs.Plan.{HostedPolicyPartition}
 use Rattle.policy_rules.specs.Exports.{NoPolicyPlan}
-use Rattle.update_machine.specs.Exports.{SettingHasPlan, IsSetting, Item, Machine, JournalPoliciesKeep, Row, Setting, Takes, JournalVersionsAreNumbered, Whole, setting_file_at, file_of, journal_first_given, first_machine, machine_item_gives_file, setting_hosted_or_none, is_journal_submission, is_version, made_by, journal_next_policy, journal_plan_at, policy_at, setting_policy_by, policy_in, machine_submitted_policy, journal_version_count}
+use Rattle.update_machine.specs.Exports.{MachineVersionHasPlan, IsMachineSetting, Item, Machine, JournalPoliciesKeep, Row, Setting, MachineTakes, JournalVersionsAreNumbered, Whole, machine_file_at, journal_version_file, journal_first_given, first_machine, machine_item_gives_file, machine_hosted_or_none, is_journal_submission, is_journal_version, machine_policy_made_by, journal_next_policy, journal_plan_at, machine_policy_at, machine_policy_by, machine_policy_in, machine_submitted_policy, journal_version_count}
 use Rattle.update_machine.proofs.JournalBlockNumbers.{count_of_append, first_given_append}
 use Rattle.update_machine.proofs.JournalSilentLinks.{policies_keep, policy_by_files}
 
@@ -11,8 +11,8 @@ use Rattle.update_machine.proofs.JournalSilentLinks.{policies_keep, policy_by_fi
 
 -- the file of a version is the one that the first items give it, or else later ones
 pub file_append : (before items : List Item) (v : ℕ)
-    → file_of (before ++ items) v ≡ option_or (file_of before v) (file_of items v)
-unfolding file_of
+    → journal_version_file (before ++ items) v ≡ option_or (journal_version_file before v) (journal_version_file items v)
+unfolding journal_version_file
 file_append before items v = by_test (v == 1) where
   by_test : (b : Bool) → (if b then Some 1 else journal_first_given (machine_item_gives_file v) (before ++ items))
       ≡ option_or (if b then Some 1 else journal_first_given (machine_item_gives_file v) before)
@@ -20,17 +20,17 @@ file_append before items v = by_test (v == 1) where
   by_test true = refl
   by_test false = first_given_append (machine_item_gives_file v) before items
 
-pub file_kept : (before items : List Item) (v : ℕ) → IsTrue (is_version before v)
-    → file_of (before ++ items) v ≡ file_of before v
+pub file_kept : (before items : List Item) (v : ℕ) → IsTrue (is_journal_version before v)
+    → journal_version_file (before ++ items) v ≡ journal_version_file before v
 file_kept before items v there = file_append before items v
-    ∙ first_stays (file_of before v) (file_of items v) there
+    ∙ first_stays (journal_version_file before v) (journal_version_file items v) there
   where
     first_stays : (o p : Option ℕ) → IsTrue (is_some o) → option_or o p ≡ o
     first_stays (Some file) p there = refl
     first_stays None p there = absurd cc
 
-pub version_kept : (before items : List Item) (v : ℕ) → IsTrue (is_version before v)
-    → IsTrue (is_version (before ++ items) v)
+pub version_kept : (before items : List Item) (v : ℕ) → IsTrue (is_journal_version before v)
+    → IsTrue (is_journal_version (before ++ items) v)
 version_kept before items v there = ap is_some (file_kept before items v there) ∙ there
 
 -- ---- policies and plans
@@ -38,14 +38,14 @@ version_kept before items v there = ap is_some (file_kept before items v there) 
 -- the versions up to the count keep their policies, where all of them are there
 pub policy_in_stays : (setting : Setting) (before items : List Item) (v : ℕ)
     → JournalVersionsAreNumbered before → v ≤ journal_version_count before
-    → policy_in setting (before ++ items) v ≡ policy_in setting before v
+    → machine_policy_in setting (before ++ items) v ≡ machine_policy_in setting before v
 policy_in_stays setting before items v are below = policy_by_files setting (before ++ items) before
     v (λ k first last. file_kept before items k ((are k).1 (first, omega (arith, last, below))))
 
 pub policy_stays : (setting : Setting) (before items : List Item) (v : ℕ)
     → JournalVersionsAreNumbered before → v ≤ journal_version_count before
-    → policy_at setting (before ++ items) v ≡ policy_at setting before v
-unfolding policy_at
+    → machine_policy_at setting (before ++ items) v ≡ machine_policy_at setting before v
+unfolding machine_policy_at
 policy_stays setting before items v are below =
     ap (λ o. unwrap_or o []) (policy_in_stays setting before items v are below)
 
@@ -55,12 +55,12 @@ unfolding journal_plan_at
 plan_stays setting before items v are below = cc (policy_in_stays setting before items v are below)
 
 pub of_its_policy : (setting : Setting) (journal : List Item) (v : ℕ) (rows : List Row)
-    → policy_in setting journal v ≡ Some rows → (policy_at setting journal v ≡ rows)
-    × (journal_plan_at setting journal v ≡ setting_hosted_or_none (setting.plan rows))
-unfolding policy_at journal_plan_at
+    → machine_policy_in setting journal v ≡ Some rows → (machine_policy_at setting journal v ≡ rows)
+    × (journal_plan_at setting journal v ≡ machine_hosted_or_none (setting.plan rows))
+unfolding machine_policy_at journal_plan_at
 of_its_policy setting journal v rows is = (
   ap (λ o. unwrap_or o []) is,
-  ap (λ o. option_map_or (λ these. setting_hosted_or_none (setting.plan these)) o []) is,
+  ap (λ o. option_map_or (λ these. machine_hosted_or_none (setting.plan these)) o []) is,
 )
 
 -- ---- numbers
@@ -75,12 +75,12 @@ count_submitted journal file version =
 pub submitted_more : (journal : List Item) (file version : ℕ)
     → version ≡ journal_version_count journal + 1 → JournalVersionsAreNumbered journal
     → JournalVersionsAreNumbered (journal ++ Item.Submitted file version ∷ [])
-unfolding file_of
+unfolding journal_version_file
 submitted_more journal file version next are v = rw (file_append, count_submitted)
-    (by (file_of journal v) (are v))
+    (by (journal_version_file journal v) (are v))
   where
     by : (o : Option ℕ) → (IsTrue (is_some o) ↔ ((1 ≤ v) × (v ≤ journal_version_count journal)))
-        → IsTrue (is_some (option_or o (file_of (Item.Submitted file version ∷ []) v))) ↔
+        → IsTrue (is_some (option_or o (journal_version_file (Item.Submitted file version ∷ []) v))) ↔
         ((1 ≤ v) × (v ≤ journal_version_count journal + 1))
     by (Some earlier) known = let low = known.0 refl in
         (λ there. (omega (arith, low), omega (arith, low)), λ within. refl)
@@ -92,34 +92,34 @@ other_more journal item apart are v =
     let keep = policies_keep journal (item ∷ []) (apart, tt) in rw (keep.file v, keep.count) (are v)
 
 pub numbered_at_first : JournalVersionsAreNumbered []
-unfolding file_of journal_version_count
+unfolding journal_version_file journal_version_count
 numbered_at_first v = grind (arith, nat_tests)
 
 -- ---- what has a plan
 
 has_plan : (setting : Setting) (journal : List Item) (v : ℕ) (rows : List Row)
-    (plan : List Hosted) → policy_in setting journal v ≡ Some rows → setting.plan rows ≡ Ok plan
-    → SettingHasPlan setting journal v
+    (plan : List HostedPolicyPartition) → machine_policy_in setting journal v ≡ Some rows → setting.plan rows ≡ Ok plan
+    → MachineVersionHasPlan setting journal v
 has_plan setting journal v rows plan policy planned =
     let own = of_its_policy setting journal v rows policy in record {
       policy = policy ∙ ap Some (sym own.0);
-      plan = ap setting.plan own.0 ∙ planned ∙ ap Ok (sym (own.1 ∙ ap setting_hosted_or_none planned));
+      plan = ap setting.plan own.0 ∙ planned ∙ ap Ok (sym (own.1 ∙ ap machine_hosted_or_none planned));
     }
 
 -- a policy that has some plan
 planned_of : (setting : Setting) (journal : List Item) (v : ℕ) (rows : List Row)
-    → policy_in setting journal v ≡ Some rows → IsOk (setting.plan rows) → SettingHasPlan setting journal v
+    → machine_policy_in setting journal v ≡ Some rows → IsOk (setting.plan rows) → MachineVersionHasPlan setting journal v
 planned_of setting journal v rows policy = by_plan (setting.plan rows) refl where
-  by_plan : (plan : Result (List Hosted) NoPolicyPlan) → setting.plan rows ≡ plan → IsOk plan
-      → SettingHasPlan setting journal v
+  by_plan : (plan : Result (List HostedPolicyPartition) NoPolicyPlan) → setting.plan rows ≡ plan → IsOk plan
+      → MachineVersionHasPlan setting journal v
   by_plan (Err why) is ok = absurd cc
   by_plan (Ok plan) is ok = has_plan setting journal v rows plan policy is
 
 pub has_plan_stays : (setting : Setting) (before items : List Item) (v : ℕ)
     → JournalVersionsAreNumbered before → v ≤ journal_version_count before
-    → SettingHasPlan setting before v → SettingHasPlan setting (before ++ items) v
+    → MachineVersionHasPlan setting before v → MachineVersionHasPlan setting (before ++ items) v
 has_plan_stays setting before items v are below has =
-    has_plan setting (before ++ items) v (policy_at setting before v) (journal_plan_at setting before v)
+    has_plan setting (before ++ items) v (machine_policy_at setting before v) (journal_plan_at setting before v)
     (policy_in_stays setting before items v are below ∙ has.policy) has.plan
 
 -- ---- the first version
@@ -130,7 +130,7 @@ first_counted = omega arith
 
 -- the first version has one policy and one plan in all journals
 pub first_policy_stays : (setting : Setting) (journal : List Item)
-    → policy_at setting journal 1 ≡ policy_at setting [] 1
+    → machine_policy_at setting journal 1 ≡ machine_policy_at setting [] 1
 first_policy_stays setting journal =
     policy_stays setting [] journal 1 numbered_at_first first_counted
 
@@ -138,37 +138,37 @@ pub first_plan_stays : (setting : Setting) (journal : List Item)
     → journal_plan_at setting journal 1 ≡ journal_plan_at setting [] 1
 first_plan_stays setting journal = plan_stays setting [] journal 1 numbered_at_first first_counted
 
-pub first_has_plan : (setting : Setting) (journal : List Item) → SettingHasPlan setting [] 1
-    → SettingHasPlan setting journal 1
+pub first_has_plan : (setting : Setting) (journal : List Item) → MachineVersionHasPlan setting [] 1
+    → MachineVersionHasPlan setting journal 1
 first_has_plan setting journal has =
     has_plan_stays setting [] journal 1 numbered_at_first first_counted has
 
 -- its policy is that of the first file
 pub first_in : (setting : Setting) (journal : List Item) (rows : List Row)
-    → setting_file_at setting 1 ≡ Some (Whole rows) → policy_in setting journal 1 ≡ Some rows
-unfolding policy_in file_of
-first_in setting journal rows whole = ap (λ file. result_ok (made_by file None)) whole
+    → machine_file_at setting 1 ≡ Some (Whole rows) → machine_policy_in setting journal 1 ≡ Some rows
+unfolding machine_policy_in journal_version_file
+first_in setting journal rows whole = ap (λ file. result_ok (machine_policy_made_by file None)) whole
 
 pub first_is : (setting : Setting) (journal : List Item) (rows : List Row)
-    → setting_file_at setting 1 ≡ Some (Whole rows) → (policy_at setting journal 1 ≡ rows)
-    × (journal_plan_at setting journal 1 ≡ setting_hosted_or_none (setting.plan rows))
+    → machine_file_at setting 1 ≡ Some (Whole rows) → (machine_policy_at setting journal 1 ≡ rows)
+    × (journal_plan_at setting journal 1 ≡ machine_hosted_or_none (setting.plan rows))
 first_is setting journal rows whole =
     of_its_policy setting journal 1 rows (first_in setting journal rows whole)
 
-pub begins_planned : (setting : Setting) → IsSetting setting → SettingHasPlan setting [] 1
+pub begins_planned : (setting : Setting) → IsMachineSetting setting → MachineVersionHasPlan setting [] 1
 begins_planned setting is =
     planned_of setting [] 1 is.first (first_in setting [] is.first is.whole) is.planned
 
 -- ---- the version that is submitted
 
 alone : (file version : ℕ) → 2 ≤ version
-    → file_of (Item.Submitted file version ∷ []) version ≡ Some file
-unfolding file_of
+    → journal_version_file (Item.Submitted file version ∷ []) version ≡ Some file
+unfolding journal_version_file
 alone file version many = let other : (version == 1) ≡ false = grind (arith, nat_tests) in
     rw (other, eq-eqb version version refl) refl
 
-first_there : (journal : List Item) → IsTrue (is_version journal 1)
-unfolding file_of
+first_there : (journal : List Item) → IsTrue (is_journal_version journal 1)
+unfolding journal_version_file
 first_there journal = refl
 
 pub count_above : (journal : List Item) → JournalVersionsAreNumbered journal → 1 ≤ journal_version_count journal
@@ -176,39 +176,39 @@ count_above journal are = ((are 1).0 (first_there journal)).1
 
 pub next_file : (journal : List Item) (file version : ℕ) → JournalVersionsAreNumbered journal
     → version ≡ journal_version_count journal + 1
-    → file_of (journal ++ Item.Submitted file version ∷ []) version ≡ Some file
+    → journal_version_file (journal ++ Item.Submitted file version ∷ []) version ≡ Some file
 next_file journal file version are next =
     file_append journal (Item.Submitted file version ∷ []) version
-    ∙ by_old (file_of journal version) refl
+    ∙ by_old (journal_version_file journal version) refl
   where
-    own : file_of (Item.Submitted file version ∷ []) version ≡ Some file
+    own : journal_version_file (Item.Submitted file version ∷ []) version ≡ Some file
     own = alone file version (omega (arith, next, count_above journal are))
 
-    by_old : (o : Option ℕ) → file_of journal version ≡ o
-        → option_or o (file_of (Item.Submitted file version ∷ []) version) ≡ Some file
+    by_old : (o : Option ℕ) → journal_version_file journal version ≡ o
+        → option_or o (journal_version_file (Item.Submitted file version ∷ []) version) ≡ Some file
     by_old None e = own
     by_old (Some old) e = absurd (omega (arith, ((are version).0 (rw e refl)).1, next))
 
 -- what its file makes of the policy of the newest version
 pub next_made : (setting : Setting) (journal : List Item) (file version : ℕ)
     → JournalVersionsAreNumbered journal → version ≡ journal_version_count journal + 1
-    → policy_in setting (journal ++ Item.Submitted file version ∷ []) version
+    → machine_policy_in setting (journal ++ Item.Submitted file version ∷ []) version
     ≡ result_ok (journal_next_policy setting journal file)
-unfolding policy_in journal_next_policy
+unfolding machine_policy_in journal_next_policy
 next_made setting journal file zero are next = absurd (omega (arith, next))
 next_made setting journal file (suc newest) are next =
     let after : List Item = journal ++ Item.Submitted file (suc newest) ∷ [] in
     let same : newest ≡ journal_version_count journal = omega (arith, next) in
-    ap (option_and_then (λ f. result_ok (setting_policy_by setting (policy_in setting after newest) f)))
+    ap (option_and_then (λ f. result_ok (machine_policy_by setting (machine_policy_in setting after newest) f)))
     (next_file journal file (suc newest) are next)
-    ∙ ap (λ o. result_ok (setting_policy_by setting o file))
+    ∙ ap (λ o. result_ok (machine_policy_by setting o file))
     (policy_in_stays setting journal (Item.Submitted file (suc newest) ∷ []) newest are
-    (omega (arith, same)) ∙ ap (policy_in setting journal) same)
+    (omega (arith, same)) ∙ ap (machine_policy_in setting journal) same)
 
 pub next_policy_in : (setting : Setting) (journal : List Item) (file version : ℕ)
     (rows : List Row) → JournalVersionsAreNumbered journal → version ≡ journal_version_count journal + 1
     → journal_next_policy setting journal file ≡ Ok rows
-    → policy_in setting (journal ++ Item.Submitted file version ∷ []) version ≡ Some rows
+    → machine_policy_in setting (journal ++ Item.Submitted file version ∷ []) version ≡ Some rows
 next_policy_in setting journal file version rows are next policy =
     next_made setting journal file version are next ∙ ap result_ok policy
 
@@ -216,8 +216,8 @@ next_policy_in setting journal file version rows are next policy =
 pub next_is : (setting : Setting) (journal : List Item) (file version : ℕ) (rows : List Row)
     → JournalVersionsAreNumbered journal
     → version ≡ journal_version_count journal + 1 → journal_next_policy setting journal file ≡ Ok rows
-    → (policy_at setting (journal ++ Item.Submitted file version ∷ []) version ≡ rows) × (journal_plan_at
-    setting (journal ++ Item.Submitted file version ∷ []) version ≡ setting_hosted_or_none (setting.plan rows))
+    → (machine_policy_at setting (journal ++ Item.Submitted file version ∷ []) version ≡ rows) × (journal_plan_at
+    setting (journal ++ Item.Submitted file version ∷ []) version ≡ machine_hosted_or_none (setting.plan rows))
 next_is setting journal file version rows are next policy =
     of_its_policy setting (journal ++ Item.Submitted file version ∷ []) version rows
     (next_policy_in setting journal file version rows are next policy)
@@ -225,7 +225,7 @@ next_is setting journal file version rows are next policy =
 pub next_has_plan : (setting : Setting) (journal : List Item) (file version : ℕ) (rows : List Row)
     → JournalVersionsAreNumbered journal → version ≡ journal_version_count journal + 1
     → journal_next_policy setting journal file ≡ Ok rows → IsOk (setting.plan rows)
-    → SettingHasPlan setting (journal ++ Item.Submitted file version ∷ []) version
+    → MachineVersionHasPlan setting (journal ++ Item.Submitted file version ∷ []) version
 next_has_plan setting journal file version rows are next policy planned =
     planned_of setting (journal ++ Item.Submitted file version ∷ []) version rows
     (next_policy_in setting journal file version rows are next policy) planned
@@ -234,16 +234,16 @@ next_has_plan setting journal file version rows are next policy planned =
 
 -- a version with a partition is there
 pub part_there : (setting : Setting) (journal : List Item) (version partition : ℕ)
-    (hosted : Hosted) → slice_get (journal_plan_at setting journal version) partition ≡ Some hosted
-    → IsTrue (is_version journal version)
-unfolding journal_plan_at policy_in
+    (hosted : HostedPolicyPartition) → slice_get (journal_plan_at setting journal version) partition ≡ Some hosted
+    → IsTrue (is_journal_version journal version)
+unfolding journal_plan_at machine_policy_in
 part_there setting journal zero partition hosted is = absurd cc
 part_there setting journal (suc version) partition hosted is =
-    by_file (file_of journal (suc version)) is
+    by_file (journal_version_file journal (suc version)) is
   where
     by_file : (o : Option ℕ)
-        → slice_get (option_map_or (λ rows. setting_hosted_or_none (setting.plan rows)) (option_and_then (λ file.
-        result_ok (setting_policy_by setting (policy_in setting journal version) file)) o) []) partition
+        → slice_get (option_map_or (λ rows. machine_hosted_or_none (setting.plan rows)) (option_and_then (λ file.
+        result_ok (machine_policy_by setting (machine_policy_in setting journal version) file)) o) []) partition
         ≡ Some hosted → IsTrue (is_some o)
     by_file None is = absurd cc
     by_file (Some file) is = refl
@@ -255,21 +255,21 @@ pub record ArePolicies (setting : Setting) (policies : List (List Row)) (journal
     : Type 0 where
   pub count : length policies ≡ journal_version_count journal
   pub each : (v : ℕ) → 1 ≤ v → v ≤ journal_version_count journal
-      → slice_get policies (v - 1) ≡ policy_in setting journal v
+      → slice_get policies (v - 1) ≡ machine_policy_in setting journal v
 
 -- the machine begins with the first one
-pub policies_begin : (setting : Setting) → IsSetting setting
+pub policies_begin : (setting : Setting) → IsMachineSetting setting
     → ArePolicies setting (first_machine setting).policies []
 unfolding journal_version_count
 policies_begin setting is = subst (λ policies. ArePolicies setting policies []) (sym begun) (record {
   count = refl;
   each = λ v above below. let first : v ≡ 1 = omega (arith, above, below) in
       ap (λ k. slice_get (is.first ∷ []) (k - 1)) first
-      ∙ sym (first_in setting [] is.first is.whole) ∙ ap (policy_in setting []) (sym first);
+      ∙ sym (first_in setting [] is.first is.whole) ∙ ap (machine_policy_in setting []) (sym first);
 })
   where
     begun : (first_machine setting).policies ≡ is.first ∷ []
-    begun = ap (λ file. option_to_list (result_ok (made_by file None))) is.whole
+    begun = ap (λ file. option_to_list (result_ok (machine_policy_made_by file None))) is.whole
 
 pub policies_stay : (setting : Setting) (policies : List (List Row)) (before after : List Item)
     → JournalPoliciesKeep before after → ArePolicies setting policies before
@@ -282,10 +282,10 @@ policies_stay setting policies before after keep are = record {
 -- each version has its policy there
 pub policy_there : (setting : Setting) (policies : List (List Row)) (journal : List Item)
     (v : ℕ) → ArePolicies setting policies journal → 1 ≤ v → v ≤ journal_version_count journal
-    → slice_get policies (v - 1) ≡ Some (policy_at setting journal v)
-unfolding policy_at
+    → slice_get policies (v - 1) ≡ Some (machine_policy_at setting journal v)
+unfolding machine_policy_at
 policy_there setting policies journal v are above below = some_there policies (v - 1)
-    (omega (arith, above, below, are.count)) (policy_in setting journal v) (are.each v above below)
+    (omega (arith, above, below, are.count)) (machine_policy_in setting journal v) (are.each v above below)
   where
     some_there : (policies : List (List Row)) (k : ℕ) → k < length policies
         → (o : Option (List Row)) → slice_get policies k ≡ o
@@ -310,14 +310,14 @@ snoc_new (y ∷ xs) x = snoc_new xs x
 newest_is : (setting : Setting) (machine : Machine) (journal : List Item)
     → ArePolicies setting machine.policies journal → 1 ≤ journal_version_count journal
     → machine_submitted_policy machine (length machine.policies)
-    ≡ policy_in setting journal (journal_version_count journal)
+    ≡ machine_policy_in setting journal (journal_version_count journal)
 newest_is setting machine journal are some =
     cc (are.count, are.each (journal_version_count journal) some (omega arith))
 
 -- the machine takes a submission, and gains the policy of the next version
 pub record TakesVersion (setting : Setting) (machine : Machine) (journal : List Item)
     (file version : ℕ) (rows : List Row) : Type 0 where
-  pub takes : Takes setting machine (Item.Submitted file version)
+  pub takes : MachineTakes setting machine (Item.Submitted file version)
       (record machine { policies = machine.policies ++ rows ∷ [] })
   pub own : ArePolicies setting (machine.policies ++ rows ∷ [])
       (journal ++ Item.Submitted file version ∷ [])
@@ -344,12 +344,12 @@ takes_version setting machine journal file version rows numbers are next made = 
   after = journal ++ Item.Submitted file version ∷ []
 
   by_version : (v : ℕ) → 1 ≤ v → v ≤ journal_version_count after → (v ≡ version) ⊎ (v ≢ version)
-      → slice_get (machine.policies ++ rows ∷ []) (v - 1) ≡ policy_in setting after v
+      → slice_get (machine.policies ++ rows ∷ []) (v - 1) ≡ machine_policy_in setting after v
   by_version v above below (inl same) =
       let place : v - 1 ≡ length machine.policies = omega (arith, same, next, are.count) in
       ap (slice_get (machine.policies ++ rows ∷ [])) place ∙ snoc_new machine.policies rows
       ∙ sym (next_policy_in setting journal file version rows numbers next made)
-      ∙ ap (λ n. policy_in setting after n) (sym same)
+      ∙ ap (λ n. machine_policy_in setting after n) (sym same)
   by_version v above below (inr apart) =
       let old : v ≤ journal_version_count journal = omega (arith, count_submitted) in
       snoc_old machine.policies rows (v - 1) (omega (arith, above, old, are.count))

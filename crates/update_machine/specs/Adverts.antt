@@ -1,19 +1,19 @@
 -- What switches say of their own links, and the adverts that they have then (OSPF, RFC 2328,
 -- section 13.1); the routes that they find.
 use Rattle.std.specs.Prelude.{if◌then◌else◌, ◌&&◌, ◌++◌, ◌+◌, ◌==◌, Bool, List, None, Option, Some, count_by, false, filter_map, not, slice_set, true, ℕ}
-use Rattle.failover.specs.Exports.{held_advert, is_isolated, route_of}
+use Rattle.failover.specs.Exports.{held_advert, is_failover_target_isolated, route_of}
 use Rattle.base.specs.Exports.{switches}
 use Rattle.failover.specs.declared.advert.Advert.{Advert}
 use Rattle.journal.specs.declared.item.Item.{Item}
 use Rattle.update_machine.specs.Boots.{journal_boot_of, is_up}
 use Rattle.update_machine.specs.LinkMasks.{near, journal_adverts_of_others}
 use Rattle.update_machine.specs.Setting.{Setting}
-use Rattle.update_machine.specs.Steps.{StepItems, journal_steps_in}
+use Rattle.update_machine.specs.Steps.{MachineStepItems, journal_steps_in}
 
 -- ---- the own advert
 
 -- the switch was in this boot when the step began, and its usable links changed in the step
-abbrev pub journal_step_changes_links : Setting → ℕ → ℕ → StepItems → Bool
+abbrev pub journal_step_changes_links : Setting → ℕ → ℕ → MachineStepItems → Bool
 journal_step_changes_links setting s boot step =
     journal_boot_of step.before s == boot
     && not (near setting step.before s == near setting (step.before ++ step.items) s)
@@ -64,4 +64,4 @@ journal_route_from setting journal s targets down =
 -- the target is another switch, and no link that this switch knows, without those down, ends at it
 unfoldable pub is_cut_off_in_journal : Setting → List Item → ℕ → List ℕ → ℕ → Bool
 is_cut_off_in_journal setting journal s down target =
-    is_isolated (journal_adverts_known setting journal s) s target (near setting journal s) down
+    is_failover_target_isolated (journal_adverts_known setting journal s) s target (near setting journal s) down

@@ -6,7 +6,7 @@ use Rattle.ctrl_msg.specs.declared.message.Body.{Body}
 use Rattle.ctrl_msg.specs.declared.message.Body.TheVariants.{OpenAt, Stamp, CacheRule}
 use Rattle.five_tuple.specs.declared.header.Header.{Header}
 use Rattle.ternary.specs.Exports.{WordValue}
-use Rattle.switch_table.specs.Exports.{CacheValue, cache_after_accept, cache_after_carry, cache_after_clear, after_expire, cache_after_raise, lookup_of}
+use Rattle.switch_table.specs.Exports.{CacheValue, cache_after_accept, cache_after_carry, cache_after_clear, cache_after_expire, cache_after_raise, switch_table_lookup_of}
 use Rattle.switch_table.specs.declared.search.Found.{Found}
 use Rattle.journal.specs.declared.item.Item.{Item}
 use Rattle.journal.specs.declared.item.Item.TheVariants as item
@@ -17,8 +17,8 @@ use Rattle.update_machine.specs.Touched.{machine_touched_by}
 use Rattle.update_machine.specs.Versions.{journal_stamp_of, journal_tables_at}
 
 -- a stamp that rises removes the entries of lower versions
-abbrev pub raised_from : ℕ → ℕ → CacheValue → CacheValue
-raised_from earlier stamp cache = if nat_lt earlier stamp then cache_after_raise stamp cache else cache
+abbrev pub machine_cache_raised_from : ℕ → ℕ → CacheValue → CacheValue
+machine_cache_raised_from earlier stamp cache = if nat_lt earlier stamp then cache_after_raise stamp cache else cache
 
 -- a stamp that rises to a version carries the entries to it, except those that its change touches
 abbrev pub machine_cache_carried_from : List WordValue → ℕ → ℕ → CacheValue → CacheValue
@@ -37,7 +37,7 @@ machine_cache_after touched_of earlier stamp number cache (CacheRule version wor
       message = number;
     }) cache
 machine_cache_after touched_of earlier stamp number cache (OpenAt boot version) =
-    raised_from earlier stamp cache
+    machine_cache_raised_from earlier stamp cache
 machine_cache_after touched_of earlier stamp number cache (Stamp boot version touched) =
     machine_cache_carried_from (touched_of version) earlier version cache
 machine_cache_after touched_of earlier stamp number cache _ = cache
@@ -47,7 +47,7 @@ changes_journal_cache setting s before cache (item.Down switch) = if switch == s
 changes_journal_cache setting s before cache (item.Booted switch boot) =
     if switch == s then cache_after_clear cache else cache
 changes_journal_cache setting s before cache (item.Expired switch place message) =
-    if switch == s then after_expire place cache else cache
+    if switch == s then cache_after_expire place cache else cache
 changes_journal_cache setting s before cache (item.Delivered number) =
     let stamp = journal_stamp_of (before ++ item.Delivered number ∷ []) s in
     option_map_or
@@ -62,7 +62,7 @@ journal_cache_of setting journal s =
     journal_folded_value (changes_journal_cache setting s) (record { entries = []; capacity = setting.net.cache }) journal
 
 -- what the cache of the switch and the tables of its stamp say about the header
-unfoldable pub lookup_at : Setting → List Item → ℕ → Header → Found
-lookup_at setting journal s header =
-    lookup_of (journal_cache_of setting journal s).entries
+unfoldable pub machine_lookup_at : Setting → List Item → ℕ → Header → Found
+machine_lookup_at setting journal s header =
+    switch_table_lookup_of (journal_cache_of setting journal s).entries
     (journal_tables_at setting journal (journal_stamp_of journal s) s) header

@@ -4,9 +4,9 @@ use Rattle.std.specs.Prelude.{[], ◌&&◌, ◌==◌, ◌∷◌, Bool, List, Non
 use Rattle.ctrl_msg.specs.declared.message.Body.{Body}
 use Rattle.ctrl_msg.specs.declared.message.Body.TheVariants.{Install, OpenAt, Stamp, Advertise, Hello, Installed, Stamped}
 use Rattle.ctrl_msg.specs.declared.message.Message.{Message}
-use Rattle.ctrl_msg.specs.Exports.{to_controller}
+use Rattle.ctrl_msg.specs.Exports.{message_to_controller}
 use Rattle.ctrl_msg.specs.declared.message.Place.TheVariants as receiver
-use Rattle.failover.specs.Exports.{is_news}
+use Rattle.failover.specs.Exports.{is_advert_news}
 use Rattle.base.specs.Exports.{has}
 use Rattle.failover.specs.declared.advert.Advert.{Advert}
 use Rattle.journal.specs.declared.item.Item.{Item}
@@ -15,19 +15,19 @@ use Rattle.update_machine.specs.Adverts.{journal_adverts_known, journal_held_adv
 use Rattle.update_machine.specs.Boots.{is_up, journal_body_to_switch}
 use Rattle.update_machine.specs.LinkMasks.{near}
 use Rattle.update_machine.specs.Marks.{journal_known_boot}
-use Rattle.update_machine.specs.Messages.{send_items}
-use Rattle.update_machine.specs.Moves.{in_turn, journal_items_then}
+use Rattle.update_machine.specs.Messages.{machine_send_items}
+use Rattle.update_machine.specs.Moves.{machine_blocks_in_turn, journal_items_then}
 use Rattle.update_machine.specs.Setting.{Setting}
-use Rattle.update_machine.specs.SwitchNumbers.{setting_switches_of}
-use Rattle.update_machine.specs.Settling.{machine_installs_to, settling, machine_message_to_switch}
+use Rattle.update_machine.specs.SwitchNumbers.{machine_switches_of}
+use Rattle.update_machine.specs.Settling.{machine_installs_to, machine_settling, machine_message_to_switch}
 use Rattle.update_machine.specs.Versions.{journal_stamp_of}
 use Rattle.update_machine.specs.Links.{serves, journal_message_of}
 
 -- ---- link changes: `before` is the journal before the step
 
 -- the switches of a mask, ascending
-abbrev pub setting_switches_in : Setting → ℕ → List ℕ
-setting_switches_in setting mask = filter (has mask) (setting_switches_of setting)
+abbrev pub machine_switches_in : Setting → ℕ → List ℕ
+machine_switches_in setting mask = filter (has mask) (machine_switches_of setting)
 
 abbrev pub machine_advert_to : ℕ → Advert → Message
 machine_advert_to s advert = machine_message_to_switch s (Advertise advert)
@@ -47,14 +47,14 @@ machine_messages_over_link setting before journal s neighbour = elim (has (near 
 
 abbrev pub machine_messages_of : Setting → List Item → List Item → ℕ → List Message
 machine_messages_of setting before journal s =
-    flat_map (machine_messages_over_link setting before journal s) (setting_switches_in setting (near setting journal s))
+    flat_map (machine_messages_over_link setting before journal s) (machine_switches_in setting (near setting journal s))
 
 -- each switch whose links changed sends to its neighbours, all by ascending number
 unfoldable pub journal_link_changes : Setting → List Item → List Item → List Item
 journal_link_changes setting before journal =
-    send_items journal
+    machine_send_items journal
     (flat_map (machine_messages_of setting before journal)
-    (filter (journal_usable_links_changed setting before journal) (setting_switches_of setting)))
+    (filter (journal_usable_links_changed setting before journal) (machine_switches_of setting)))
 
 -- ---- at a switch
 
@@ -62,19 +62,19 @@ journal_link_changes setting before journal =
 abbrev pub machine_advert_passed_on : Setting → List Item → ℕ → Advert → List Message
 machine_advert_passed_on setting journal s advert =
     map (λ neighbour. machine_advert_to neighbour advert)
-    (setting_switches_in setting (near setting journal s))
+    (machine_switches_in setting (near setting journal s))
 
 -- the advert is of another switch, and newer than the one that the switch knew, if any
 abbrev pub is_journal_news_to : Setting → List Item → ℕ → Advert → Bool
 is_journal_news_to setting before s advert =
-    not (advert.origin == s) && is_news (journal_adverts_known setting before s) advert
+    not (advert.origin == s) && is_advert_news (journal_adverts_known setting before s) advert
 
 -- a switch acknowledges tables and stamps, opens if it didn't serve, and passes news on
 unfoldable pub journal_switch_items : Setting → List Item → ℕ → Body → List Item → List Item
 journal_switch_items setting before s (Install boot tables) journal =
-    send_items journal (to_controller (Installed s boot tables.version) ∷ [])
+    machine_send_items journal (message_to_controller (Installed s boot tables.version) ∷ [])
 journal_switch_items setting before s (Stamp boot version touched) journal =
-    send_items journal (to_controller (Stamped s boot version) ∷ [])
+    machine_send_items journal (message_to_controller (Stamped s boot version) ∷ [])
 journal_switch_items setting before s (OpenAt boot version) journal = elim (serves before s) [
   | true ↦ []
   | false ↦ journal_items_then (item.Opened s (journal_stamp_of journal s) ∷ []) (journal_link_changes setting before)
@@ -82,7 +82,7 @@ journal_switch_items setting before s (OpenAt boot version) journal = elim (serv
 ]
 journal_switch_items setting before s (Advertise advert) journal =
     elim (is_journal_news_to setting before s advert) [
-      | true ↦ send_items journal (machine_advert_passed_on setting journal s advert)
+      | true ↦ machine_send_items journal (machine_advert_passed_on setting journal s advert)
       | false ↦ []
     ]
 journal_switch_items setting before s _ journal = []
@@ -101,9 +101,9 @@ machine_after_hello setting before (Hello s boot) journal = elim (is_new_boot_in
 ]
 machine_after_hello setting before _ journal = []
 
-unfoldable pub controller_items : Setting → List Item → Body → List Item → List Item
-controller_items setting before body journal =
-    in_turn (settling setting ∷ machine_after_hello setting before body ∷ []) journal
+unfoldable pub machine_controller_items : Setting → List Item → Body → List Item → List Item
+machine_controller_items setting before body journal =
+    machine_blocks_in_turn (machine_settling setting ∷ machine_after_hello setting before body ∷ []) journal
 
 -- ---- a delivery
 
@@ -111,7 +111,7 @@ controller_items setting before body journal =
 -- is for another boot
 abbrev pub machine_received_items : Setting → List Item → ℕ → Message → List Item → List Item
 machine_received_items setting before number message journal = elim message.to [
-  | receiver.Controller ↦ controller_items setting before message.body journal
+  | receiver.Controller ↦ machine_controller_items setting before message.body journal
   | receiver.Switch s ↦ elim (journal_body_to_switch before s number) [
     | None ↦ []
     | Some body ↦ journal_switch_items setting before s body journal

@@ -11,8 +11,8 @@ journal_last_given tells [] = None
 journal_last_given tells (item ∷ items) = option_or (journal_last_given tells items) (tells item)
 
 -- how many items satisfy the test
-abbrev pub count_of : (Item → Bool) → List Item → ℕ
-count_of test journal = count_by test journal
+abbrev pub machine_count_of : (Item → Bool) → List Item → ℕ
+machine_count_of test journal = count_by test journal
 
 -- what the items give, in order
 abbrev pub journal_all_given : {X : Type 0} → (Item → List X) → List Item → List X

@@ -2,7 +2,7 @@
 use Rattle.std.specs.Prelude.{[], ◌++◌, ◌<◌, ◌∷◌, ◌≡◌, ◌≤◌, List, None, Option, Some, ℕ, ⊤}
 use Rattle.journal.specs.declared.item.Item.{Item}
 use Rattle.steps.specs.declared.step.Event.{Event}
-use Rattle.update_machine.specs.Answers.{Answers, AreJournalFirstSteps, StepOfRow, journal_after_steps}
+use Rattle.update_machine.specs.Answers.{Answers, AreJournalFirstSteps, MachineStepOfRow, journal_after_steps}
 use Rattle.update_machine.specs.Messages.{journal_next_message}
 use Rattle.update_machine.specs.Pieces.{piece}
 use Rattle.update_machine.specs.Setting.{Setting}
@@ -17,14 +17,14 @@ abbrev pub IsMachineJournalFull : List Item → Type 0
 IsMachineJournalFull journal = machine_journal_full_at < journal_next_message journal
 
 -- a step may begin after this journal
-abbrev pub HasRoom : List Item → Type 0
-HasRoom journal = journal_next_message journal ≤ machine_journal_full_at
+abbrev pub MachineJournalHasRoom : List Item → Type 0
+MachineJournalHasRoom journal = journal_next_message journal ≤ machine_journal_full_at
 
 -- each of these steps begins with room, the first one after this journal
-abbrev pub MachineJournalsHaveRoom : Setting → List Item → List StepOfRow → Type 0
+abbrev pub MachineJournalsHaveRoom : Setting → List Item → List MachineStepOfRow → Type 0
 MachineJournalsHaveRoom setting before [] = ⊤
 MachineJournalsHaveRoom setting before (next ∷ steps) =
-    HasRoom before × MachineJournalsHaveRoom setting (before ++ piece setting before next.row next.step) steps
+    MachineJournalHasRoom before × MachineJournalsHaveRoom setting (before ++ piece setting before next.row next.step) steps
 
 -- the journal answers the events, and each of their steps began with room
 pub record JournalAnswersWithRoom (setting : Setting) (events : List Event) (journal : List Item)
@@ -36,8 +36,8 @@ pub record JournalAnswersWithRoom (setting : Setting) (events : List Event) (jou
 -- it is full, and the next step, which isn't taken, is of this row
 pub record JournalStopsFull (setting : Setting) (events : List Event) (journal : List Item) (row : ℕ)
     : Type 0 where
-  pub steps : List StepOfRow
-  pub next : StepOfRow
+  pub steps : List MachineStepOfRow
+  pub next : MachineStepOfRow
   pub allowed : AreJournalFirstSteps setting 1 events [] (steps ++ next ∷ [])
   pub written : journal ≡ journal_after_steps setting [] steps
   pub room : MachineJournalsHaveRoom setting [] steps

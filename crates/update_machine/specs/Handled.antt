@@ -5,9 +5,9 @@ use Rattle.base.specs.Exports.{list_any}
 use Rattle.journal.specs.declared.item.Item.{Item}
 use Rattle.journal.specs.declared.item.Item.TheVariants as item
 use Rattle.steps.specs.declared.step.Step.TheVariants.{Hop}
-use Rattle.update_machine.specs.Folds.{count_of}
+use Rattle.update_machine.specs.Folds.{machine_count_of}
 use Rattle.update_machine.specs.Travels.{journal_travels_at}
-use Rattle.update_machine.specs.Steps.{StepItems, journal_steps_in}
+use Rattle.update_machine.specs.Steps.{MachineStepItems, journal_steps_in}
 
 -- a packet entered, or is closed
 abbrev pub is_machine_entry_at : ℕ → Item → Bool
@@ -31,7 +31,7 @@ abbrev pub journal_hop_stays_on_way : List Item → Bool
 journal_hop_stays_on_way items = list_any is_machine_packet_move items || machine_stuck_at_link items
 
 -- a hop of a packet that was at the switch is a call there, and another one if it arrives
-abbrev pub journal_hop_calls : ℕ → StepItems → List Item → ℕ
+abbrev pub journal_hop_calls : ℕ → MachineStepItems → List Item → ℕ
 journal_hop_calls s step (item.Row row (Hop packet) ∷ items) =
     if journal_travels_at step.before s packet then (if journal_hop_stays_on_way items then 1 else 2) else 0
 journal_hop_calls s step _ = 0
@@ -44,5 +44,5 @@ most_journal_handled = 2 ^ 64 - 1
 unfoldable pub journal_handled_count : List Item → ℕ → ℕ
 journal_handled_count journal s =
     min most_journal_handled
-    (count_of (is_machine_entry_at s) journal
+    (machine_count_of (is_machine_entry_at s) journal
     + sum_by (λ step. journal_hop_calls s step step.items) (journal_steps_in journal))

@@ -9,7 +9,7 @@ use Rattle.ctrl_msg.specs.declared.message.Body.TheVariants.{Advertise}
 use Rattle.ctrl_msg.specs.declared.message.Message.{Message}
 use Rattle.ctrl_msg.specs.declared.message.Place.{Place}
 use Rattle.ctrl_msg.specs.declared.message.Place.TheVariants as receiver
-use Rattle.net_file.specs.Exports.{are_linked_in_net, joins}
+use Rattle.net_file.specs.Exports.{are_linked_in_net, net_link_joins}
 use Rattle.net_file.specs.declared.net.LinkRow.{LinkRow}
 use Rattle.journal.specs.declared.item.Item.{Item}
 use Rattle.journal.specs.declared.item.Item.TheVariants as item
@@ -44,7 +44,7 @@ is_usable_in_journal journal link =
 -- a usable link joins these switches
 abbrev pub journal_can_use : Setting → List Item → ℕ → ℕ → Bool
 journal_can_use setting journal one two =
-    list_any (λ link. joins one two link && is_usable_in_journal journal link) setting.net.links
+    list_any (λ link. net_link_joins one two link && is_usable_in_journal journal link) setting.net.links
 
 -- ---- the links that a switch knows
 
@@ -91,20 +91,20 @@ changes_journal_claim s one before claim (item.Delivered number) =
 changes_journal_claim s one before claim _ = claim
 
 -- at the beginning each switch knows each one's links in the network
-abbrev pub setting_first_claim : Setting → ℕ → JournalClaim
-setting_first_claim setting one = record { boot = 1; seq = 1; links = are_linked_in_net setting.net.links one }
+abbrev pub machine_first_claim : Setting → ℕ → JournalClaim
+machine_first_claim setting one = record { boot = 1; seq = 1; links = are_linked_in_net setting.net.links one }
 
 -- the newest claim of switch one that switch s, which is up, heard in its boot, or began with
 unfoldable pub journal_claim_of : Setting → List Item → ℕ → ℕ → Option JournalClaim
 journal_claim_of setting journal s one =
-    journal_folded_value (changes_journal_claim s one) (Some (setting_first_claim setting one)) journal
+    journal_folded_value (changes_journal_claim s one) (Some (machine_first_claim setting one)) journal
 
 -- as switch s sees it, switch one has a link to two: it sees its own, and uses the claims of others
-abbrev pub is_end : Setting → List Item → ℕ → ℕ → ℕ → Bool
-is_end setting journal s one two = if one == s then journal_can_use setting journal s two
+abbrev pub is_journal_link_end : Setting → List Item → ℕ → ℕ → ℕ → Bool
+is_journal_link_end setting journal s one two = if one == s then journal_can_use setting journal s two
     else option_map_or (λ claim. claim.links two) (journal_claim_of setting journal s one) false
 
 -- switch s knows the link of two switches: each of them has one to the other
 abbrev pub journal_knows_link : Setting → List Item → ℕ → ℕ → ℕ → Bool
 journal_knows_link setting journal s one two = not (one == two)
-    && is_end setting journal s one two && is_end setting journal s two one
+    && is_journal_link_end setting journal s one two && is_journal_link_end setting journal s two one

@@ -5,27 +5,27 @@
 use Rattle.std.specs.Prelude.{[], if◌then◌else◌, ◌++◌, ◌+◌, ◌-◌, ◌<◌, ◌==◌, ◌∷◌, ◌≡◌, List, None, Option, Some, length, option_map, option_to_list, slice_get, ℕ, ⊤}
 use Rattle.base.specs.Exports.{result_ok}
 use Rattle.five_tuple.specs.declared.header.Header.{Header}
-use Rattle.policy_rules.specs.Exports.{IsFirstMatch}
+use Rattle.policy_rules.specs.Exports.{IsFirstPolicyMatch}
 use Rattle.policy_rules.specs.declared.policy.Row.{Row}
 use Rattle.policy_rules.specs.declared.policy.Hit.{Hit}
 use Rattle.policy_rules.specs.declared.policy.Action.TheVariants as action
 use Rattle.journal.specs.declared.item.Item.{Item}
 use Rattle.journal.specs.declared.item.Item.TheVariants as item
-use Rattle.update_machine.specs.Setting.{Setting, setting_policy_by}
+use Rattle.update_machine.specs.Setting.{Setting, machine_policy_by}
 
 -- how a packet ends
-pub data End : Type 0 where
-  Dropped : End
-  LeftBy : (port : ℕ) → End
-  Lost : End
-  Stuck : End
+pub data MachinePacketEnd : Type 0 where
+  Dropped : MachinePacketEnd
+  LeftBy : (port : ℕ) → MachinePacketEnd
+  Lost : MachinePacketEnd
+  Stuck : MachinePacketEnd
 
 -- what the machine knows of a packet: header, mark at entry, decision and end
 pub record Packet : Type 0 where
   pub header : Header
   pub entry_mark : ℕ
   pub decision : Option Hit
-  pub end : Option End
+  pub end : Option MachinePacketEnd
 
 -- the policies of the versions, the first version's first; the mark up to which versions are
 -- retired; the packets by number
@@ -37,7 +37,7 @@ pub record Machine : Type 0 where
 -- it begins with the policy of the first file, the mark 0 and no packet
 abbrev pub first_machine : Setting → Machine
 first_machine setting = record {
-  policies = option_to_list (result_ok (setting_policy_by setting None 1));
+  policies = option_to_list (result_ok (machine_policy_by setting None 1));
   mark = 0;
   packets = λ _. None;
 }
@@ -74,7 +74,7 @@ pub record MachineEnters (old : Machine) (number : ℕ) (header : Header) (new :
       (record { header = header; entry_mark = old.mark; decision = None; end = None })
 
 -- a packet gets, once, the first match of one whole version that wasn't retired when it entered
-pub record Decides (old : Machine) (number version : ℕ) (hit : Hit) (new : Machine) : Type 0 where
+pub record MachineDecides (old : Machine) (number version : ℕ) (hit : Hit) (new : Machine) : Type 0 where
   pub packet : Packet
   pub policy : List Row
   pub entered : old.packets number ≡ Some packet
@@ -82,18 +82,18 @@ pub record Decides (old : Machine) (number version : ℕ) (hit : Hit) (new : Mac
   pub not_ended : packet.end ≡ None
   pub not_retired : packet.entry_mark < version
   pub submitted : machine_submitted_policy old version ≡ Some policy
-  pub first_match : IsFirstMatch policy packet.header hit
+  pub first_match : IsFirstPolicyMatch policy packet.header hit
   pub after : new ≡ machine_with_packet old number (record packet { decision = Some hit })
 
 -- a packet is dropped or leaves only as its decision says; it may be lost or get stuck at any time
-abbrev pub MachinePacketMayEnd : Packet → End → Type 0
+abbrev pub MachinePacketMayEnd : Packet → MachinePacketEnd → Type 0
 MachinePacketMayEnd packet Dropped = option_map (λ hit. hit.action) packet.decision ≡ Some action.Drop
 MachinePacketMayEnd packet (LeftBy port) =
     option_map (λ hit. hit.action) packet.decision ≡ Some (action.Out port)
 MachinePacketMayEnd packet _ = ⊤
 
 -- a packet ends, and ends once
-pub record Ends (old : Machine) (number : ℕ) (end : End) (new : Machine) : Type 0 where
+pub record MachineEndsPacket (old : Machine) (number : ℕ) (end : MachinePacketEnd) (new : Machine) : Type 0 where
   pub packet : Packet
   pub entered : old.packets number ≡ Some packet
   pub not_ended : packet.end ≡ None
@@ -101,26 +101,26 @@ pub record Ends (old : Machine) (number : ℕ) (end : End) (new : Machine) : Typ
   pub after : new ≡ machine_with_packet old number (record packet { end = Some end })
 
 -- what an item does to the machine: a move that the machine may make, or nothing
-abbrev pub Takes : Setting → Machine → Item → Machine → Type 0
-Takes setting old (item.Submitted file version) new =
+abbrev pub MachineTakes : Setting → Machine → Item → Machine → Type 0
+MachineTakes setting old (item.Submitted file version) new =
     let newest = machine_submitted_policy old (length old.policies) in
-    MachineSubmits old version (result_ok (setting_policy_by setting newest file)) new
-Takes setting old (item.Retired version) new = MachineRetires old version new
-Takes setting old (item.Entered packet switch header) new = MachineEnters old packet header new
-Takes setting old (item.Decided packet version rule action how) new =
-    Decides old packet version (record { rule = rule; action = action }) new
-Takes setting old (item.Dropped packet) new = Ends old packet Dropped new
-Takes setting old (item.Left packet port leaving) new = Ends old packet (LeftBy port) new
-Takes setting old (item.Lost packet) new = Ends old packet Lost new
-Takes setting old (item.Stuck packet switch cause leg down) new = Ends old packet Stuck new
-Takes setting old _ new = new ≡ old
+    MachineSubmits old version (result_ok (machine_policy_by setting newest file)) new
+MachineTakes setting old (item.Retired version) new = MachineRetires old version new
+MachineTakes setting old (item.Entered packet switch header) new = MachineEnters old packet header new
+MachineTakes setting old (item.Decided packet version rule action how) new =
+    MachineDecides old packet version (record { rule = rule; action = action }) new
+MachineTakes setting old (item.Dropped packet) new = MachineEndsPacket old packet Dropped new
+MachineTakes setting old (item.Left packet port leaving) new = MachineEndsPacket old packet (LeftBy port) new
+MachineTakes setting old (item.Lost packet) new = MachineEndsPacket old packet Lost new
+MachineTakes setting old (item.Stuck packet switch cause leg down) new = MachineEndsPacket old packet Stuck new
+MachineTakes setting old _ new = new ≡ old
 
 -- the machine may take these items one after another
-abbrev pub Runs : Setting → Machine → List Item → Machine → Type 0
-Runs setting old [] new = new ≡ old
-Runs setting old (item ∷ items) new =
-    (middle : Machine) × Takes setting old item middle × Runs setting middle items new
+abbrev pub MachineRuns : Setting → Machine → List Item → Machine → Type 0
+MachineRuns setting old [] new = new ≡ old
+MachineRuns setting old (item ∷ items) new =
+    (middle : Machine) × MachineTakes setting old item middle × MachineRuns setting middle items new
 
 -- the journal is a run of the machine from its start
 abbrev pub IsMachineRun : Setting → List Item → Type 0
-IsMachineRun setting journal = (new : Machine) × Runs setting (first_machine setting) journal new
+IsMachineRun setting journal = (new : Machine) × MachineRuns setting (first_machine setting) journal new

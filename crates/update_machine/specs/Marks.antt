@@ -8,9 +8,9 @@ use Rattle.ctrl_msg.specs.declared.message.Body.TheVariants.{OpenAt, Hello, Inst
 use Rattle.journal.specs.declared.item.Item.{Item}
 use Rattle.journal.specs.declared.item.Item.TheVariants as item
 use Rattle.update_machine.specs.Folds.{journal_all_given, journal_folded_value, journal_last_given}
-use Rattle.update_machine.specs.Messages.{is_to_controller}
+use Rattle.update_machine.specs.Messages.{is_machine_receiver_controller}
 use Rattle.update_machine.specs.Setting.{Setting}
-use Rattle.update_machine.specs.SwitchNumbers.{setting_switches_of}
+use Rattle.update_machine.specs.SwitchNumbers.{machine_switches_of}
 use Rattle.update_machine.specs.Versions.{journal_version_count}
 use Rattle.update_machine.specs.Boots.{is_journal_receiver_switch}
 use Rattle.update_machine.specs.Links.{journal_message_of}
@@ -21,17 +21,17 @@ use Rattle.update_machine.specs.Links.{journal_message_of}
 abbrev pub journal_body_to_controller : List Item → ℕ → Option Body
 journal_body_to_controller before number = elim (journal_message_of before number) [
   | None ↦ None
-  | Some message ↦ if is_to_controller message.to then Some message.body else None
+  | Some message ↦ if is_machine_receiver_controller message.to then Some message.body else None
 ]
 
-abbrev pub changes_controller_heard : List Item → List Body → Item → List Body
-changes_controller_heard before bodies (item.Delivered number) =
+abbrev pub machine_changes_controller_heard : List Item → List Body → Item → List Body
+machine_changes_controller_heard before bodies (item.Delivered number) =
     bodies ++ option_to_list (journal_body_to_controller before number)
-changes_controller_heard before bodies _ = bodies
+machine_changes_controller_heard before bodies _ = bodies
 
 -- the bodies that were delivered to the controller
 unfoldable pub journal_controller_heard : List Item → List Body
-journal_controller_heard journal = journal_folded_value changes_controller_heard [] journal
+journal_controller_heard journal = journal_folded_value machine_changes_controller_heard [] journal
 
 -- ---- what it knows of a switch
 
@@ -49,15 +49,15 @@ journal_raises_known_boot before s number =
     option_map_or (λ boot. nat_lt (journal_known_boot before s) boot)
     (option_and_then (machine_hello_boot s) (journal_body_to_controller before number)) false
 
-abbrev pub item_changes_over : ℕ → List Item → Bool → Item → Bool
-item_changes_over s before over (item.OverNow switch) = if switch == s then true else over
-item_changes_over s before over (item.Delivered number) =
+abbrev pub machine_item_changes_over : ℕ → List Item → Bool → Item → Bool
+machine_item_changes_over s before over (item.OverNow switch) = if switch == s then true else over
+machine_item_changes_over s before over (item.Delivered number) =
     if journal_raises_known_boot before s number then false else over
-item_changes_over s before over _ = over
+machine_item_changes_over s before over _ = over
 
 -- there is an `OverNow` of the switch since its known boot became known
 unfoldable pub is_over : List Item → ℕ → Bool
-is_over journal s = journal_folded_value (item_changes_over s) false journal
+is_over journal s = journal_folded_value (machine_item_changes_over s) false journal
 
 abbrev pub machine_open_version_in : ℕ → Body → List ℕ
 machine_open_version_in boot (OpenAt of version) = if of == boot then version ∷ [] else []
@@ -93,7 +93,7 @@ is_joining journal s = not (is_over journal s) && not (is_member journal s)
 
 -- the members, ascending
 abbrev pub members : Setting → List Item → List ℕ
-members setting journal = filter (is_member journal) (setting_switches_of setting)
+members setting journal = filter (is_member journal) (machine_switches_of setting)
 
 abbrev pub machine_installed_version : ℕ → ℕ → Body → Option ℕ
 machine_installed_version s boot (Installed switch of version) =
@@ -122,12 +122,12 @@ acked_stamp journal s =
 
 -- ---- the marks
 
-abbrev pub gives_current : Item → Option ℕ
-gives_current (item.Current version) = Some version
-gives_current _ = None
+abbrev pub machine_item_gives_current : Item → Option ℕ
+machine_item_gives_current (item.Current version) = Some version
+machine_item_gives_current _ = None
 
 unfoldable pub journal_current_mark : List Item → ℕ
-journal_current_mark journal = unwrap_or (journal_last_given gives_current journal) 1
+journal_current_mark journal = unwrap_or (journal_last_given machine_item_gives_current journal) 1
 
 abbrev pub machine_item_gives_retired : Item → Option ℕ
 machine_item_gives_retired (item.Retired version) = Some version
@@ -137,8 +137,8 @@ unfoldable pub journal_retired_mark : List Item → ℕ
 journal_retired_mark journal = unwrap_or (journal_last_given machine_item_gives_retired journal) 0
 
 -- each member acknowledged the version
-abbrev pub all_acked : Setting → List Item → ℕ → Bool
-all_acked setting journal version =
+abbrev pub machine_all_acked : Setting → List Item → ℕ → Bool
+machine_all_acked setting journal version =
     list_all (λ s. has_acked journal s version) (members setting journal)
 
 -- this many versions may exist and not be retired, and this many in all
@@ -156,7 +156,7 @@ journal_later_versions journal =
 -- the greatest version up to which each member acknowledged every version above the current one
 unfoldable pub journal_next_current : Setting → List Item → ℕ
 journal_next_current setting journal =
-    journal_current_mark journal + length (take_while (all_acked setting journal) (journal_later_versions journal))
+    journal_current_mark journal + length (take_while (machine_all_acked setting journal) (journal_later_versions journal))
 
 -- the least of numbers, if there is one
 abbrev pub machine_least_number : List ℕ → Option ℕ
@@ -176,15 +176,15 @@ pub record MachineCurrentMayRise (setting : Setting) (before : List Item) (versi
   pub rises : journal_current_mark before < version
   pub there : version ≤ journal_version_count before
   pub acknowledged : (v : ℕ) → journal_current_mark before < v → v ≤ version →
-      IsTrue (all_acked setting before v)
+      IsTrue (machine_all_acked setting before v)
 
 -- the other clauses are true at the end of each step
 pub record AreMachineMarksSettled (setting : Setting) (journal : List Item) : Type 0 where
   -- (b) current is the last version, or a member didn't acknowledge the next one
   pub current : (journal_current_mark journal ≡ journal_version_count journal)
-      ⊎ IsFalse (all_acked setting journal (journal_current_mark journal + 1))
+      ⊎ IsFalse (machine_all_acked setting journal (journal_current_mark journal + 1))
   -- (c) no joining switch acknowledged the current version
   pub joining : All (λ s. IsTrue (is_joining journal s) →
-      IsFalse (has_acked journal s (journal_current_mark journal))) (setting_switches_of setting)
+      IsFalse (has_acked journal s (journal_current_mark journal))) (machine_switches_of setting)
   -- (d) retired is as far as the members' acknowledged stamps allow
   pub retired : journal_retired_mark journal ≡ journal_next_retired setting journal

@@ -4,10 +4,10 @@ use Rattle.std.specs.Prelude.{[], ◌+◌, ◌↔◌, ◌∷◌, ◌≡◌, ◌�
 use Rattle.base.specs.Exports.{range_with_len}
 use Rattle.journal.specs.declared.item.Item.{Item}
 use Rattle.journal.specs.declared.item.Item.TheVariants as item
-use Rattle.update_machine.specs.Folds.{journal_all_given, count_of}
-use Rattle.update_machine.specs.Messages.{is_sending, journal_next_message}
+use Rattle.update_machine.specs.Folds.{journal_all_given, machine_count_of}
+use Rattle.update_machine.specs.Messages.{is_machine_sending_item, journal_next_message}
 use Rattle.update_machine.specs.Packets.{journal_next_packet}
-use Rattle.update_machine.specs.Versions.{is_version, journal_version_count}
+use Rattle.update_machine.specs.Versions.{is_journal_version, journal_version_count}
 use Rattle.update_machine.specs.Travels.{journal_packets}
 
 abbrev pub machine_packet_number : Item → List ℕ
@@ -15,19 +15,19 @@ machine_packet_number (item.Entered packet switch header) = packet ∷ []
 machine_packet_number (item.Closed packet switch) = packet ∷ []
 machine_packet_number _ = []
 
-abbrev pub item_message_number : Item → List ℕ
-item_message_number (item.Sent number message) = number ∷ []
-item_message_number _ = []
+abbrev pub machine_item_message_number : Item → List ℕ
+machine_item_message_number (item.Sent number message) = number ∷ []
+machine_item_message_number _ = []
 
 -- the versions that exist are those from 1 to their count
 abbrev pub JournalVersionsAreNumbered : List Item → Type 0
-JournalVersionsAreNumbered journal = (v : ℕ) → IsTrue (is_version journal v)
+JournalVersionsAreNumbered journal = (v : ℕ) → IsTrue (is_journal_version journal v)
     ↔ ((1 ≤ v) × (v ≤ journal_version_count journal))
 
 -- the numbers are 1, 2 and so on, as many as there are packets, messages or versions
-pub record AreNumbered (journal : List Item) : Type 0 where
+pub record AreJournalNumbersWithoutGap (journal : List Item) : Type 0 where
   pub packets : journal_all_given machine_packet_number journal ≡ journal_packets journal
-  pub messages : journal_all_given item_message_number journal ≡ range_with_len 1 (count_of is_sending journal)
+  pub messages : journal_all_given machine_item_message_number journal ≡ range_with_len 1 (machine_count_of is_machine_sending_item journal)
   pub versions : JournalVersionsAreNumbered journal
 
 -- the cause of a number: it is the next one

@@ -5,18 +5,18 @@ use Rattle.five_tuple.specs.declared.header.Header.{Header}
 use Rattle.policy_rules.specs.declared.policy.Action.{Action}
 use Rattle.journal.specs.declared.item.Item.{Item}
 use Rattle.journal.specs.declared.item.Item.TheVariants as item
-use Rattle.update_machine.specs.Folds.{count_of, journal_last_given}
+use Rattle.update_machine.specs.Folds.{machine_count_of, journal_last_given}
 
 -- ---- numbers
 
-abbrev pub is_packet : Item → Bool
-is_packet (item.Entered packet switch header) = true
-is_packet (item.Closed packet switch) = true
-is_packet _ = false
+abbrev pub is_machine_packet_entry : Item → Bool
+is_machine_packet_entry (item.Entered packet switch header) = true
+is_machine_packet_entry (item.Closed packet switch) = true
+is_machine_packet_entry _ = false
 
 -- the number of the next packet
 unfoldable pub journal_next_packet : List Item → ℕ
-journal_next_packet journal = count_of is_packet journal + 1
+journal_next_packet journal = machine_count_of is_machine_packet_entry journal + 1
 
 -- ---- where it is
 
@@ -34,8 +34,8 @@ machine_item_gives_standing i (item.Hopped packet switch) = if packet == i then 
 machine_item_gives_standing i _ = None
 
 -- the switch where it is: that of its last `Entered` or `Hopped`
-unfoldable pub standing : List Item → ℕ → Option ℕ
-standing journal i = journal_last_given (machine_item_gives_standing i) journal
+unfoldable pub journal_standing_of : List Item → ℕ → Option ℕ
+journal_standing_of journal i = journal_last_given (machine_item_gives_standing i) journal
 
 -- ---- its decision
 

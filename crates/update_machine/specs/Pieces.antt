@@ -4,7 +4,7 @@ use Rattle.base.specs.Exports.{beq}
 use Rattle.std.specs.Prelude.{[], if◌then◌else◌, ◌++◌, ◌+◌, ◌-◌, ◌==◌, ◌∷◌, Bool, Err, List, None, Ok, Option, Some, false, flat_map, map, max, min, slice_get, true, unwrap_or, ℕ}
 use Rattle.ctrl_msg.specs.declared.message.Body.TheVariants.{Hello}
 use Rattle.ctrl_msg.specs.declared.message.Message.{Message}
-use Rattle.ctrl_msg.specs.Exports.{to_controller}
+use Rattle.ctrl_msg.specs.Exports.{message_to_controller}
 use Rattle.five_tuple.specs.declared.header.Header.{Header}
 use Rattle.policy_rules.specs.declared.applying.Inapplicable.{Inapplicable}
 use Rattle.policy_rules.specs.declared.applying.Inapplicable.TheVariants.{Absent, Taken, TooManyRows}
@@ -17,16 +17,16 @@ use Rattle.steps.specs.declared.step.Step.TheVariants.{Packet, Hop, Lose, Delive
 use Rattle.update_machine.specs.Adverts.{journal_held_adverts}
 use Rattle.update_machine.specs.Boots.{journal_boot_of, is_up}
 use Rattle.update_machine.specs.Caches.{journal_cache_of}
-use Rattle.update_machine.specs.Deliveries.{machine_advert_to, machine_delivery_items, journal_link_changes, setting_switches_in}
+use Rattle.update_machine.specs.Deliveries.{machine_advert_to, machine_delivery_items, journal_link_changes, machine_switches_in}
 use Rattle.update_machine.specs.Links.{is_link_up_in_journal, serves}
 use Rattle.update_machine.specs.Marks.{most_live_journal_versions, most_journal_versions, journal_retired_mark}
-use Rattle.update_machine.specs.Messages.{is_deliverable, send_items}
+use Rattle.update_machine.specs.Messages.{is_deliverable, machine_send_items}
 use Rattle.update_machine.specs.Moves.{machine_lookup_items, machine_move_items, journal_items_then}
-use Rattle.update_machine.specs.Packets.{journal_next_packet, standing}
+use Rattle.update_machine.specs.Packets.{journal_next_packet, journal_standing_of}
 use Rattle.update_machine.specs.Setting.{Setting}
-use Rattle.update_machine.specs.Settling.{journal_resent_by_controller, settling, submitted_items}
+use Rattle.update_machine.specs.Settling.{journal_resent_by_controller, machine_settling, machine_submitted_items}
 use Rattle.update_machine.specs.Versions.{journal_next_policy, journal_version_count}
-use Rattle.update_machine.specs.Travels.{journal_packets_at, travels}
+use Rattle.update_machine.specs.Travels.{journal_packets_at, travels_in_journal}
 use Rattle.update_machine.specs.LinkMasks.{near}
 
 abbrev pub nothing : List Item
@@ -42,21 +42,21 @@ machine_packet_items setting i s header journal = elim (serves journal s) [
 ]
 
 unfoldable pub machine_hop_items : Setting → ℕ → List Item → List Item
-machine_hop_items setting i journal = elim (travels journal i) [
+machine_hop_items setting i journal = elim (travels_in_journal journal i) [
   | false ↦ nothing
-  | true ↦ machine_move_items setting i (unwrap_or (standing journal i) 0) journal
+  | true ↦ machine_move_items setting i (unwrap_or (journal_standing_of journal i) 0) journal
 ]
 
-unfoldable pub lose_items : ℕ → List Item → List Item
-lose_items i journal = elim (travels journal i) [
+unfoldable pub machine_lose_items : ℕ → List Item → List Item
+machine_lose_items i journal = elim (travels_in_journal journal i) [
   | false ↦ nothing
   | true ↦ item.Lost i ∷ []
 ]
 
 -- ---- messages
 
-unfoldable pub deliver_items : Setting → List Item → ℕ → List Item → List Item
-deliver_items setting before number journal = elim (is_deliverable before number) [
+unfoldable pub machine_deliver_items : Setting → List Item → ℕ → List Item → List Item
+machine_deliver_items setting before number journal = elim (is_deliverable before number) [
   | false ↦ nothing
   | true ↦ journal_items_then (item.Delivered number ∷ []) (machine_delivery_items setting before number) journal
 ]
@@ -111,7 +111,7 @@ unfoldable pub machine_update_items : Setting → ℕ → List Item → List Ite
 machine_update_items setting file journal = elim (machine_update_code setting journal file) [
   | Some code ↦ item.Refused file code ∷ []
   | None ↦ journal_items_then (item.Submitted file (journal_version_count journal + 1) ∷ [])
-      (submitted_items setting)
+      (machine_submitted_items setting)
       journal
 ]
 
@@ -136,20 +136,20 @@ journal_crash_items setting before s journal = elim (is_up before s) [
 
 -- a switch that was down begins its next boot, and sends it to the controller
 abbrev pub machine_hello_of : List Item → ℕ → Message
-machine_hello_of journal s = to_controller (Hello s (journal_boot_of journal s))
+machine_hello_of journal s = message_to_controller (Hello s (journal_boot_of journal s))
 
-unfoldable pub restart_items : ℕ → List Item → List Item
-restart_items s journal = elim (is_up journal s) [
+unfoldable pub machine_restart_items : ℕ → List Item → List Item
+machine_restart_items s journal = elim (is_up journal s) [
   | true ↦ nothing
   | false ↦ journal_items_then (item.Booted s (journal_boot_of journal s + 1) ∷ [])
-      (λ booted. send_items booted (machine_hello_of booted s ∷ [])) journal
+      (λ booted. machine_send_items booted (machine_hello_of booted s ∷ [])) journal
 ]
 
 -- the controller no longer waits for a switch that is down
-unfoldable pub confirm_items : Setting → ℕ → List Item → List Item
-confirm_items setting s journal = elim (is_up journal s) [
+unfoldable pub machine_confirm_items : Setting → ℕ → List Item → List Item
+machine_confirm_items setting s journal = elim (is_up journal s) [
   | true ↦ nothing
-  | false ↦ journal_items_then (item.OverNow s ∷ []) (settling setting) journal
+  | false ↦ journal_items_then (item.OverNow s ∷ []) (machine_settling setting) journal
 ]
 
 -- a switch that is up sends its hello again, and to each neighbour every advert that it has
@@ -158,13 +158,13 @@ journal_resent_by_switch setting journal s = elim (is_up journal s) [
   | false ↦ []
   | true ↦ machine_hello_of journal s
       ∷ flat_map (λ neighbour. map (machine_advert_to neighbour) (journal_held_adverts setting journal s))
-      (setting_switches_in setting (near setting journal s))
+      (machine_switches_in setting (near setting journal s))
 ]
 
 -- these are sent, or nothing happens if there are none
 abbrev pub machine_sends_or_nothing : List Item → List Message → List Item
 machine_sends_or_nothing journal [] = nothing
-machine_sends_or_nothing journal (message ∷ messages) = send_items journal (message ∷ messages)
+machine_sends_or_nothing journal (message ∷ messages) = machine_send_items journal (message ∷ messages)
 
 unfoldable pub machine_resend_items : Setting → ℕ → List Item → List Item
 machine_resend_items setting s journal =
@@ -178,16 +178,16 @@ abbrev pub machine_step_items : Setting → List Item → Step → List Item →
 machine_step_items setting before (Packet switch header) =
     machine_packet_items setting (journal_next_packet before) switch header
 machine_step_items setting before (Hop packet) = machine_hop_items setting packet
-machine_step_items setting before (Lose packet) = lose_items packet
-machine_step_items setting before (Deliver message) = deliver_items setting before message
+machine_step_items setting before (Lose packet) = machine_lose_items packet
+machine_step_items setting before (Deliver message) = machine_deliver_items setting before message
 machine_step_items setting before (Forget message) = machine_forget_items message
 machine_step_items setting before (Expire switch place) = machine_expire_items setting switch place
 machine_step_items setting before (Update file) = machine_update_items setting file
 machine_step_items setting before (LinkDown one two) = machine_link_items setting before one two false
 machine_step_items setting before (LinkUp one two) = machine_link_items setting before one two true
 machine_step_items setting before (Crash switch) = journal_crash_items setting before switch
-machine_step_items setting before (Restart switch) = restart_items switch
-machine_step_items setting before (Confirm switch) = confirm_items setting switch
+machine_step_items setting before (Restart switch) = machine_restart_items switch
+machine_step_items setting before (Confirm switch) = machine_confirm_items setting switch
 machine_step_items setting before (Resend switch) = machine_resend_items setting switch
 
 -- what a step of this row writes after the journal

@@ -9,16 +9,16 @@ use Rattle.ctrl_msg.specs.declared.message.Body.{Body}
 use Rattle.ctrl_msg.specs.declared.message.Body.TheVariants.{Install, Stamp, Collect, Advertise, Hello, Installed, Stamped}
 use Rattle.ctrl_msg.specs.declared.message.Message.{Message}
 use Rattle.ctrl_msg.specs.declared.message.Place.TheVariants as receiver
-use Rattle.failover.specs.Exports.{is_newer}
+use Rattle.failover.specs.Exports.{is_newer_advert}
 use Rattle.journal.specs.declared.item.Item.{Item}
 use Rattle.journal.specs.declared.item.Item.TheVariants as item
-use Rattle.steps.specs.Exports.{HasSwitch}
+use Rattle.steps.specs.Exports.{StepSwitchExists}
 use Rattle.update_machine.specs.Boots.{journal_boot_of, is_up}
 use Rattle.update_machine.specs.Folds.{journal_last_given}
 use Rattle.update_machine.specs.Marks.{journal_current_mark}
-use Rattle.update_machine.specs.Messages.{was_delivered}
+use Rattle.update_machine.specs.Messages.{was_delivered_in_journal}
 use Rattle.update_machine.specs.Setting.{Setting}
-use Rattle.update_machine.specs.SwitchNumbers.{setting_switches_of}
+use Rattle.update_machine.specs.SwitchNumbers.{machine_switches_of}
 
 -- ---- which messages matter
 
@@ -29,12 +29,12 @@ machine_speaking_in_body (Installed s boot version) = Some (s, boot)
 machine_speaking_in_body (Stamped s boot version) = Some (s, boot)
 machine_speaking_in_body _ = None
 
-abbrev pub is_of_machine_boot : ℕ → ℕ → ℕ × ℕ → Bool
-is_of_machine_boot s boot (switch, of) = switch == s && of == boot
+abbrev pub is_of_switch_boot : ℕ → ℕ → ℕ × ℕ → Bool
+is_of_switch_boot s boot (switch, of) = switch == s && of == boot
 
-abbrev pub is_advert : Body → Bool
-is_advert (Advertise advert) = true
-is_advert _ = false
+abbrev pub is_machine_advert_body : Body → Bool
+is_machine_advert_body (Advertise advert) = true
+is_machine_advert_body _ = false
 
 -- the body carries this boot
 abbrev pub machine_body_carries_boot : ℕ → Body → Bool
@@ -50,22 +50,22 @@ abbrev pub is_machine_ack_below_version : ℕ → Body → Bool
 is_machine_ack_below_version current (Installed s boot version) = nat_lt version current
 is_machine_ack_below_version current _ = false
 
-abbrev pub item_begins_boot : ℕ → Item → Bool
-item_begins_boot s (item.Booted switch boot) = switch == s
-item_begins_boot s _ = false
+abbrev pub machine_item_begins_boot : ℕ → Item → Bool
+machine_item_begins_boot s (item.Booted switch boot) = switch == s
+machine_item_begins_boot s _ = false
 
 -- the message, with these items after it in the journal, matters to a switch that is up if the
 -- switch says it in its boot to the controller, and it is no old acknowledgement. It matters too if
 -- it was sent to the switch since that boot began, is an advert or for that boot, and no old tables
-abbrev pub matters : List Item → ℕ → Message → List Item → Bool
-matters journal s message after = elim message.to [
+abbrev pub machine_message_matters : List Item → ℕ → Message → List Item → Bool
+machine_message_matters journal s message after = elim message.to [
   | receiver.Controller ↦
       is_up journal s
-      && option_map_or (is_of_machine_boot s (journal_boot_of journal s)) (machine_speaking_in_body message.body) false
+      && option_map_or (is_of_switch_boot s (journal_boot_of journal s)) (machine_speaking_in_body message.body) false
       && not (is_machine_ack_below_version (journal_current_mark journal) message.body)
   | receiver.Switch to ↦
-      is_up journal s && to == s && not (list_any (item_begins_boot s) after)
-      && (is_advert message.body || machine_body_carries_boot (journal_boot_of journal s) message.body)
+      is_up journal s && to == s && not (list_any (machine_item_begins_boot s) after)
+      && (is_machine_advert_body message.body || machine_body_carries_boot (journal_boot_of journal s) message.body)
       && not (are_machine_tables_old (journal_current_mark journal) message.body)
 ]
 
@@ -78,7 +78,7 @@ is_machine_later_body (Collect boot version) (Collect of earlier) = boot == of &
 is_machine_later_body (Stamped s boot version) (Stamped t of earlier) =
     s == t && boot == of && nat_lt earlier version
 is_machine_later_body (Advertise advert) (Advertise earlier) =
-    advert.origin == earlier.origin && is_newer advert earlier
+    advert.origin == earlier.origin && is_newer_advert advert earlier
 is_machine_later_body _ _ = false
 
 -- the later message is to the same receiver, and says the same, or something later
@@ -92,19 +92,19 @@ pub record MachineMessageReplaces (later earlier : Message) : Type 0 where
 abbrev pub IsJournalMessageReplaced : Message → List Item → Type 0
 IsJournalMessageReplaced message [] = ⊥
 IsJournalMessageReplaced message (item.Sent number later ∷ after) =
-    (MachineMessageReplaces later message × IsTrue (was_delivered after number)) ⊎ IsJournalMessageReplaced message after
+    (MachineMessageReplaces later message × IsTrue (was_delivered_in_journal after number)) ⊎ IsJournalMessageReplaced message after
 IsJournalMessageReplaced message (_ ∷ after) = IsJournalMessageReplaced message after
 
 -- the message of this number, with these items after it, was delivered, or one that replaces it
 abbrev pub IsJournalMessageReceived : ℕ → Message → List Item → Type 0
-IsJournalMessageReceived number message after = IsTrue (was_delivered after number) ⊎ IsJournalMessageReplaced message after
+IsJournalMessageReceived number message after = IsTrue (was_delivered_in_journal after number) ⊎ IsJournalMessageReplaced message after
 
 -- the same is true of each message of these last items of the journal that matters to a switch of
 -- the network
 abbrev pub AreMachineMessagesReceived : Setting → List Item → List Item → Type 0
 AreMachineMessagesReceived setting journal [] = ⊤
 AreMachineMessagesReceived setting journal (item.Sent number message ∷ after) =
-    ((s : ℕ) → HasSwitch setting.net s → IsTrue (matters journal s message after)
+    ((s : ℕ) → StepSwitchExists setting.net s → IsTrue (machine_message_matters journal s message after)
     → IsJournalMessageReceived number message after) × AreMachineMessagesReceived setting journal after
 AreMachineMessagesReceived setting journal (_ ∷ after) = AreMachineMessagesReceived setting journal after
 
@@ -114,10 +114,10 @@ gives_journal_waited_for s (item.OverNow switch) = if switch == s then Some fals
 gives_journal_waited_for s _ = None
 
 -- the switch went down and there is no `OverNow` of it since
-abbrev pub is_waited_for : List Item → ℕ → Bool
-is_waited_for journal s = unwrap_or (journal_last_given (gives_journal_waited_for s) journal) false
+abbrev pub is_waited_for_in_journal : List Item → ℕ → Bool
+is_waited_for_in_journal journal s = unwrap_or (journal_last_given (gives_journal_waited_for s) journal) false
 
 pub record IsQuietMachineJournal (setting : Setting) (journal : List Item) : Type 0 where
-  pub switches : All (λ s. IsTrue (is_up journal s || not (is_waited_for journal s)))
-      (setting_switches_of setting)
+  pub switches : All (λ s. IsTrue (is_up journal s || not (is_waited_for_in_journal journal s)))
+      (machine_switches_of setting)
   pub messages : AreMachineMessagesReceived setting journal journal

@@ -9,7 +9,7 @@ use Rattle.update_machine.specs.Boots.{journal_boot_of}
 use Rattle.update_machine.specs.Folds.{journal_folded_value}
 
 -- a message, its number, and the boot of its receiver when it was sent: 0 for the controller
-pub record Sending : Type 0 where
+pub record MachineSending : Type 0 where
   pub number : ℕ
   pub message : Message
   pub boot : ℕ
@@ -18,7 +18,7 @@ abbrev pub journal_receiver_boot_at : List Item → Place → ℕ
 journal_receiver_boot_at before (receiver.Switch s) = journal_boot_of before s
 journal_receiver_boot_at before receiver.Controller = 0
 
-abbrev pub changes_journal_sendings : List Item → List Sending → Item → List Sending
+abbrev pub changes_journal_sendings : List Item → List MachineSending → Item → List MachineSending
 changes_journal_sendings before sendings (item.Sent number message) = sendings ++ record {
   number = number;
   message = message;
@@ -27,5 +27,5 @@ changes_journal_sendings before sendings (item.Sent number message) = sendings +
 changes_journal_sendings before sendings _ = sendings
 
 -- all that was sent, in order
-unfoldable pub sendings : List Item → List Sending
-sendings journal = journal_folded_value changes_journal_sendings [] journal
+unfoldable pub machine_sendings : List Item → List MachineSending
+machine_sendings journal = journal_folded_value changes_journal_sendings [] journal

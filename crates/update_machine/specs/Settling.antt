@@ -10,10 +10,10 @@ use Rattle.ctrl_msg.specs.declared.message.Place.TheVariants as receiver
 use Rattle.journal.specs.declared.item.Item.{Item}
 use Rattle.journal.specs.declared.item.Item.TheVariants as item
 use Rattle.update_machine.specs.Marks.{acked_stamp, journal_current_mark, has_acked, is_joining, is_member, is_over, journal_known_boot, members, journal_next_current, journal_next_retired, open_version, journal_retired_mark}
-use Rattle.update_machine.specs.Messages.{send_items}
-use Rattle.update_machine.specs.Moves.{in_turn, journal_items_then}
+use Rattle.update_machine.specs.Messages.{machine_send_items}
+use Rattle.update_machine.specs.Moves.{machine_blocks_in_turn, journal_items_then}
 use Rattle.update_machine.specs.Setting.{Setting}
-use Rattle.update_machine.specs.SwitchNumbers.{setting_switches_of}
+use Rattle.update_machine.specs.SwitchNumbers.{machine_switches_of}
 use Rattle.update_machine.specs.Touched.{machine_touched_by}
 use Rattle.update_machine.specs.Versions.{journal_tables_at, journal_version_count}
 
@@ -43,43 +43,43 @@ machine_collect_for journal version s = machine_message_to_switch s (Collect (jo
 -- ---- settling
 
 -- a mark rises as far as it may, and a message is sent to each member
-abbrev pub raised_items : (List Item → ℕ) → (Setting → List Item → ℕ) → (ℕ → Item)
+abbrev pub machine_raised_items : (List Item → ℕ) → (Setting → List Item → ℕ) → (ℕ → Item)
     → (List Item → ℕ → ℕ → Message) → Setting → List Item → List Item
-raised_items mark next says tells setting journal =
+machine_raised_items mark next says tells setting journal =
     let version = next setting journal in
     elim (nat_lt (mark journal) version) [
       | false ↦ []
       | true ↦ journal_items_then (says version ∷ [])
-          (λ raised. send_items raised (map (tells journal version) (members setting journal)))
+          (λ raised. machine_send_items raised (map (tells journal version) (members setting journal)))
           journal
     ]
 
 -- current rises as far as the members' acknowledgements allow, and they are told to stamp with it
-unfoldable pub current_items : Setting → List Item → List Item
-current_items setting journal =
-    raised_items journal_current_mark journal_next_current item.Current (journal_stamp_for setting) setting journal
+unfoldable pub machine_current_items : Setting → List Item → List Item
+machine_current_items setting journal =
+    machine_raised_items journal_current_mark journal_next_current item.Current (journal_stamp_for setting) setting journal
 
 -- the joining switches that acknowledged the current version
-abbrev pub opening_switches : Setting → List Item → List ℕ
-opening_switches setting journal =
+abbrev pub machine_opening_switches : Setting → List Item → List ℕ
+machine_opening_switches setting journal =
     filter (λ s. is_joining journal s && has_acked journal s (journal_current_mark journal))
-    (setting_switches_of setting)
+    (machine_switches_of setting)
 
 -- these switches are told to serve
 unfoldable pub machine_open_items : Setting → List Item → List Item
 machine_open_items setting journal =
-    send_items journal (map (journal_open_for journal (journal_current_mark journal))
-    (opening_switches setting journal))
+    machine_send_items journal (map (journal_open_for journal (journal_current_mark journal))
+    (machine_opening_switches setting journal))
 
 -- retired rises as far as the members' stamps allow, and they are told to drop those tables
 unfoldable pub machine_retired_items : Setting → List Item → List Item
 machine_retired_items setting journal =
-    raised_items journal_retired_mark journal_next_retired item.Retired machine_collect_for setting journal
+    machine_raised_items journal_retired_mark journal_next_retired item.Retired machine_collect_for setting journal
 
 -- the three parts, one after another
-unfoldable pub settling : Setting → List Item → List Item
-settling setting journal =
-    in_turn (current_items setting ∷ machine_open_items setting ∷ machine_retired_items setting ∷ []) journal
+unfoldable pub machine_settling : Setting → List Item → List Item
+machine_settling setting journal =
+    machine_blocks_in_turn (machine_current_items setting ∷ machine_open_items setting ∷ machine_retired_items setting ∷ []) journal
 
 -- ---- what else is sent
 
@@ -91,19 +91,19 @@ journal_versions_from_current journal =
 -- the tables of each version from the current one on are sent to a switch that began a boot
 unfoldable pub machine_installs_to : Setting → ℕ → List Item → List Item
 machine_installs_to setting s journal =
-    send_items journal
+    machine_send_items journal
     (map (λ version. journal_install_for setting journal version s) (journal_versions_from_current journal))
 
 -- the tables of the newest version are sent to each switch that isn't over
 unfoldable pub machine_installs_to_all : Setting → List Item → List Item
 machine_installs_to_all setting journal =
-    send_items journal
+    machine_send_items journal
     (map (journal_install_for setting journal (journal_version_count journal))
-    (filter (λ s. not (is_over journal s)) (setting_switches_of setting)))
+    (filter (λ s. not (is_over journal s)) (machine_switches_of setting)))
 
 -- a new version is submitted
-abbrev pub submitted_items : Setting → List Item → List Item
-submitted_items setting journal = in_turn (machine_installs_to_all setting ∷ settling setting ∷ []) journal
+abbrev pub machine_submitted_items : Setting → List Item → List Item
+machine_submitted_items setting journal = machine_blocks_in_turn (machine_installs_to_all setting ∷ machine_settling setting ∷ []) journal
 
 -- ---- sending again
 

@@ -4,5 +4,5 @@ use Rattle.base.specs.Exports.{range_with_len}
 use Rattle.update_machine.specs.Setting.{Setting}
 
 -- the numbers of the switches, ascending
-abbrev pub setting_switches_of : Setting → List ℕ
-setting_switches_of setting = range_with_len 0 (length setting.net.switches)
+abbrev pub machine_switches_of : Setting → List ℕ
+machine_switches_of setting = range_with_len 0 (length setting.net.switches)

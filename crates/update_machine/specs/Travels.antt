@@ -5,8 +5,8 @@ use Rattle.policy_rules.specs.declared.packet.Leg.{Leg}
 use Rattle.policy_rules.specs.declared.packet.Leg.TheVariants.{Seek, Exit}
 use Rattle.policy_rules.specs.declared.policy.Action.{Action}
 use Rattle.journal.specs.declared.item.Item.{Item}
-use Rattle.update_machine.specs.Folds.{count_of, journal_folded_value, journal_last_given}
-use Rattle.update_machine.specs.Packets.{is_packet, standing, journal_decision_of}
+use Rattle.update_machine.specs.Folds.{machine_count_of, journal_folded_value, journal_last_given}
+use Rattle.update_machine.specs.Packets.{is_machine_packet_entry, journal_standing_of, journal_decision_of}
 use Rattle.policy_rules.specs.declared.policy.Action.TheVariants as action
 use Rattle.journal.specs.declared.item.Item.TheVariants as item
 
@@ -28,24 +28,24 @@ machine_item_gives_travelling i (item.Stuck packet switch cause leg down) =
 machine_item_gives_travelling i _ = None
 
 -- it entered and hasn't ended
-unfoldable pub travels : List Item → ℕ → Bool
-travels journal i = unwrap_or (journal_last_given (machine_item_gives_travelling i) journal) false
+unfoldable pub travels_in_journal : List Item → ℕ → Bool
+travels_in_journal journal i = unwrap_or (journal_last_given (machine_item_gives_travelling i) journal) false
 
 -- the numbers of all packets, ascending
 abbrev pub journal_packets : List Item → List ℕ
-journal_packets journal = range_with_len 1 (count_of is_packet journal)
+journal_packets journal = range_with_len 1 (machine_count_of is_machine_packet_entry journal)
 
 -- the least number of a travelling packet
 unfoldable pub next_travelling : List Item → Option ℕ
-next_travelling journal = find (travels journal) (journal_packets journal)
+next_travelling journal = find (travels_in_journal journal) (journal_packets journal)
 
-abbrev pub is_at : ℕ → Option ℕ → Bool
-is_at s None = false
-is_at s (Some at) = at == s
+abbrev pub is_at_machine_switch : ℕ → Option ℕ → Bool
+is_at_machine_switch s None = false
+is_at_machine_switch s (Some at) = at == s
 
 -- it travels, and is at the switch
 abbrev pub journal_travels_at : List Item → ℕ → ℕ → Bool
-journal_travels_at journal s i = travels journal i && is_at s (standing journal i)
+journal_travels_at journal s i = travels_in_journal journal i && is_at_machine_switch s (journal_standing_of journal i)
 
 -- the packets that are at a switch on their way, ascending
 abbrev pub journal_packets_at : List Item → ℕ → List ℕ

@@ -14,21 +14,21 @@ use Rattle.switch_table.specs.declared.tables.Tables.{Tables}
 use Rattle.journal.specs.declared.item.Item.{Item}
 use Rattle.journal.specs.declared.item.Item.TheVariants as item
 use Rattle.update_machine.specs.Boots.{heard, is_first_boot_in_journal}
-use Rattle.update_machine.specs.Folds.{count_of}
-use Rattle.update_machine.specs.Setting.{Setting, file_of, setting_policy_by, policy_in}
-use Rattle.partition.specs.Plan.{Hosted}
+use Rattle.update_machine.specs.Folds.{machine_count_of}
+use Rattle.update_machine.specs.Setting.{Setting, journal_version_file, machine_policy_by, machine_policy_in}
+use Rattle.partition.specs.Plan.{HostedPolicyPartition}
 
 -- ---- policies and plans
 
 -- the partitions of a plan with their targets; none if there is no plan
-abbrev pub setting_hosted_or_none : Result (List Hosted) NoPolicyPlan → List Hosted
-setting_hosted_or_none (Ok plan) = plan
-setting_hosted_or_none (Err why) = []
+abbrev pub machine_hosted_or_none : Result (List HostedPolicyPartition) NoPolicyPlan → List HostedPolicyPartition
+machine_hosted_or_none (Ok plan) = plan
+machine_hosted_or_none (Err why) = []
 
 -- the partitions of its plan with their targets; none if there is no policy or no plan
-unfoldable pub journal_plan_at : Setting → List Item → ℕ → List Hosted
+unfoldable pub journal_plan_at : Setting → List Item → ℕ → List HostedPolicyPartition
 journal_plan_at setting journal version =
-    option_map_or (λ rows. setting_hosted_or_none (setting.plan rows)) (policy_in setting journal version) []
+    option_map_or (λ rows. machine_hosted_or_none (setting.plan rows)) (machine_policy_in setting journal version) []
 
 abbrev pub is_journal_submission : Item → Bool
 is_journal_submission (item.Submitted file version) = true
@@ -36,26 +36,26 @@ is_journal_submission _ = false
 
 -- how many versions there are: the first policy's, and one for each that was submitted
 unfoldable pub journal_version_count : List Item → ℕ
-journal_version_count journal = count_of is_journal_submission journal + 1
+journal_version_count journal = machine_count_of is_journal_submission journal + 1
 
 -- the version exists: it is the first one, or was submitted
-abbrev pub is_version : List Item → ℕ → Bool
-is_version journal version = is_some (file_of journal version)
+abbrev pub is_journal_version : List Item → ℕ → Bool
+is_journal_version journal version = is_some (journal_version_file journal version)
 
 -- the rows of its policy; none if there is no policy
-unfoldable pub policy_at : Setting → List Item → ℕ → List Row
-policy_at setting journal version = unwrap_or (policy_in setting journal version) []
+unfoldable pub machine_policy_at : Setting → List Item → ℕ → List Row
+machine_policy_at setting journal version = unwrap_or (machine_policy_in setting journal version) []
 
 -- the policy of the next version, if this file is submitted: what the file makes of the policy of
 -- the newest one
 unfoldable pub journal_next_policy : Setting → List Item → ℕ → Result (List Row) Inapplicable
 journal_next_policy setting journal file =
-    setting_policy_by setting (policy_in setting journal (journal_version_count journal)) file
+    machine_policy_by setting (machine_policy_in setting journal (journal_version_count journal)) file
 
 -- the version has a policy, which has a plan
-pub record SettingHasPlan (setting : Setting) (journal : List Item) (version : ℕ) : Type 0 where
-  pub policy : policy_in setting journal version ≡ Some (policy_at setting journal version)
-  pub plan : setting.plan (policy_at setting journal version) ≡ Ok (journal_plan_at setting journal version)
+pub record MachineVersionHasPlan (setting : Setting) (journal : List Item) (version : ℕ) : Type 0 where
+  pub policy : machine_policy_in setting journal version ≡ Some (machine_policy_at setting journal version)
+  pub plan : setting.plan (machine_policy_at setting journal version) ≡ Ok (journal_plan_at setting journal version)
 
 -- the tables of a version that its plan gives switch s
 abbrev pub journal_tables_at : Setting → List Item → ℕ → ℕ → Tables
@@ -68,10 +68,10 @@ abbrev pub machine_greatest_stamp_number : List ℕ → ℕ
 machine_greatest_stamp_number numbers = fold max 0 numbers
 
 -- the version with which a switch may stamp after a body
-abbrev pub machine_stamp_message_version : Body → Option ℕ
-machine_stamp_message_version (OpenAt boot version) = Some version
-machine_stamp_message_version (Stamp boot version touched) = Some version
-machine_stamp_message_version _ = None
+abbrev pub machine_version_to_stamp_with : Body → Option ℕ
+machine_version_to_stamp_with (OpenAt boot version) = Some version
+machine_version_to_stamp_with (Stamp boot version touched) = Some version
+machine_version_to_stamp_with _ = None
 
 abbrev pub journal_first_stamp : List Item → ℕ → List ℕ
 journal_first_stamp journal s = if is_first_boot_in_journal journal s then 1 ∷ [] else []
@@ -80,21 +80,21 @@ journal_first_stamp journal s = if is_first_boot_in_journal journal s then 1 ∷
 -- counts in boot 1
 unfoldable pub journal_stamp_of : List Item → ℕ → ℕ
 journal_stamp_of journal s = machine_greatest_stamp_number (journal_first_stamp journal s
-    ++ filter_map machine_stamp_message_version (heard journal s))
+    ++ filter_map machine_version_to_stamp_with (heard journal s))
 
 -- ---- held versions
 
-abbrev pub installs_version : ℕ → Body → Bool
-installs_version v (Install boot tables) = tables.version == v
-installs_version v _ = false
+abbrev pub machine_body_installs_version : ℕ → Body → Bool
+machine_body_installs_version v (Install boot tables) = tables.version == v
+machine_body_installs_version v _ = false
 
-abbrev pub is_collect_message_of_version : ℕ → Body → Bool
-is_collect_message_of_version v (Collect boot version) = nat_le v version
-is_collect_message_of_version v _ = false
+abbrev pub message_collects_version : ℕ → Body → Bool
+message_collects_version v (Collect boot version) = nat_le v version
+message_collects_version v _ = false
 
 -- the version's tables were installed in this boot, or the switch began with them; and neither this
 -- version nor a greater one was collected
 unfoldable pub holds_version : List Item → ℕ → ℕ → Bool
 holds_version journal s v =
-    (list_any (installs_version v) (heard journal s) || (v == 1 && is_first_boot_in_journal journal s))
-    && not (list_any (is_collect_message_of_version v) (heard journal s))
+    (list_any (machine_body_installs_version v) (heard journal s) || (v == 1 && is_first_boot_in_journal journal s))
+    && not (list_any (message_collects_version v) (heard journal s))

@@ -6,8 +6,8 @@ ghost use Rattle.policy_rules.specs.declared.file.PolicyFile.TheVariants.{Whole}
 ghost use Rattle.policy_rules.specs.declared.policy.Row.{Row};
 ghost use Rattle.journal.specs.declared.item.Item.TheVariants.{Submitted};
 ghost use Rattle.steps.specs.declared.step.Event.TheVariants.{One};
-ghost use Rattle.update_machine.specs.Exports.{Answers, JournalAnswersSoFar, AreAnsweredByJournal, AreNumbered, AreMachineStepsOf, JournalBeginsAnswer, JournalConcernLaws, Event, HasMachinePlay, HaveMachineSteps, IsMachineJournalFull, IsMachinePlay, IsSetting, Item, JournalKnownLinkLaws, NamesSettingPort, Setting, MachineStartLaws, Step, StepOfRow, JournalStopsFull, JournalVersionsAreNumbered, journal_after_steps, setting_file_at, machine_journal_full_at, is_sending, is_version, setting_hosted_or_none, journal_next_policy, journal_plan_at, policy_at, policy_in, journal_version_count};
-ghost use Rattle.update_machine.specs.Folds.{journal_all_given, count_of, journal_folded_value, folded_journal_from, journal_last_given};
+ghost use Rattle.update_machine.specs.Exports.{Answers, JournalAnswersSoFar, AreAnsweredByJournal, AreJournalNumbersWithoutGap, AreMachineStepsOf, JournalBeginsAnswer, JournalConcernLaws, Event, HasMachinePlay, HaveMachineSteps, IsMachineJournalFull, IsMachinePlay, IsMachineSetting, Item, JournalKnownLinkLaws, NamesMachineSettingPort, Setting, MachineStartLaws, Step, MachineStepOfRow, JournalStopsFull, JournalVersionsAreNumbered, journal_after_steps, machine_file_at, machine_journal_full_at, is_machine_sending_item, is_journal_version, machine_hosted_or_none, journal_next_policy, journal_plan_at, machine_policy_at, machine_policy_in, journal_version_count};
+ghost use Rattle.update_machine.specs.Folds.{journal_all_given, machine_count_of, journal_folded_value, folded_journal_from, journal_last_given};
 ghost use Rattle.update_machine.specs.Setting.{journal_first_given};
 ghost use Rattle.update_machine.specs.declared.full.TheConstants.{FULL_AT};
 
@@ -21,7 +21,7 @@ pub fn machine_journals_grow<X>()
         → journal_first_given tells (before ++ items)
         ≡ option_or (journal_first_given tells before) (journal_first_given tells items) }
     ensures count { (test : Item → Bool) (before items : List Item)
-        → count_of test (before ++ items) ≡ count_of test before + count_of test items }
+        → machine_count_of test (before ++ items) ≡ machine_count_of test before + machine_count_of test items }
     ensures given { (gives : Item → List X) (before items : List Item)
         → journal_all_given gives (before ++ items) ≡ journal_all_given gives before ++ journal_all_given gives items }
     ensures fold { (changes : List Item → X → Item → X) (start : X) (before items : List Item)
@@ -50,7 +50,7 @@ pub fn answers_exist()
         → AreAnsweredByJournal setting events ↔ HaveMachineSteps setting events }
     ensures single { (setting : Setting) (steps : List Step) → AreAnsweredByJournal setting (map One steps) }
     ensures goes_on { (setting : Setting) (events : List Event) (event : Event)
-        (journal : List Item) (steps : List StepOfRow) → Answers setting events journal
+        (journal : List Item) (steps : List MachineStepOfRow) → Answers setting events journal
         → AreMachineStepsOf setting (length events + 1) event journal steps
         → Answers setting (events ++ event ∷ []) (journal_after_steps setting journal steps) }
 {}
@@ -69,7 +69,7 @@ pub fn plays_are_one()
         → JournalStopsFull setting events journal row → JournalAnswersSoFar setting events journal }
     ensures begins { (setting : Setting) (events : List Event) (journal : List Item) (row : ℕ)
         → JournalStopsFull setting events journal row → JournalBeginsAnswer setting events journal }
-    ensures full { (journal : List Item) → IsMachineJournalFull journal ↔ machine_journal_full_at ≤ count_of is_sending journal }
+    ensures full { (journal : List Item) → IsMachineJournalFull journal ↔ machine_journal_full_at ≤ machine_count_of is_machine_sending_item journal }
     ensures constant { FULL_AT ≡ machine_journal_full_at }
 {}
 
@@ -77,40 +77,40 @@ pub fn plays_are_one()
 /// without a gap.
 pub fn machine_answers_are_numbered()
     ensures { (setting : Setting) (events : List Event) (journal : List Item)
-        → JournalBeginsAnswer setting events journal → AreNumbered journal }
+        → JournalBeginsAnswer setting events journal → AreJournalNumbersWithoutGap journal }
 {}
 
 /// A version that exists keeps its file whatever items follow, and it keeps its policy and its plan
 /// if all versions before it exist; in an answer each version from 1 to their count exists
 /// (`machine_answers_are_numbered`). The plan is that of the policy. The first version has the
 /// policy of the first file, and the version that is submitted next has the next policy: what its
-/// file makes of the policy of the newest version. If the setting satisfies `IsSetting`, each
-/// policy satisfies `IsPolicy` and names only ports of the network.
+/// file makes of the policy of the newest version. If the setting satisfies `IsMachineSetting`,
+/// each policy satisfies `IsPolicy` and names only ports of the network.
 pub fn machine_versions_keep_policies()
-    ensures there { (before items : List Item) (version : ℕ) → IsTrue (is_version before version)
-        → IsTrue (is_version (before ++ items) version) }
+    ensures there { (before items : List Item) (version : ℕ) → IsTrue (is_journal_version before version)
+        → IsTrue (is_journal_version (before ++ items) version) }
     ensures policy { (setting : Setting) (before items : List Item) (version : ℕ)
         → JournalVersionsAreNumbered before → version ≤ journal_version_count before
-        → policy_at setting (before ++ items) version ≡ policy_at setting before version }
+        → machine_policy_at setting (before ++ items) version ≡ machine_policy_at setting before version }
     ensures plan { (setting : Setting) (before items : List Item) (version : ℕ)
         → JournalVersionsAreNumbered before → version ≤ journal_version_count before
         → journal_plan_at setting (before ++ items) version ≡ journal_plan_at setting before version }
     ensures of_policy { (setting : Setting) (journal : List Item) (version : ℕ) (rows : List Row)
-        → policy_in setting journal version ≡ Some rows
-        → (policy_at setting journal version ≡ rows)
-        × (journal_plan_at setting journal version ≡ setting_hosted_or_none (setting.plan rows)) }
+        → machine_policy_in setting journal version ≡ Some rows
+        → (machine_policy_at setting journal version ≡ rows)
+        × (journal_plan_at setting journal version ≡ machine_hosted_or_none (setting.plan rows)) }
     ensures first { (setting : Setting) (journal : List Item) (rows : List Row)
-        → setting_file_at setting 1 ≡ Some (Whole rows) → (policy_at setting journal 1 ≡ rows)
-        × (journal_plan_at setting journal 1 ≡ setting_hosted_or_none (setting.plan rows)) }
+        → machine_file_at setting 1 ≡ Some (Whole rows) → (machine_policy_at setting journal 1 ≡ rows)
+        × (journal_plan_at setting journal 1 ≡ machine_hosted_or_none (setting.plan rows)) }
     ensures next { (setting : Setting) (before : List Item) (file version : ℕ) (rows : List Row)
         → JournalVersionsAreNumbered before → version ≡ journal_version_count before + 1
         → journal_next_policy setting before file ≡ Ok rows
-        → (policy_at setting (before ++ Submitted file version ∷ []) version ≡ rows)
+        → (machine_policy_at setting (before ++ Submitted file version ∷ []) version ≡ rows)
         × (journal_plan_at setting (before ++ Submitted file version ∷ []) version
-        ≡ setting_hosted_or_none (setting.plan rows)) }
-    ensures own { (setting : Setting) (journal : List Item) (version : ℕ) → IsSetting setting
-        → IsPolicy (policy_at setting journal version)
-        × All (λ row. NamesSettingPort setting row.action) (policy_at setting journal version) }
+        ≡ machine_hosted_or_none (setting.plan rows)) }
+    ensures own { (setting : Setting) (journal : List Item) (version : ℕ) → IsMachineSetting setting
+        → IsPolicy (machine_policy_at setting journal version)
+        × All (λ row. NamesMachineSettingPort setting row.action) (machine_policy_at setting journal version) }
 {}
 
 /// What a journal without items says.

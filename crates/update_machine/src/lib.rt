@@ -1,5 +1,5 @@
-//! The abstract machine that journals are judged by: what a journal says of its packets, messages,
-//! switches, versions and links, defined over the list of its items, and the laws about these.
+//! What a journal says of its packets, messages, switches, versions and links, and the abstract
+//! machine that judges it: definitions over the list of its items, and the laws about these.
 //!
 //! There are five ways to read a journal, each with one law (`machine_journals_grow`). A schedule
 //! has at most one answer (`machine_answers_are_one`), and has one if its flushes and drains end

@@ -2,11 +2,11 @@
 use Rattle.std.proofs.Common.{◌&&◌, ◌-◌, ◌<◌, ◌^◌, ◌||◌, ◌∙◌, ◌≡◌, ◌≤◌, ◌⊎◌, Bool, IsTrue, ap, arith, bit_or, cond, eq-eqb, eqb, false, inl, inr, max, ne_eqb, sym, true, ℕ, rules}
 use Rattle.base.proofs.Exports.{bit_at, bit_at-lt, bit_at-pow_other, bit_at-pow_same, bit_at-zero, bit_at_above, bit_at_or, cases_eq}
 use Rattle.version_update.specs.declared.record.SwitchRecord.{SwitchRecord}
-use Rattle.version_update.specs.Exports.{IsSoundUpdateRecord, mark_record_after_installed, first_record, has_acked, update_hello_recorded, update_takes_hello, mark_takes_installed}
+use Rattle.version_update.specs.Exports.{IsSoundUpdateRecord, mark_record_after_installed, first_update_record, has_acked, update_hello_recorded, update_takes_hello, mark_takes_installed}
 
-pub first_acked : (version : ℕ) → 1 ≤ version → has_acked first_record version ≡ eqb version 1
+pub first_acked : (version : ℕ) → 1 ≤ version → has_acked first_update_record version ≡ eqb version 1
 first_acked version low = elim (cases_eq version 1) [
-  | inl same ↦ ap (λ v. has_acked first_record v) same ∙ sym (eq-eqb version 1 same)
+  | inl same ↦ ap (λ v. has_acked first_update_record v) same ∙ sym (eq-eqb version 1 same)
   | inr other ↦ ap (λ d. eqb d 1) (bit_at-pow_other 0 (version - 1) (λ e. other (omega arith)))
       ∙ sym (ne_eqb version 1 other)
 ]

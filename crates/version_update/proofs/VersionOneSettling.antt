@@ -4,26 +4,26 @@ use Rattle.base.proofs.Exports.{All-cons, All-head, All-nil, All-tail, bit_at-ze
 use Rattle.version_update.specs.declared.record.Phase.TheVariants.{Member}
 use Rattle.version_update.specs.declared.record.SwitchRecord.{SwitchRecord}
 use Rattle.version_update.specs.declared.marks.Settled.{Settled}
-use Rattle.version_update.specs.Exports.{AreVersionMarksSettled, IsLeastOfMarks, MarksValue, Names, VersionMarksSettlingReports, CurrentRisesTo, Settles, least_of_marks, update_no_mark_rose, opened_update_record, update_joining_opens_at, mark_rises_to}
+use Rattle.version_update.specs.Exports.{AreVersionMarksSettled, IsLeastOfMarks, MarksValue, MaskNamesUpdateSwitches, VersionMarksSettlingReports, CurrentMarkRisesTo, SettlesVersionMarks, least_of_marks, update_no_mark_rose, opened_update_record, update_joining_opens_at, mark_rises_to}
 
 -- ---- one result
 
 -- a version that each member acknowledged isn't one that stops current
-rises_past : (marks : MarksValue) (low high : ℕ) → CurrentRisesTo marks low → CurrentRisesTo marks high
+rises_past : (marks : MarksValue) (low high : ℕ) → CurrentMarkRisesTo marks low → CurrentMarkRisesTo marks high
     → low < high → ⊥
 rises_past marks low high stops rises less = search rules
 
-one_current : (marks : MarksValue) (a b : ℕ) → CurrentRisesTo marks a → CurrentRisesTo marks b → a ≡ b
+one_current : (marks : MarksValue) (a b : ℕ) → CurrentMarkRisesTo marks a → CurrentMarkRisesTo marks b → a ≡ b
 one_current marks a b left right = search (rules, rises_past)
 
-pub one_result : (before a b : MarksValue) (x y : Settled) → Settles before a x → Settles before b y
+pub one_result : (before a b : MarksValue) (x y : Settled) → SettlesVersionMarks before a x → SettlesVersionMarks before b y
     → a ≡ b
 one_result before a b x y left right = search (rules, one_current)
 
 -- ---- one answer
 
 one_mask : (mask other : ℕ) (passes : SwitchRecord → Bool) (switches : List SwitchRecord)
-    → Names mask passes switches → Names other passes switches → mask ≡ other
+    → MaskNamesUpdateSwitches mask passes switches → MaskNamesUpdateSwitches other passes switches → mask ≡ other
 one_mask mask other passes switches one two = same_from_bits mask other (λ s. one s ∙ sym (two s))
 
 one_telling : (before after : MarksValue) (x y : Settled) → VersionMarksSettlingReports before after x
@@ -41,7 +41,7 @@ one_telling before after x y one two taken =
     ∙ ap (λ o. record y { retired = o; collects = x.collects }) retired
     ∙ ap (λ n. record y { collects = n }) collects
 
-pub one_answer : (before a b : MarksValue) (x y : Settled) → Settles before a x → Settles before b y
+pub one_answer : (before a b : MarksValue) (x y : Settled) → SettlesVersionMarks before a x → SettlesVersionMarks before b y
     → x.taken ≡ y.taken → x ≡ y
 one_answer before a b x y left right taken = one_telling before a x y left.tells
     (rw (one_result before a b x y left right) right.tells) taken
@@ -52,7 +52,7 @@ raised_none : (n : ℕ) → mark_rises_to n n ≡ None
 raised_none n = rw (le-ltb n n (omega arith)) refl
 
 names_none : (n : ℕ) (passes : SwitchRecord → Bool) (switches : List SwitchRecord)
-    → Names 0 (λ known. ltb n n && passes known) switches
+    → MaskNamesUpdateSwitches 0 (λ known. ltb n n && passes known) switches
 names_none n passes switches s = search (rules, bit_at-zero, le-ltb)
 
 all_stay : (current : ℕ) (switches : List SwitchRecord)
@@ -68,7 +68,7 @@ all_stay current (known ∷ more) closed =
     ap (λ l. known ∷ l) rest ∙ ap (λ (k : SwitchRecord). k ∷ map (opened_update_record current) more) same
 
 none_named : (current : ℕ) (switches : List SwitchRecord)
-    → All (λ known. IsFalse (update_joining_opens_at current known)) switches → Names 0 (update_joining_opens_at current) switches
+    → All (λ known. IsFalse (update_joining_opens_at current known)) switches → MaskNamesUpdateSwitches 0 (update_joining_opens_at current) switches
 none_named current switches closed s = bit_at-zero s ∙ at_place switches s closed where
   at_place : (xs : List SwitchRecord) (k : ℕ) → All (λ known. IsFalse (update_joining_opens_at current known)) xs
       → 0 ≡ from_bool (option_map_or (update_joining_opens_at current) (slice_get xs k) false)
@@ -79,7 +79,7 @@ none_named current switches closed s = bit_at-zero s ∙ at_place switches s clo
       at_place more k (All-tail (λ known. IsFalse (update_joining_opens_at current known)) known more shut)
 
 pub settled_stay : (marks : MarksValue) (taken : Bool) → AreVersionMarksSettled marks
-    → Settles marks marks (update_no_mark_rose taken)
+    → SettlesVersionMarks marks marks (update_no_mark_rose taken)
 settled_stay marks taken settled = search (rules, all_stay, raised_none, names_none, none_named)
 
 -- ---- the least

@@ -2,7 +2,7 @@
 use Rattle.std.proofs.Common.{[], ◌<◌, ◌∷◌, ◌≡◌, ◌≤◌, All, IsFalse, IsTrue, List, arith, length, map, refl, replicate, true, ℕ, rules}
 use Rattle.base.proofs.Exports.{All-map, All-replicate, length-map, length-replicate, or_lt, pow-lt}
 use Rattle.version_update.specs.declared.record.SwitchRecord.{SwitchRecord}
-use Rattle.version_update.specs.Exports.{AreVersionMarksBounded, AreVersionMarksSettled, IsSoundUpdateRecord, MarksValue, CurrentRisesTo, mark_record_after_installed, all_have_acked, first_marks, first_record, is_member, opened_update_record, update_joining_opens_at, retired_of}
+use Rattle.version_update.specs.Exports.{AreVersionMarksBounded, AreVersionMarksSettled, IsSoundUpdateRecord, MarksValue, CurrentMarkRisesTo, mark_record_after_installed, update_all_have_acked, first_marks, first_update_record, is_member, opened_update_record, update_joining_opens_at, update_retired_of}
 use Rattle.version_update.proofs.VersionLeastStamp.{least_acked_stamp-version}
 
 -- a member stays as it is
@@ -46,21 +46,21 @@ opened-bounded marks bounds =
 
 -- what each member acknowledged after the opening, each member did before it
 all_acked-opened : (version current : ℕ) (switches : List SwitchRecord)
-    → IsTrue (all_have_acked version (map (opened_update_record current) switches))
-    → IsTrue (all_have_acked version switches)
+    → IsTrue (update_all_have_acked version (map (opened_update_record current) switches))
+    → IsTrue (update_all_have_acked version switches)
 all_acked-opened version current [] all = refl
 all_acked-opened version current (known ∷ more) all =
     search (rules, member_stays, all_acked-opened version current more)
 
 pub stopped-opened : (version current : ℕ) (switches : List SwitchRecord)
-    → IsFalse (all_have_acked version switches)
-    → IsFalse (all_have_acked version (map (opened_update_record current) switches))
+    → IsFalse (update_all_have_acked version switches)
+    → IsFalse (update_all_have_acked version (map (opened_update_record current) switches))
 stopped-opened version current switches lacks = search (rules, all_acked-opened)
 
 -- the marks after current rose, the joining switches opened and retired was set
-pub settled_by : (before mid last : MarksValue) (current retired : ℕ) → CurrentRisesTo before current
+pub settled_by : (before mid last : MarksValue) (current retired : ℕ) → CurrentMarkRisesTo before current
     → mid ≡ record before { current = current; switches = map (opened_update_record current) before.switches }
-    → last ≡ mid → retired ≡ retired_of mid → retired < mid.count
+    → last ≡ mid → retired ≡ update_retired_of mid → retired < mid.count
     → AreVersionMarksBounded (record last { retired = retired })
     → AreVersionMarksSettled (record last { retired = retired })
 settled_by before mid last current retired rises opened same is_retired live bounds =
@@ -70,11 +70,11 @@ settled_by before mid last current retired rises opened same is_retired live bou
 pub first-settled : (number : ℕ) → 1 ≤ number → number ≤ 64 → AreVersionMarksSettled (first_marks number)
 first-settled number some few =
     let bounds = first-bounded number some few in
-    let least = least_acked_stamp-version 1 1 (replicate number first_record) (omega arith) (omega arith)
+    let least = least_acked_stamp-version 1 1 (replicate number first_update_record) (omega arith) (omega arith)
     bounds.records in record {
       bounds = bounds;
       stopped = λ more. absurd (omega arith);
-      opened = All-replicate (λ known. IsFalse (update_joining_opens_at 1 known)) number first_record refl;
+      opened = All-replicate (λ known. IsFalse (update_joining_opens_at 1 known)) number first_update_record refl;
       retired = omega (arith, least.0, least.1);
       live = omega arith;
     }

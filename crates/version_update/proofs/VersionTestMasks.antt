@@ -2,7 +2,7 @@
 use Rattle.std.proofs.Common.{[], ◌%◌, ◌&&◌, ◌*◌, ◌++◌, ◌+◌, ◌<◌, ◌^◌, ◌||◌, ◌∙◌, ◌∷◌, ◌≡◌, ◌≤◌, Bool, IsTrue, List, Some, ap, arith, bit_or, eq-eqb, eqb, false, get_or, inl, inr, length, length-take, max, mod-eq_of_lt, ne_eqb, refl, slice_get, subst, suc, sym, take, true, zero, ℕ, rules}
 use Rattle.base.proofs.Exports.{bit_at, bit_at-pow_other, bit_at-pow_same, bit_at-zero, bit_at_or, cases_eq, from_bool, nat_tests, option_map_or, pow-lt, take_more}
 use Rattle.version_update.specs.declared.record.SwitchRecord.{SwitchRecord}
-use Rattle.version_update.specs.Exports.{Names}
+use Rattle.version_update.specs.Exports.{MaskNamesUpdateSwitches}
 
 -- whether there is a switch s that passes
 abbrev passes_at : (SwitchRecord → Bool) → List SwitchRecord → ℕ → Bool
@@ -55,7 +55,7 @@ bit_of_one false n s few = search (rules, bit_at-zero)
 pub Names-more : (mask bit : ℕ) (passes : SwitchRecord → Bool) (switches : List SwitchRecord)
     (i : ℕ) (d known : SwitchRecord) → i < length switches → length switches ≤ 64
     → get_or switches i d ≡ known → bit ≡ from_bool (passes known)
-    → Names mask passes (take i switches) → Names (bit_or mask (bit * 2 ^ i % 2 ^ 64)) passes
+    → MaskNamesUpdateSwitches mask passes (take i switches) → MaskNamesUpdateSwitches (bit_or mask (bit * 2 ^ i % 2 ^ 64)) passes
     (take (i + 1) switches)
 Names-more mask bit passes switches i d known within few here named_bit names s =
     let few' : i < 64 = omega arith in
@@ -74,6 +74,6 @@ Names-more mask bit passes switches i d known within few here named_bit names s 
 
 -- who is named is there, and passes
 pub named : (mask s : ℕ) (passes : SwitchRecord → Bool) (switches : List SwitchRecord)
-    → Names mask passes switches → bit_at mask s ≡ 1 → (known : SwitchRecord)
+    → MaskNamesUpdateSwitches mask passes switches → bit_at mask s ≡ 1 → (known : SwitchRecord)
     × (slice_get switches s ≡ Some known) × IsTrue (passes known)
 named mask s passes switches names set = search rules

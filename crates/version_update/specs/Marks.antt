@@ -3,7 +3,7 @@
 use Rattle.std.specs.Prelude.{◌+◌, ◌-◌, ◌<◌, ◌≡◌, ◌≤◌, All, Bool, IsFalse, List, Option, filter, length, map, min, replicate, slice_index_or, slice_set, unwrap_or, ℕ}
 use Rattle.base.specs.Exports.{list_all, reduce}
 use Rattle.version_update.specs.declared.record.SwitchRecord.{SwitchRecord}
-use Rattle.version_update.specs.Record.{is_member, has_acked, first_record, unknown_switch_record, IsSoundUpdateRecord, update_joining_opens_at}
+use Rattle.version_update.specs.Record.{is_member, has_acked, first_update_record, unknown_update_record, IsSoundUpdateRecord, update_joining_opens_at}
 
 -- the versions are 1 to count; those up to retired are retired; each switch is known at its number
 pub record MarksValue : Type 0 where
@@ -18,34 +18,34 @@ first_marks number = record {
   count = 1;
   current = 1;
   retired = 0;
-  switches = replicate number first_record;
+  switches = replicate number first_update_record;
 }
 
 -- ---- switches
 
-abbrev pub record_of : MarksValue → ℕ → SwitchRecord
-record_of marks s = slice_index_or marks.switches s unknown_switch_record
+abbrev pub update_record_of : MarksValue → ℕ → SwitchRecord
+update_record_of marks s = slice_index_or marks.switches s unknown_update_record
 
 -- the marks with this change of what is known of switch s
-abbrev pub at_switch : ℕ → (SwitchRecord → SwitchRecord) → MarksValue → MarksValue
-at_switch s change marks =
-    record marks { switches = slice_set marks.switches s (change (record_of marks s)) }
+abbrev pub version_marks_with_switch_changed : ℕ → (SwitchRecord → SwitchRecord) → MarksValue → MarksValue
+version_marks_with_switch_changed s change marks =
+    record marks { switches = slice_set marks.switches s (change (update_record_of marks s)) }
 
 -- the marks with one more version
-abbrev pub with_version : MarksValue → MarksValue
-with_version marks = record marks { count = marks.count + 1 }
+abbrev pub version_marks_with_version : MarksValue → MarksValue
+version_marks_with_version marks = record marks { count = marks.count + 1 }
 
 -- the records of the members
-abbrev pub member_records : List SwitchRecord → List SwitchRecord
-member_records switches = filter (λ known. is_member known.phase) switches
+abbrev pub update_member_records : List SwitchRecord → List SwitchRecord
+update_member_records switches = filter (λ known. is_member known.phase) switches
 
 -- each member acknowledged the version
-abbrev pub all_have_acked : ℕ → List SwitchRecord → Bool
-all_have_acked version switches = list_all (λ known. has_acked known version) (member_records switches)
+abbrev pub update_all_have_acked : ℕ → List SwitchRecord → Bool
+update_all_have_acked version switches = list_all (λ known. has_acked known version) (update_member_records switches)
 
 -- the stamps that the members acknowledged
-abbrev pub acked_stamps : List SwitchRecord → List ℕ
-acked_stamps switches = map (λ known. known.acked_stamp) (member_records switches)
+abbrev pub update_acked_stamps : List SwitchRecord → List ℕ
+update_acked_stamps switches = map (λ known. known.acked_stamp) (update_member_records switches)
 
 -- ---- the rule of the marks
 
@@ -54,8 +54,8 @@ abbrev pub least_of_marks : List ℕ → Option ℕ
 least_of_marks numbers = reduce min numbers
 
 -- the least acknowledged stamp of the members minus 1, or current minus 1 if there is no member
-abbrev pub retired_of : MarksValue → ℕ
-retired_of marks = unwrap_or (least_of_marks (acked_stamps marks.switches)) marks.current - 1
+abbrev pub update_retired_of : MarksValue → ℕ
+update_retired_of marks = unwrap_or (least_of_marks (update_acked_stamps marks.switches)) marks.current - 1
 
 -- the marks are of 1 to 64 versions and of 1 to 64 switches
 pub record AreVersionMarksBounded (marks : MarksValue) : Type 0 where
@@ -69,9 +69,9 @@ pub record AreVersionMarksBounded (marks : MarksValue) : Type 0 where
 -- current can't rise, no joining switch can open, and retired is as far as the members allow
 pub record AreVersionMarksSettled (marks : MarksValue) : Type 0 where
   pub bounds : AreVersionMarksBounded marks
-  pub stopped : marks.current < marks.count → IsFalse (all_have_acked (marks.current + 1) marks.switches)
+  pub stopped : marks.current < marks.count → IsFalse (update_all_have_acked (marks.current + 1) marks.switches)
   pub opened : All (λ known. IsFalse (update_joining_opens_at marks.current known)) marks.switches
-  pub retired : marks.retired ≡ retired_of marks
+  pub retired : marks.retired ≡ update_retired_of marks
   pub live : marks.retired < marks.count
 
 -- still settled, and of the same switches

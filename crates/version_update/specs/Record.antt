@@ -29,12 +29,12 @@ abbrev pub has_acked : SwitchRecord → ℕ → Bool
 has_acked known version = bit_at known.acked (version - 1) == 1
 
 -- at the start: open at version 1 in boot 1
-abbrev pub first_record : SwitchRecord
-first_record = record { boot = 1; phase = Member; acked = 1; open_version = 1; acked_stamp = 1 }
+abbrev pub first_update_record : SwitchRecord
+first_update_record = record { boot = 1; phase = Member; acked = 1; open_version = 1; acked_stamp = 1 }
 
 -- the record of a number that no switch has
-abbrev pub unknown_switch_record : SwitchRecord
-unknown_switch_record = record { boot = 0; phase = Over; acked = 0; open_version = 0; acked_stamp = 0 }
+abbrev pub unknown_update_record : SwitchRecord
+unknown_update_record = record { boot = 0; phase = Over; acked = 0; open_version = 0; acked_stamp = 0 }
 
 -- it names only the versions 1 to count, and a member acknowledged at least what it was opened at
 pub record IsSoundUpdateRecord (count : ℕ) (known : SwitchRecord) : Type 0 where
@@ -62,11 +62,11 @@ mark_record_after_installed boot version known = if mark_takes_installed boot kn
     { acked = bit_or known.acked (2 ^ (version - 1)) } else known
 
 -- a member stamps new packets with this version, in its known boot
-abbrev pub takes_stamped : ℕ → SwitchRecord → Bool
-takes_stamped boot known = (known.boot == boot) && is_member known.phase
+abbrev pub update_takes_stamped : ℕ → SwitchRecord → Bool
+update_takes_stamped boot known = (known.boot == boot) && is_member known.phase
 
 abbrev pub update_after_stamped : ℕ → ℕ → SwitchRecord → SwitchRecord
-update_after_stamped boot version known = if takes_stamped boot known then record known
+update_after_stamped boot version known = if update_takes_stamped boot known then record known
     { acked_stamp = max known.acked_stamp version } else known
 
 -- it is over

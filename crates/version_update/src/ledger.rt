@@ -1,7 +1,7 @@
 ghost use Rattle.std.specs.Prelude.{◌≡◌, ◌+◌, ◌<◌, ◌≤◌, length, map, replicate, slice_set};
-ghost use Rattle.version_update.specs.Record.{first_record, IsSoundUpdateRecord, update_joining_opens_at, opened_update_record};
-ghost use Rattle.version_update.specs.Marks.{first_marks, record_of, AreVersionMarksBounded, VersionMarksStaySettled, retired_of};
-ghost use Rattle.version_update.specs.Settling.{Names, mark_rises_to, CurrentRisesTo, Settles};
+ghost use Rattle.version_update.specs.Record.{first_update_record, IsSoundUpdateRecord, update_joining_opens_at, opened_update_record};
+ghost use Rattle.version_update.specs.Marks.{first_marks, update_record_of, AreVersionMarksBounded, VersionMarksStaySettled, update_retired_of};
+ghost use Rattle.version_update.specs.Settling.{MaskNamesUpdateSwitches, mark_rises_to, CurrentMarkRisesTo, SettlesVersionMarks};
 
 use crate::marks::Settled;
 use crate::record::SwitchRecord;
@@ -71,7 +71,7 @@ impl MarksLedger {
     /// What is known of a switch.
     pub fn record(&self, s: u32) -> SwitchRecord
         requires { s < length self.now.switches }
-        ensures record { result ≡ record_of self.now s }
+        ensures record { result ≡ update_record_of self.now s }
         ensures sound { IsSoundUpdateRecord self.now.count result }
     {
         self.switches[s as usize]
@@ -96,7 +96,7 @@ impl MarksLedger {
 
     /// Settles, and returns what rose and to which switches to send.
     pub fn settle(&mut self, taken: bool) -> Settled
-        ensures settled { Settles self.old self.new result }
+        ensures settled { SettlesVersionMarks self.old self.new result }
         ensures rule { VersionMarksStaySettled self.old self.new }
         ensures taken { result.taken ≡ taken }
     {
@@ -120,7 +120,7 @@ impl MarksLedger {
 
     // The version to which current rises.
     fn risen(&self) -> u32
-        ensures { CurrentRisesTo self.now result }
+        ensures { CurrentMarkRisesTo self.now result }
     {
         let mut current = self.current;
         while current < self.count && switches::all_acked(self.switches(), current + 1) {
@@ -132,7 +132,7 @@ impl MarksLedger {
     fn open_joining(&mut self) -> u64
         ensures opened { self.new
             ≡ record self.old { switches = map (opened_update_record self.old.current) self.old.switches } }
-        ensures opens { Names result (update_joining_opens_at self.old.current) self.old.switches }
+        ensures opens { MaskNamesUpdateSwitches result (update_joining_opens_at self.old.current) self.old.switches }
     {
         let number = self.number;
         let current = self.current;
@@ -141,7 +141,7 @@ impl MarksLedger {
 
     // The last version that the members allow to retire.
     fn allowed(&self) -> u32
-        ensures allowed { result ≡ retired_of self.now }
+        ensures allowed { result ≡ update_retired_of self.now }
         ensures live { result < self.now.count }
     {
         switches::least_acked_stamp(self.switches()).unwrap_or(self.current) - 1
@@ -149,7 +149,7 @@ impl MarksLedger {
 }
 
 fn first_switch_marks() -> [SwitchRecord; MAX_SWITCHES as usize]
-    ensures { result ≡ replicate 64 first_record }
+    ensures { result ≡ replicate 64 first_update_record }
 {
     [SwitchRecord::first(); MAX_SWITCHES as usize]
 }

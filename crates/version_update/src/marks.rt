@@ -1,7 +1,7 @@
 ghost use Rattle.std.specs.Prelude.{◌≡◌, ◌≢◌, ◌-◌, ◌<◌, ◌≤◌, ◌↔◌, length, IsTrue, IfOk, OnErr, Err};
-ghost use Rattle.version_update.specs.Record.{is_member, has_acked, update_takes_hello, update_hello_recorded, mark_takes_installed, mark_record_after_installed, takes_stamped, update_after_stamped, mark_record_after_over};
-ghost use Rattle.version_update.specs.Marks.{first_marks, record_of, at_switch, with_version, AreVersionMarksSettled, VersionMarksStaySettled};
-ghost use Rattle.version_update.specs.Settling.{Settles};
+ghost use Rattle.version_update.specs.Record.{is_member, has_acked, update_takes_hello, update_hello_recorded, mark_takes_installed, mark_record_after_installed, update_takes_stamped, update_after_stamped, mark_record_after_over};
+ghost use Rattle.version_update.specs.Marks.{first_marks, update_record_of, version_marks_with_switch_changed, version_marks_with_version, AreVersionMarksSettled, VersionMarksStaySettled};
+ghost use Rattle.version_update.specs.Settling.{SettlesVersionMarks};
 ghost use Rattle.version_update.specs.declared.marks.SubmitError.TheVariants.{TooManyLive, TooManyVersions};
 
 use crate::ledger::MarksLedger;
@@ -82,8 +82,8 @@ impl Marks {
     /// The switch reported this boot: it is recorded if it is greater than the known one.
     pub fn hello(&mut self, s: u32, boot: u32) -> Settled
         requires { s < length self.old.switches }
-        ensures taken { result.taken ≡ update_takes_hello boot (record_of self.old s) }
-        ensures settled { Settles (at_switch s (update_hello_recorded boot) self.old) self.new result }
+        ensures taken { result.taken ≡ update_takes_hello boot (update_record_of self.old s) }
+        ensures settled { SettlesVersionMarks (version_marks_with_switch_changed s (update_hello_recorded boot) self.old) self.new result }
         ensures rule { VersionMarksStaySettled self.old self.new }
     {
         let mut known = self.ledger.record(s);
@@ -98,9 +98,9 @@ impl Marks {
         requires switch { s < length self.old.switches }
         requires first { 1 ≤ version }
         requires last { version ≤ self.old.count }
-        ensures taken { result.taken ≡ mark_takes_installed boot (record_of self.old s) }
-        ensures settled { Settles
-            (at_switch s (mark_record_after_installed boot version) self.old) self.new result }
+        ensures taken { result.taken ≡ mark_takes_installed boot (update_record_of self.old s) }
+        ensures settled { SettlesVersionMarks
+            (version_marks_with_switch_changed s (mark_record_after_installed boot version) self.old) self.new result }
         ensures rule { VersionMarksStaySettled self.old self.new }
     {
         let mut known = self.ledger.record(s);
@@ -115,9 +115,9 @@ impl Marks {
         requires switch { s < length self.old.switches }
         requires first { 1 ≤ version }
         requires last { version ≤ self.old.count }
-        ensures taken { result.taken ≡ takes_stamped boot (record_of self.old s) }
-        ensures settled { Settles
-            (at_switch s (update_after_stamped boot version) self.old) self.new result }
+        ensures taken { result.taken ≡ update_takes_stamped boot (update_record_of self.old s) }
+        ensures settled { SettlesVersionMarks
+            (version_marks_with_switch_changed s (update_after_stamped boot version) self.old) self.new result }
         ensures rule { VersionMarksStaySettled self.old self.new }
     {
         let mut known = self.ledger.record(s);
@@ -130,7 +130,7 @@ impl Marks {
     pub fn over(&mut self, s: u32) -> Settled
         requires { s < length self.old.switches }
         ensures taken { IsTrue result.taken }
-        ensures settled { Settles (at_switch s mark_record_after_over self.old) self.new result }
+        ensures settled { SettlesVersionMarks (version_marks_with_switch_changed s mark_record_after_over self.old) self.new result }
         ensures rule { VersionMarksStaySettled self.old self.new }
     {
         let mut known = self.ledger.record(s);
@@ -145,7 +145,7 @@ impl Marks {
     /// `TooManyLive` exactly if 8 versions are not retired; otherwise `TooManyVersions`
     /// exactly if there are 64. Then nothing changed.
     pub fn submit(&mut self) -> Result<Settled, SubmitError>
-        ensures settled { IfOk result (λ answer. Settles (with_version self.old) self.new answer) }
+        ensures settled { IfOk result (λ answer. SettlesVersionMarks (version_marks_with_version self.old) self.new answer) }
         ensures taken { IfOk result (λ answer. IsTrue answer.taken) }
         ensures live { (result ≡ Err TooManyLive) ↔ (self.old.count - self.old.retired ≡ 8) }
         ensures versions { (result ≡ Err TooManyVersions)
@@ -210,7 +210,7 @@ impl Marks {
     /// The phase of the switch.
     pub fn phase(&self, s: u32) -> Phase
         requires { s < length self.now.switches }
-        ensures { result ≡ (record_of self.now s).phase }
+        ensures { result ≡ (update_record_of self.now s).phase }
     {
         self.ledger.record(s).phase
     }
@@ -218,7 +218,7 @@ impl Marks {
     /// The greatest boot that the switch reported, or 1.
     pub fn boot(&self, s: u32) -> u32
         requires { s < length self.now.switches }
-        ensures { result ≡ (record_of self.now s).boot }
+        ensures { result ≡ (update_record_of self.now s).boot }
     {
         self.ledger.record(s).boot
     }
@@ -228,7 +228,7 @@ impl Marks {
         requires switch { s < length self.now.switches }
         requires first { 1 ≤ version }
         requires last { version ≤ self.now.count }
-        ensures { result ≡ has_acked (record_of self.now s) version }
+        ensures { result ≡ has_acked (update_record_of self.now s) version }
     {
         // For the proof: the contract of `count` says that the marks are settled.
         let _ = self.count();
@@ -238,8 +238,8 @@ impl Marks {
     /// The version that a member was opened at.
     pub fn open_version(&self, s: u32) -> u32
         requires switch { s < length self.now.switches }
-        requires member { IsTrue (is_member (record_of self.now s).phase) }
-        ensures { result ≡ (record_of self.now s).open_version }
+        requires member { IsTrue (is_member (update_record_of self.now s).phase) }
+        ensures { result ≡ (update_record_of self.now s).open_version }
     {
         self.ledger.record(s).open_version
     }
@@ -247,8 +247,8 @@ impl Marks {
     /// The greatest version that a member acknowledged to stamp packets with.
     pub fn acked_stamp(&self, s: u32) -> u32
         requires switch { s < length self.now.switches }
-        requires member { IsTrue (is_member (record_of self.now s).phase) }
-        ensures { result ≡ (record_of self.now s).acked_stamp }
+        requires member { IsTrue (is_member (update_record_of self.now s).phase) }
+        ensures { result ≡ (update_record_of self.now s).acked_stamp }
     {
         self.ledger.record(s).acked_stamp
     }

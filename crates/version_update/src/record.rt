@@ -1,5 +1,5 @@
 ghost use Rattle.std.specs.Prelude.{◌≡◌, ◌<◌, ◌≤◌};
-ghost use Rattle.version_update.specs.Record.{is_member, has_acked, first_record, update_takes_hello, update_hello_recorded, mark_takes_installed, mark_record_after_installed, takes_stamped, update_after_stamped, mark_record_after_over, update_joining_opens_at, opened_update_record};
+ghost use Rattle.version_update.specs.Record.{is_member, has_acked, first_update_record, update_takes_hello, update_hello_recorded, mark_takes_installed, mark_record_after_installed, update_takes_stamped, update_after_stamped, mark_record_after_over, update_joining_opens_at, opened_update_record};
 
 use base::has;
 
@@ -31,7 +31,7 @@ pub struct SwitchRecord {
 impl SwitchRecord {
     /// Every switch at the start: a member in boot 1, with version 1.
     pub fn first() -> SwitchRecord
-        ensures { result ≡ first_record }
+        ensures { result ≡ first_update_record }
     {
         SwitchRecord {
             boot: 1,
@@ -87,7 +87,7 @@ impl SwitchRecord {
     }
 
     pub fn stamped(&mut self, boot: u32, version: u32) -> bool
-        ensures taken { result ≡ takes_stamped boot self.old }
+        ensures taken { result ≡ update_takes_stamped boot self.old }
         ensures after { self.new ≡ update_after_stamped boot version self.old }
     {
         let taken = self.boot == boot && self.is_member();

@@ -1,8 +1,8 @@
 //! Questions about all switches, each answered in one pass over their records.
 ghost use Rattle.std.specs.Prelude.{◌≡◌, ◌-◌, ◌<◌, ◌≤◌, ◌&&◌, map, length};
 ghost use Rattle.version_update.specs.Record.{is_member, update_joining_opens_at, opened_update_record};
-ghost use Rattle.version_update.specs.Marks.{all_have_acked, acked_stamps, least_of_marks};
-ghost use Rattle.version_update.specs.Settling.{Names};
+ghost use Rattle.version_update.specs.Marks.{update_all_have_acked, update_acked_stamps, least_of_marks};
+ghost use Rattle.version_update.specs.Settling.{MaskNamesUpdateSwitches};
 ghost use Rattle.version_update.specs.declared.record.SwitchRecord.{SwitchRecord};
 
 use crate::record::SwitchRecord;
@@ -10,7 +10,7 @@ use crate::record::SwitchRecord;
 /// The members as a mask if `rose` is true, otherwise the empty mask.
 pub fn mask_of_members_where(rose: bool, switches: &[SwitchRecord]) -> u64
     requires { length switches.now ≤ 64 }
-    ensures { Names result (λ (known : SwitchRecord). rose && is_member known.phase) switches.now }
+    ensures { MaskNamesUpdateSwitches result (λ (known : SwitchRecord). rose && is_member known.phase) switches.now }
 {
     let mut mask = 0;
     for (s, known) in switches.iter().enumerate() {
@@ -25,7 +25,7 @@ pub fn open_if_acked(switches: &mut [SwitchRecord], current: u32) -> u64
     requires first { 1 ≤ current }
     requires last { current ≤ 64 }
     ensures opened { switches.new ≡ map (opened_update_record current) switches.old }
-    ensures opens { Names result (update_joining_opens_at current) switches.old }
+    ensures opens { MaskNamesUpdateSwitches result (update_joining_opens_at current) switches.old }
 {
     let mut mask = 0;
     for (s, known) in switches.iter_mut().enumerate() {
@@ -38,7 +38,7 @@ pub fn open_if_acked(switches: &mut [SwitchRecord], current: u32) -> u64
 pub fn all_acked(switches: &[SwitchRecord], version: u32) -> bool
     requires first { 1 ≤ version }
     requires last { version ≤ 64 }
-    ensures { result ≡ all_have_acked version switches.now }
+    ensures { result ≡ update_all_have_acked version switches.now }
 {
     switches
         .iter()
@@ -48,7 +48,7 @@ pub fn all_acked(switches: &[SwitchRecord], version: u32) -> bool
 
 /// The least stamp that a member acknowledged; `None` if there is no member.
 pub fn least_acked_stamp(switches: &[SwitchRecord]) -> Option<u32>
-    ensures { result ≡ least_of_marks (acked_stamps switches.now) }
+    ensures { result ≡ least_of_marks (update_acked_stamps switches.now) }
 {
     switches
         .iter()

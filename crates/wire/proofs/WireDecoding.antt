@@ -5,12 +5,12 @@ use Rattle.ctrl_msg.specs.declared.message.Message.{Message}
 use Rattle.base.specs.Exports.{IfRefused}
 use Rattle.base.specs.declared.error.Failure.{Failure}
 use Rattle.wire.specs.declared.error.Malformed.{Malformed}
-use Rattle.wire.specs.Exports.{Gives, IsWireSpelling, message, whole_message}
+use Rattle.wire.specs.Exports.{GivesWireReading, IsWireSpelling, message, whole_wire_message}
 use Rattle.wire.proofs.WireFormatLaws.{AreBytes, then_some}
 use Rattle.wire.proofs.WireLawfulFormats.{message_lawful}
 
 pub whole_takes : (bytes : List ℕ) (m : Message) (rest : List ℕ) → AreBytes bytes
-    → whole_message bytes ≡ Some (m, rest) → IsWireSpelling m bytes
+    → whole_wire_message bytes ≡ Some (m, rest) → IsWireSpelling m bytes
 whole_takes bytes m rest are e =
     let b = then_some (message.read bytes) (λ x. cond (eqb (length x.1) 0) (Some x) None) (m, rest) e in
     let t = message_lawful.takes bytes b.0.0 b.0.1 are b.1 in
@@ -22,7 +22,7 @@ whole_takes bytes m rest are e =
     } in
     subst (λ (p : Message × List ℕ). IsWireSpelling p.0 bytes) g.1 all
 
-pub whole_again : (bytes : List ℕ) (m : Message) → IsWireSpelling m bytes → whole_message bytes
+pub whole_again : (bytes : List ℕ) (m : Message) → IsWireSpelling m bytes → whole_wire_message bytes
     ≡ Some (m, [])
 whole_again bytes m h = rw (ap message.read (h.spelled ∙ sym (append-nil (message.spell m)))
     ∙ message_lawful.again m [] h.fits) refl
@@ -33,20 +33,20 @@ one_message bytes a b ha hb = ap (λ (p : Message × List ℕ). p.0)
     (same_Some (a, []) (b, []) (sym (whole_again bytes a ha) ∙ whole_again bytes b hb))
 
 pub found : (r : Result Message (Failure Malformed)) (bytes rest : List ℕ) → AreBytes bytes
-    → Gives (λ m. m) (whole_message bytes) r rest → IfOk r (λ m. IsWireSpelling m bytes)
+    → GivesWireReading (λ m. m) (whole_wire_message bytes) r rest → IfOk r (λ m. IsWireSpelling m bytes)
 found (Ok m) bytes rest are h = whole_takes bytes m rest are h
 found (Err error) bytes rest are h = tt
 
 pub only : (r : Result Message (Failure Malformed)) (bytes rest : List ℕ) → AreBytes bytes
-    → Gives (λ m. m) (whole_message bytes) r rest
+    → GivesWireReading (λ m. m) (whole_wire_message bytes) r rest
     → IfOk r (λ m. (other : Message) → IsWireSpelling other bytes → other ≡ m)
 only (Ok m) bytes rest are h = λ other spelled. one_message bytes other m spelled (whole_takes bytes m rest are h)
 only (Err error) bytes rest are h = tt
 
 pub malformed : (r : Result Message (Failure Malformed)) (bytes rest : List ℕ)
-    → Gives (λ m. m) (whole_message bytes) r rest
+    → GivesWireReading (λ m. m) (whole_wire_message bytes) r rest
     → IfErr r (IfRefused (λ _. (m : Message) → IsWireSpelling m bytes → ⊥))
 malformed (Ok m) bytes rest h = tt
 malformed (Err error) bytes rest h =
-    IfRefused-weaker (λ _. whole_message bytes ≡ None) (λ _. (m : Message) → IsWireSpelling m bytes → ⊥)
+    IfRefused-weaker (λ _. whole_wire_message bytes ≡ None) (λ _. (m : Message) → IsWireSpelling m bytes → ⊥)
     (λ _ none m spelled. none_is_not (m, []) (sym none ∙ whole_again bytes m spelled)) error h

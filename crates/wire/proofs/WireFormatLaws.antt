@@ -1,19 +1,19 @@
 -- The two laws of formats: what is read is spelled so, and what is spelled is read again.
 use Rattle.std.proofs.Common.{[], ◌%◌, ◌++◌, ◌+◌, ◌<◌, ◌^◌, ◌∙◌, ◌∷◌, ◌≡◌, ◌≤◌, Bool, List, None, Option, Some, ap, append_assoc, arith, cond, drop, drop_at, false, flat_map, get_or, get_or-drop, get_or-take, inl, inr, le-ltb, length, length-append, length-take, lt-ltb, ltb, ltb-false, ltb-true, refl, subst, suc, sym, take, take-append-drop, take_at, true, w32, w64, w8, zero, ℕ}
 use Rattle.base.proofs.Exports.{Width, and_parts, be_bytes_4, be_bytes_8, byte_len, cases_lt, cond_some, from_be_bytes, from_be_bytes-to_be_bytes_4, from_be_bytes-to_be_bytes_8, get_or_past, list_all, not_refused, same_Some, to_be_bytes}
-use Rattle.wire.specs.Exports.{◌⊗◌, Format, wire_format_as_type, wire_list_of, number, wire_optional, read_wire_flagged, wire_read_items, read_number, wire_spelled_number, wire_format_such_that, wire_format_then_read}
+use Rattle.wire.specs.Exports.{◌⊗◌, WireFormat, wire_format_as_type, wire_list_of, number, wire_optional, read_wire_flagged, wire_read_items, read_number, wire_spelled_number, wire_format_such_that, wire_format_then_read}
 
 -- each is a byte
 abbrev pub AreBytes : List ℕ → Type 0
 AreBytes bytes = (i : ℕ) → get_or bytes i 0 < 256
 
 -- a value was taken from the front
-pub record Takes {A : Type 0} (f : Format A) (x : A) (bytes rest : List ℕ) : Type 0 where
+pub record Takes {A : Type 0} (f : WireFormat A) (x : A) (bytes rest : List ℕ) : Type 0 where
   pub fits : f.fits x ≡ true
   pub parts : bytes ≡ f.spell x ++ rest
   pub rest_are : AreBytes rest
 
-pub record IsLawful {A : Type 0} (f : Format A) : Type 0 where
+pub record IsLawful {A : Type 0} (f : WireFormat A) : Type 0 where
   pub takes : (bytes : List ℕ) (x : A) (rest : List ℕ) → AreBytes bytes → f.read bytes ≡ Some (x, rest) → Takes f x bytes rest
   pub again : (x : A) (rest : List ℕ) → f.fits x ≡ true → f.read (f.spell x ++ rest) ≡ Some (x, rest)
 
@@ -117,7 +117,7 @@ n64-bits = number_lawful w64 (2 ^ 64) wide64
 
 -- the law of a pair is written as the pair is
 infixr 20 ◌⊠◌
-pub ◌⊠◌ : {A B : Type 0} {f : Format A} {g : Format B} → IsLawful f → IsLawful g → IsLawful (f ⊗ g)
+pub ◌⊠◌ : {A B : Type 0} {f : WireFormat A} {g : WireFormat B} → IsLawful f → IsLawful g → IsLawful (f ⊗ g)
 ◌⊠◌ {A = A} {B = B} {f = f} {g = g} lf lg = record {
   takes = λ bytes x rest are e.
       let b = then_some (f.read bytes) (λ p. wire_format_then_read (g.read p.1) (λ q. Some ((p.0, q.0), q.1))) (x, rest) e in
@@ -134,7 +134,7 @@ pub ◌⊠◌ : {A B : Type 0} {f : Format A} {g : Format B} → IsLawful f → 
       rw (append_assoc (f.spell x.0) (g.spell x.1) rest, lf.again x.0 (g.spell x.1 ++ rest) both.0, lg.again x.1 rest both.1) refl;
 }
 
-pub as_type_lawful : {A B : Type 0} (to : A → B) (from : B → A) {f : Format A}
+pub as_type_lawful : {A B : Type 0} (to : A → B) (from : B → A) {f : WireFormat A}
     → ((x : A) → f.fits x ≡ true → from (to x) ≡ x) → ((y : B) → f.fits (from y) ≡ true → to (from y) ≡ y)
     → IsLawful f → IsLawful (wire_format_as_type to from f)
 as_type_lawful {B = B} to from {f = f} back forth lf = record {
@@ -151,7 +151,7 @@ as_type_lawful {B = B} to from {f = f} back forth lf = record {
   again = λ y rest fits. rw (lf.again (from y) rest fits, forth y fits) refl;
 }
 
-pub such_that_lawful : {A : Type 0} {f : Format A} (test : A → Bool) → IsLawful f → IsLawful (wire_format_such_that test f)
+pub such_that_lawful : {A : Type 0} {f : WireFormat A} (test : A → Bool) → IsLawful f → IsLawful (wire_format_such_that test f)
 such_that_lawful {A = A} {f = f} test lf = record {
   takes = λ bytes x rest are e.
       let b = then_some (f.read bytes) (λ p. cond (test p.0) (Some p) None) (x, rest) e in
@@ -169,7 +169,7 @@ such_that_lawful {A = A} {f = f} test lf = record {
 
 -- ---- what may be missing
 
-flagged_takes : {A : Type 0} (flag : Format ℕ) (f : Format A) → IsLawful f → (k : ℕ) (whole bytes : List ℕ) (o : Option A) (rest : List ℕ)
+flagged_takes : {A : Type 0} (flag : WireFormat ℕ) (f : WireFormat A) → IsLawful f → (k : ℕ) (whole bytes : List ℕ) (o : Option A) (rest : List ℕ)
     → whole ≡ flag.spell k ++ bytes → AreBytes bytes → read_wire_flagged f k bytes ≡ Some (o, rest) → Takes (wire_optional flag f) o whole rest
 flagged_takes {A = A} flag f lf zero whole bytes o rest at are e =
     let taken : Takes (wire_optional flag f) None whole bytes = record { fits = refl; parts = at; rest_are = are } in
@@ -185,13 +185,13 @@ flagged_takes {A = A} flag f lf (suc zero) whole bytes o rest at are e =
     subst (λ (p : Option A × List ℕ). Takes (wire_optional flag f) p.0 whole p.1) (same_Some _ _ b.2) taken
 flagged_takes flag f lf (suc (suc k)) whole bytes o rest at are e = absurd cc
 
-optional_again : {A : Type 0} (flag : Format ℕ) (f : Format A) → flag.fits 0 ≡ true → flag.fits 1 ≡ true → IsLawful flag → IsLawful f
+optional_again : {A : Type 0} (flag : WireFormat ℕ) (f : WireFormat A) → flag.fits 0 ≡ true → flag.fits 1 ≡ true → IsLawful flag → IsLawful f
     → (o : Option A) (rest : List ℕ) → (wire_optional flag f).fits o ≡ true → (wire_optional flag f).read ((wire_optional flag f).spell o ++ rest) ≡ Some (o, rest)
 optional_again flag f zero_fits one_fits lflag lf None rest fits = rw (lflag.again 0 rest zero_fits) refl
 optional_again flag f zero_fits one_fits lflag lf (Some x) rest fits =
     rw (append_assoc (flag.spell 1) (f.spell x) rest, lflag.again 1 (f.spell x ++ rest) one_fits, lf.again x rest fits) refl
 
-pub optional_lawful : {A : Type 0} {flag : Format ℕ} {f : Format A} → flag.fits 0 ≡ true → flag.fits 1 ≡ true
+pub optional_lawful : {A : Type 0} {flag : WireFormat ℕ} {f : WireFormat A} → flag.fits 0 ≡ true → flag.fits 1 ≡ true
     → IsLawful flag → IsLawful f → IsLawful (wire_optional flag f)
 optional_lawful {flag = flag} {f = f} zero_fits one_fits lflag lf = record {
   takes = λ bytes o rest are e.
@@ -204,13 +204,13 @@ optional_lawful {flag = flag} {f = f} zero_fits one_fits lflag lf = record {
 -- ---- lists
 
 -- so many values were taken from the front
-pub record TakesItems {A : Type 0} (f : Format A) (count : ℕ) (xs : List A) (bytes rest : List ℕ) : Type 0 where
+pub record TakesItems {A : Type 0} (f : WireFormat A) (count : ℕ) (xs : List A) (bytes rest : List ℕ) : Type 0 where
   pub count_is : length xs ≡ count
   pub fit : list_all f.fits xs ≡ true
   pub parts : bytes ≡ flat_map f.spell xs ++ rest
   pub rest_are : AreBytes rest
 
-items_take : {A : Type 0} (f : Format A) → IsLawful f → (count : ℕ) (bytes : List ℕ) (xs : List A) (rest : List ℕ)
+items_take : {A : Type 0} (f : WireFormat A) → IsLawful f → (count : ℕ) (bytes : List ℕ) (xs : List A) (rest : List ℕ)
     → AreBytes bytes → wire_read_items f count bytes ≡ Some (xs, rest) → TakesItems f count xs bytes rest
 unfolding wire_read_items
 items_take {A = A} f lf zero bytes xs rest are e =
@@ -230,7 +230,7 @@ items_take {A = A} f lf (suc count) bytes xs rest are e =
     subst (λ (p : List A × List ℕ). TakesItems f (suc count) p.0 bytes p.1) (same_Some _ _ d.2) taken
 
 -- as many as were asked for
-pub items_count : {A : Type 0} (f : Format A) (count : ℕ) (bytes : List ℕ) (xs : List A)
+pub items_count : {A : Type 0} (f : WireFormat A) (count : ℕ) (bytes : List ℕ) (xs : List A)
     (rest : List ℕ) → wire_read_items f count bytes ≡ Some (xs, rest) → length xs ≡ count
 unfolding wire_read_items
 items_count {A = A} f zero bytes xs rest e =
@@ -241,14 +241,14 @@ items_count {A = A} f (suc count) bytes xs rest e =
     subst (λ (p : List A × List ℕ). length p.0 ≡ suc count) (same_Some _ _ d.2)
     (ap suc (items_count f count b.0.1 d.0.0 d.0.1 d.1))
 
-items_again : {A : Type 0} (f : Format A) → IsLawful f → (xs : List A) (rest : List ℕ)
+items_again : {A : Type 0} (f : WireFormat A) → IsLawful f → (xs : List A) (rest : List ℕ)
     → list_all f.fits xs ≡ true → wire_read_items f (length xs) (flat_map f.spell xs ++ rest) ≡ Some (xs, rest)
 unfolding wire_read_items
 items_again f lf [] rest fit = refl
 items_again f lf (x ∷ xs) rest fit = let both = and_parts (f.fits x) (list_all f.fits xs) fit in
     rw (append_assoc (f.spell x) (flat_map f.spell xs) rest, lf.again x (flat_map f.spell xs ++ rest) both.0, items_again f lf xs rest both.1) refl
 
-pub list_lawful : {A : Type 0} {count : Format ℕ} {f : Format A} → IsLawful count → IsLawful f → IsLawful (wire_list_of count f)
+pub list_lawful : {A : Type 0} {count : WireFormat ℕ} {f : WireFormat A} → IsLawful count → IsLawful f → IsLawful (wire_list_of count f)
 list_lawful {count = count} {f = f} lcount lf = record {
   takes = λ bytes xs rest are e.
       let b = then_some (count.read bytes) (λ n. wire_read_items f n.0 n.1) (xs, rest) e in

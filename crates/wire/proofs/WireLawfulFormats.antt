@@ -7,7 +7,7 @@ use Rattle.ctrl_msg.specs.declared.message.Body.{Body}
 use Rattle.ctrl_msg.specs.declared.message.Body.TheVariants.{Install, OpenAt, Stamp, Collect, CacheRule, Advertise, Hello, Installed, Stamped}
 use Rattle.policy_rules.specs.declared.policy.Action.{Action}
 use Rattle.policy_rules.specs.declared.policy.Action.TheVariants.{Drop, Out}
-use Rattle.wire.specs.Exports.{◌⊗◌, Format, acknowledgement, action, wire_action_by_port, advert, body, boot_and_version, cache_rule_form, wire_cache_rule_of, wire_fields_fit, hello, install_form, is_wire_word_pair, kind_number, made_body, message, message_front, n1, n16, n4, n8, wire_optional, partition, wire_port_in_action, read_wire_fields, receiver, wire_receiver_of, region, rule, rule_name, wire_spelled_fields, stamp_form, wire_body_suits_receiver, switch, tables, wire_target_count, targets, wire_format_then_read, touched, wire_touched_count, word}
+use Rattle.wire.specs.Exports.{◌⊗◌, WireFormat, wire_acknowledgement, action, wire_action_by_port, advert, body, wire_boot_and_version, wire_cache_rule_form, wire_cache_rule_of, wire_fields_fit, hello, wire_install_form, is_wire_word_pair, wire_kind_number, wire_made_body, message, wire_message_front, n1, n16, n4, n8, wire_optional, partition, wire_port_in_action, read_wire_fields, wire_receiver, wire_receiver_of, region, rule, wire_rule_name, wire_spelled_fields, wire_stamp_form, wire_body_suits_receiver, switch, tables, wire_target_count, targets, wire_format_then_read, touched, wire_touched_count, word}
 use Rattle.wire.proofs.WireFormatLaws.{AreBytes, Takes, IsLawful, then_some, n8-bits, n32-bits, n64-bits, ◌⊠◌, as_type_lawful, such_that_lawful, optional_lawful, list_lawful}
 
 n1_lawful : IsLawful n1
@@ -45,8 +45,8 @@ maybe_lawful : IsLawful (wire_optional n1 n4)
 unfolding n1
 maybe_lawful = optional_lawful refl refl n1_lawful n4_lawful
 
-rule_name_lawful : IsLawful rule_name
-unfolding rule_name
+rule_name_lawful : IsLawful wire_rule_name
+unfolding wire_rule_name
 rule_name_lawful = maybe_lawful
 
 port_back : (o : Option ℕ) → wire_port_in_action (wire_action_by_port o) ≡ o
@@ -88,24 +88,24 @@ tables_lawful = as_type_lawful _ _ (λ p fits. refl) (λ t fits. refl)
 
 -- ---- the receiver
 
-receiver_takes : (bytes : List ℕ) (to : Place) (rest : List ℕ) → AreBytes bytes → receiver.read bytes ≡ Some (to, rest) → Takes receiver to bytes rest
-unfolding receiver switch
+receiver_takes : (bytes : List ℕ) (to : Place) (rest : List ℕ) → AreBytes bytes → wire_receiver.read bytes ≡ Some (to, rest) → Takes wire_receiver to bytes rest
+unfolding wire_receiver switch
 receiver_takes bytes to rest are e =
     let b = then_some (n1.read bytes) (λ x. wire_format_then_read (wire_receiver_of x.0) (λ r. Some (r, x.1))) (to, rest) e in
     let t = n1_lawful.takes bytes b.0.0 b.0.1 are b.1 in
     let d = then_some (wire_receiver_of b.0.0) (λ r. Some (r, b.0.1)) (to, rest) b.2 in
-    let P : Place → Type 0 = λ r. Takes receiver r bytes b.0.1 in
-    let taken : Takes receiver d.0 bytes b.0.1 = elim (cond_cases (eqb b.0.0 255) _ _ _ d.1) [
+    let P : Place → Type 0 = λ r. Takes wire_receiver r bytes b.0.1 in
+    let taken : Takes wire_receiver d.0 bytes b.0.1 = elim (cond_cases (eqb b.0.0 255) _ _ _ d.1) [
       | inl h ↦ subst P (same_Some _ _ h.1) (record { fits = refl; parts = t.parts ∙ ap (λ k. n1.spell k ++ b.0.1) (eqb-true _ _ h.0); rest_are = t.rest_are })
       | inr h ↦ elim (cond_cases (ltb b.0.0 64) _ _ _ h.1) [
         | inl k ↦ subst P (same_Some _ _ k.1) (record { fits = rw (t.fits, k.0) refl; parts = t.parts; rest_are = t.rest_are })
         | inr k ↦ absurd (cc (k.1))
       ]
     ] in
-    subst (λ (p : Place × List ℕ). Takes receiver p.0 bytes p.1) (same_Some _ _ d.2) taken
+    subst (λ (p : Place × List ℕ). Takes wire_receiver p.0 bytes p.1) (same_Some _ _ d.2) taken
 
-receiver_again : (to : Place) (rest : List ℕ) → receiver.fits to ≡ true → receiver.read (receiver.spell to ++ rest) ≡ Some (to, rest)
-unfolding receiver switch n1
+receiver_again : (to : Place) (rest : List ℕ) → wire_receiver.fits to ≡ true → wire_receiver.read (wire_receiver.spell to ++ rest) ≡ Some (to, rest)
+unfolding wire_receiver switch n1
 receiver_again (Switch s) rest fits =
     let both = and_parts (n1.fits s) (ltb s 64) fits in
     let below : s < 64 = ltb-true _ _ both.1 in
@@ -113,29 +113,29 @@ receiver_again (Switch s) rest fits =
     rw (n1_lawful.again s rest both.0, other, both.1) refl
 receiver_again Controller rest fits = rw (n1_lawful.again 255 rest refl) refl
 
-receiver_lawful : IsLawful receiver
+receiver_lawful : IsLawful wire_receiver
 receiver_lawful = record { takes = receiver_takes; again = receiver_again }
 
-pub front_lawful : IsLawful message_front
-unfolding message_front
+pub front_lawful : IsLawful wire_message_front
+unfolding wire_message_front
 front_lawful = receiver_lawful ⊠ n1_lawful ⊠ n4_lawful
 
 -- ---- the fields
 
-install_lawful : IsLawful install_form
-unfolding install_form
+install_lawful : IsLawful wire_install_form
+unfolding wire_install_form
 install_lawful = n4_lawful ⊠ tables_lawful
 
-of_version_lawful : IsLawful boot_and_version
-unfolding boot_and_version
+of_version_lawful : IsLawful wire_boot_and_version
+unfolding wire_boot_and_version
 of_version_lawful = n4_lawful ⊠ n4_lawful
 
-stamp_lawful : IsLawful stamp_form
-unfolding stamp_form
+stamp_lawful : IsLawful wire_stamp_form
+unfolding wire_stamp_form
 stamp_lawful = n4_lawful ⊠ n4_lawful ⊠ touched_lawful
 
-cache_rule_lawful : IsLawful cache_rule_form
-unfolding cache_rule_form
+cache_rule_lawful : IsLawful wire_cache_rule_form
+unfolding wire_cache_rule_form
 cache_rule_lawful = n4_lawful ⊠ word_lawful ⊠ rule_name_lawful ⊠ action_lawful
 
 advert_lawful : IsLawful advert
@@ -146,21 +146,21 @@ hello_lawful : IsLawful hello
 unfolding hello
 hello_lawful = switch_lawful ⊠ n4_lawful
 
-acknowledged_lawful : IsLawful acknowledgement
-unfolding acknowledgement
+acknowledged_lawful : IsLawful wire_acknowledgement
+unfolding wire_acknowledgement
 acknowledged_lawful = switch_lawful ⊠ of_version_lawful
 
 -- a body of a kind was taken from bytes behind that kind
 record TakesFields (kind : ℕ) (b : Body) (bytes rest : List ℕ) : Type 0 where
-  pub kind_is : kind_number b ≡ kind
+  pub kind_is : wire_kind_number b ≡ kind
   pub fit : wire_fields_fit b ≡ true
   pub parts : bytes ≡ wire_spelled_fields b ++ rest
   pub rest_are : AreBytes rest
 
-kind_takes : {A : Type 0} (make : A → Body) (f : Format A) (kind : ℕ)
-    → ((x : A) → kind_number (make x) ≡ kind) → ((x : A) → wire_spelled_fields (make x) ≡ f.spell x) → ((x : A) → wire_fields_fit (make x) ≡ f.fits x)
+kind_takes : {A : Type 0} (make : A → Body) (f : WireFormat A) (kind : ℕ)
+    → ((x : A) → wire_kind_number (make x) ≡ kind) → ((x : A) → wire_spelled_fields (make x) ≡ f.spell x) → ((x : A) → wire_fields_fit (make x) ≡ f.fits x)
     → IsLawful f → (bytes : List ℕ) (b : Body) (rest : List ℕ) → AreBytes bytes
-    → made_body make (f.read bytes) ≡ Some (b, rest)
+    → wire_made_body make (f.read bytes) ≡ Some (b, rest)
     → TakesFields kind b bytes rest
 kind_takes make f kind kinds spells fits lf bytes b rest are e =
     let d = then_some (f.read bytes) (λ x. Some (make x.0, x.1)) (b, rest) e in
@@ -178,29 +178,29 @@ at_kind k kind b bytes rest e t = subst (λ n. TakesFields n b bytes rest) (sym 
 
 fields_take : (k : ℕ) (bytes : List ℕ) (b : Body) (rest : List ℕ) → AreBytes bytes → read_wire_fields k bytes ≡ Some (b, rest) → TakesFields k b bytes rest
 fields_take k bytes b rest are e = elim (cond_cases (eqb k 1) _ _ _ e) [
-  | inl h ↦ at_kind k 1 b bytes rest h.0 (kind_takes (λ p. Install p.0 p.1) install_form 1 (λ x. refl) (λ x. refl) (λ x. refl) install_lawful bytes b rest are h.1)
+  | inl h ↦ at_kind k 1 b bytes rest h.0 (kind_takes (λ p. Install p.0 p.1) wire_install_form 1 (λ x. refl) (λ x. refl) (λ x. refl) install_lawful bytes b rest are h.1)
   | inr g1 ↦ elim (cond_cases (eqb k 2) _ _ _ g1.1) [
-    | inl h ↦ at_kind k 2 b bytes rest h.0 (kind_takes (λ p. OpenAt p.0 p.1) boot_and_version 2
+    | inl h ↦ at_kind k 2 b bytes rest h.0 (kind_takes (λ p. OpenAt p.0 p.1) wire_boot_and_version 2
         (λ x. refl) (λ x. refl) (λ x. refl) of_version_lawful bytes b rest are h.1)
     | inr g2 ↦ elim (cond_cases (eqb k 3) _ _ _ g2.1) [
-      | inl h ↦ at_kind k 3 b bytes rest h.0 (kind_takes (λ p. Stamp p.0 p.1.0 p.1.1) stamp_form
+      | inl h ↦ at_kind k 3 b bytes rest h.0 (kind_takes (λ p. Stamp p.0 p.1.0 p.1.1) wire_stamp_form
           3 (λ x. refl) (λ x. refl) (λ x. refl) stamp_lawful bytes b rest are h.1)
       | inr g3 ↦ elim (cond_cases (eqb k 4) _ _ _ g3.1) [
-        | inl h ↦ at_kind k 4 b bytes rest h.0 (kind_takes (λ p. Collect p.0 p.1) boot_and_version 4
+        | inl h ↦ at_kind k 4 b bytes rest h.0 (kind_takes (λ p. Collect p.0 p.1) wire_boot_and_version 4
             (λ x. refl) (λ x. refl) (λ x. refl) of_version_lawful bytes b rest are h.1)
         | inr g4 ↦ elim (cond_cases (eqb k 5) _ _ _ g4.1) [
-          | inl h ↦ at_kind k 5 b bytes rest h.0 (kind_takes wire_cache_rule_of cache_rule_form 5 (λ x. refl) (λ x. refl) (λ x. refl) cache_rule_lawful bytes b rest are h.1)
+          | inl h ↦ at_kind k 5 b bytes rest h.0 (kind_takes wire_cache_rule_of wire_cache_rule_form 5 (λ x. refl) (λ x. refl) (λ x. refl) cache_rule_lawful bytes b rest are h.1)
           | inr g5 ↦ elim (cond_cases (eqb k 6) _ _ _ g5.1) [
             | inl h ↦ at_kind k 6 b bytes rest h.0 (kind_takes Advertise advert 6 (λ x. refl) (λ x. refl) (λ x. refl) advert_lawful bytes b rest are h.1)
             | inr g6 ↦ elim (cond_cases (eqb k 7) _ _ _ g6.1) [
               | inl h ↦ at_kind k 7 b bytes rest h.0 (kind_takes (λ p. Hello p.0 p.1) hello 7 (λ x. refl) (λ x. refl) (λ x. refl) hello_lawful bytes b rest are h.1)
               | inr g7 ↦ elim (cond_cases (eqb k 8) _ _ _ g7.1) [
                 | inl h ↦ at_kind k 8 b bytes rest h.0
-                    (kind_takes (λ p. Installed p.0 p.1.0 p.1.1) acknowledgement 8 (λ x. refl)
+                    (kind_takes (λ p. Installed p.0 p.1.0 p.1.1) wire_acknowledgement 8 (λ x. refl)
                     (λ x. refl) (λ x. refl) acknowledged_lawful bytes b rest are h.1)
                 | inr g8 ↦ elim (cond_cases (eqb k 9) _ _ _ g8.1) [
                   | inl h ↦ at_kind k 9 b bytes rest h.0
-                      (kind_takes (λ p. Stamped p.0 p.1.0 p.1.1) acknowledgement 9 (λ x. refl)
+                      (kind_takes (λ p. Stamped p.0 p.1.0 p.1.1) wire_acknowledgement 9 (λ x. refl)
                       (λ x. refl) (λ x. refl) acknowledged_lawful bytes b rest are h.1)
                   | inr g9 ↦ let none = g9.1 in absurd cc
                 ]
@@ -213,7 +213,7 @@ fields_take k bytes b rest are e = elim (cond_cases (eqb k 1) _ _ _ e) [
   ]
 ]
 
-fields_again : (b : Body) (rest : List ℕ) → wire_fields_fit b ≡ true → read_wire_fields (kind_number b) (wire_spelled_fields b ++ rest) ≡ Some (b, rest)
+fields_again : (b : Body) (rest : List ℕ) → wire_fields_fit b ≡ true → read_wire_fields (wire_kind_number b) (wire_spelled_fields b ++ rest) ≡ Some (b, rest)
 fields_again (Install boot tables) rest fits = rw (install_lawful.again (boot, tables) rest fits) refl
 fields_again (OpenAt boot version) rest fits = rw (of_version_lawful.again (boot, version) rest fits) refl
 fields_again (Stamp boot version touched) rest fits = rw (stamp_lawful.again (boot, (version, touched)) rest fits) refl
@@ -224,7 +224,7 @@ fields_again (Hello switch boot) rest fits = rw (hello_lawful.again (switch, boo
 fields_again (Installed switch boot version) rest fits = rw (acknowledged_lawful.again (switch, (boot, version)) rest fits) refl
 fields_again (Stamped switch boot version) rest fits = rw (acknowledged_lawful.again (switch, (boot, version)) rest fits) refl
 
-kind_fits : (b : Body) → n1.fits (kind_number b) ≡ true
+kind_fits : (b : Body) → n1.fits (wire_kind_number b) ≡ true
 unfolding n1
 kind_fits (Install _ _) = refl
 kind_fits (OpenAt _ _) = refl
@@ -246,12 +246,12 @@ body_lawful = record {
         fits = fields.fit;
         parts = t.parts ∙ ap (λ u. n1.spell d.0.0 ++ u) fields.parts
             ∙ ap (λ k. n1.spell k ++ (wire_spelled_fields b ++ rest)) (sym fields.kind_is)
-            ∙ sym (append_assoc (n1.spell (kind_number b)) (wire_spelled_fields b) rest);
+            ∙ sym (append_assoc (n1.spell (wire_kind_number b)) (wire_spelled_fields b) rest);
         rest_are = fields.rest_are;
       };
   again = λ b rest fits. rw (
-    append_assoc (n1.spell (kind_number b)) (wire_spelled_fields b) rest,
-    n1_lawful.again (kind_number b) (wire_spelled_fields b ++ rest) (kind_fits b),
+    append_assoc (n1.spell (wire_kind_number b)) (wire_spelled_fields b) rest,
+    n1_lawful.again (wire_kind_number b) (wire_spelled_fields b ++ rest) (kind_fits b),
   ) (fields_again b rest fits);
 }
 

@@ -1,7 +1,7 @@
 -- Cutting a spelling into chunks and the chunks into frames, one after the other.
 use Rattle.std.proofs.Common.{[], ◌++◌, ◌+◌, ◌-◌, ◌<◌, ◌^◌, ◌∙◌, ◌∷◌, ◌≡◌, List, add-one, ap, append_assoc, arith, drop, drop-cons, get_or, length, refl, suc, sym, take, zero, ℕ}
 use Rattle.base.proofs.Exports.{div_ceil, div_ceil_times}
-use Rattle.wire.specs.Exports.{wire_chunks_behind_head, wire_equal_chunks, frame, wire_frames_from, most_of_chunk}
+use Rattle.wire.specs.Exports.{wire_chunks_behind_head, wire_equal_chunks, frame, wire_frames_from, most_of_wire_chunk}
 
 pub goes_on : (front : List (List ℕ)) (count i n : ℕ) (left : List ℕ) (total : List (List ℕ))
     → i < count → front ++ wire_equal_chunks (count - i) n left ≡ total
@@ -27,5 +27,5 @@ length-slices (suc count) n bytes = ap suc (length-slices count n (drop n bytes)
 
 pub few_chunks : (head : ℕ) (bytes : List ℕ) → length bytes < 2 ^ 40
     → length (wire_chunks_behind_head head bytes) < 2 ^ 32
-few_chunks head bytes short = let count = div_ceil (length bytes - head) most_of_chunk in
+few_chunks head bytes short = let count = div_ceil (length bytes - head) most_of_wire_chunk in
     omega (arith, length-slices, div_ceil_times)

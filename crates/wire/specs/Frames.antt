@@ -6,11 +6,11 @@ use Rattle.ctrl_msg.specs.declared.message.Body.TheVariants.{Install}
 use Rattle.ctrl_msg.specs.declared.message.Message.{Message}
 use Rattle.ctrl_msg.specs.declared.message.Place.{Place}
 use Rattle.wire.specs.Fields.{n4}
-use Rattle.wire.specs.Messages.{message, receiver}
+use Rattle.wire.specs.Messages.{message, wire_receiver}
 
 -- the most bytes of a chunk: a frame has 16,384 at most, and 8 of them say where its chunk belongs
-abbrev pub most_of_chunk : ℕ
-most_of_chunk = 16376
+abbrev pub most_of_wire_chunk : ℕ
+most_of_wire_chunk = 16376
 
 -- this many slices, of n bytes each as long as there are that many
 abbrev pub wire_equal_chunks : ℕ → ℕ → List ℕ → List (List ℕ)
@@ -21,7 +21,7 @@ wire_equal_chunks (suc count) n bytes = take n bytes ∷ wire_equal_chunks count
 abbrev pub wire_chunks_behind_head : ℕ → List ℕ → List (List ℕ)
 wire_chunks_behind_head head bytes =
     take head bytes
-    ∷ wire_equal_chunks (div_ceil (length bytes - head) most_of_chunk) most_of_chunk (drop head bytes)
+    ∷ wire_equal_chunks (div_ceil (length bytes - head) most_of_wire_chunk) most_of_wire_chunk (drop head bytes)
 
 -- for an installation the receiver, the kind and the boot, so that its other chunks encode only
 -- the tables; for any other message everything
@@ -42,33 +42,33 @@ wire_frames_from place count [] = []
 wire_frames_from place count (chunk ∷ others) =
     frame place count chunk ∷ wire_frames_from (place + 1) count others
 
-abbrev pub frames_of : List (List ℕ) → List (List ℕ)
-frames_of parts = wire_frames_from 0 (length parts) parts
+abbrev pub wire_frames_of : List (List ℕ) → List (List ℕ)
+wire_frames_of parts = wire_frames_from 0 (length parts) parts
 
 abbrev pub frames : Message → List (List ℕ)
-frames m = frames_of (wire_chunks m)
+frames m = wire_frames_of (wire_chunks m)
 
 -- the message has an encoding, and these are its frames
-pub record AreFrames (m : Message) (fs : List (List ℕ)) : Type 0 where
+pub record AreWireFrames (m : Message) (fs : List (List ℕ)) : Type 0 where
   pub fits : message.fits m ≡ true
   pub frames_are : fs ≡ frames m
 
 -- ---- the same tables under another version
 
 -- the frame whose chunk begins with the four bytes of this version
-abbrev pub frame_begun_with : ℕ → List ℕ → List ℕ
-frame_begun_with version bytes = take 8 bytes ++ n4.spell version ++ drop 12 bytes
+abbrev pub wire_frame_begun_with : ℕ → List ℕ → List ℕ
+wire_frame_begun_with version bytes = take 8 bytes ++ n4.spell version ++ drop 12 bytes
 
 -- the frames of an installation of the same tables under this version: the chunk of the second one
 -- begins with the version
 abbrev pub wire_frames_of_version : ℕ → List (List ℕ) → List (List ℕ)
-wire_frames_of_version version fs = slice_set fs 1 (frame_begun_with version (slice_index_or fs 1 []))
+wire_frames_of_version version fs = slice_set fs 1 (wire_frame_begun_with version (slice_index_or fs 1 []))
 
 -- ---- the same message to another receiver
 
 -- the frame whose chunk begins with the one byte of this receiver
 abbrev pub wire_begun_for : Place → List ℕ → List ℕ
-wire_begun_for to bytes = take 8 bytes ++ receiver.spell to ++ drop 9 bytes
+wire_begun_for to bytes = take 8 bytes ++ wire_receiver.spell to ++ drop 9 bytes
 
 -- the frames of the same message to this receiver: the first one begins with it
 abbrev pub wire_frames_of_receiver : Place → List (List ℕ) → List (List ℕ)
@@ -76,11 +76,11 @@ wire_frames_of_receiver to fs = slice_set fs 0 (wire_begun_for to (slice_index_o
 
 -- ---- the parts of a frame
 
-unfoldable pub place_in_frame : List ℕ → ℕ
-place_in_frame bytes = from_be_bytes w32 (take 4 bytes)
+unfoldable pub place_in_wire_frame : List ℕ → ℕ
+place_in_wire_frame bytes = from_be_bytes w32 (take 4 bytes)
 
-unfoldable pub count_in_frame : List ℕ → ℕ
-count_in_frame bytes = from_be_bytes w32 (take 4 (drop 4 bytes))
+unfoldable pub count_in_wire_frame : List ℕ → ℕ
+count_in_wire_frame bytes = from_be_bytes w32 (take 4 (drop 4 bytes))
 
-abbrev pub chunk_in_frame : List ℕ → List ℕ
-chunk_in_frame bytes = drop 8 bytes
+abbrev pub chunk_in_wire_frame : List ℕ → List ℕ
+chunk_in_wire_frame bytes = drop 8 bytes

@@ -2,8 +2,8 @@ ghost use Rattle.std.specs.Prelude.{◌≡◌, ◌<◌, ◌≤◌, ◌↔◌, []
 ghost use Rattle.std.specs.Option.{option_copied};
 ghost use Rattle.std.specs.List.{insert, position, position_or_len};
 ghost use Rattle.base.specs.Refusals.{IfRefused};
-ghost use Rattle.wire.specs.Frames.{AreFrames, count_in_frame, place_in_frame};
-ghost use Rattle.wire.specs.Assembly.{WireFramesAgree, AreWireFramesHeld, AreWireFramesRising, AreWireFramesTogether, IsWireMessageAssembled, IsAssemblerFed, IsRefusedFrame, IsFrameCheck, frame_held_at, frames_with_frame};
+ghost use Rattle.wire.specs.Frames.{AreWireFrames, count_in_wire_frame, place_in_wire_frame};
+ghost use Rattle.wire.specs.Assembly.{WireFramesAgree, AreWireFramesHeld, AreWireFramesRising, AreWireFramesTogether, IsWireMessageAssembled, IsWireAssemblerFed, IsRefusedWireFrame, IsWireFrameCheck, wire_frame_held_at, wire_frames_with_frame};
 
 use crate::assembly::{are_same_frame_bytes, wire_message_of};
 use crate::error::{Malformed, WireError};
@@ -49,12 +49,12 @@ impl Assembler {
     /// count, an earlier frame has another count, another frame has its place, or all frames have
     /// come and are those of no message. Otherwise only out of memory. An error changes nothing.
     pub fn feed(&mut self, frame: &[u8]) -> Result<Option<Message>, WireError>
-        ensures refused { IfErr result (IfRefused (λ _. IsRefusedFrame self.old frame.now)) }
-        ensures taken { OnOk result (IsRefusedFrame self.old frame.now → ⊥) }
-        ensures held { OnOk result (self.new ≡ frames_with_frame self.old frame.now) }
+        ensures refused { IfErr result (IfRefused (λ _. IsRefusedWireFrame self.old frame.now)) }
+        ensures taken { OnOk result (IsRefusedWireFrame self.old frame.now → ⊥) }
+        ensures held { OnOk result (self.new ≡ wire_frames_with_frame self.old frame.now) }
         ensures some { IfOk result (λ answer.
-            IsSome answer ↔ AreWireFramesHeld self.new (count_in_frame frame.now)) }
-        ensures message { IfOk result (λ answer. IfSome answer (λ m. AreFrames m self.new)) }
+            IsSome answer ↔ AreWireFramesHeld self.new (count_in_wire_frame frame.now)) }
+        ensures message { IfOk result (λ answer. IfSome answer (λ m. AreWireFrames m self.new)) }
         ensures unchanged { OnErr result (self.new ≡ self.old) }
     {
         let alloc = *self.frames.allocator();
@@ -64,7 +64,7 @@ impl Assembler {
 
 fn feed(frames: &mut Vec<Frame>, alloc: Global, frame: &[u8]) -> Result<Option<Message>, WireError>
     requires { AreWireFramesTogether frames.old.items }
-    ensures { IsAssemblerFed frames.old.items frame.now frames.new.items result }
+    ensures { IsWireAssemblerFed frames.old.items frame.now frames.new.items result }
 {
     match frame_check_of(frames, frame) {
         FrameCheck::Refused => Err(WireError::Refused(Malformed)),
@@ -82,9 +82,9 @@ fn hold(
 ) -> Result<Option<Message>, WireError>
     requires index { index ≤ length frames.old.items }
     requires long { 8 ≤ length frame.now }
-    requires rising { AreWireFramesRising 0 (count_in_frame frame.now) (insert frames.old.items index frame.now) }
+    requires rising { AreWireFramesRising 0 (count_in_wire_frame frame.now) (insert frames.old.items index frame.now) }
     ensures answer { let held = insert frames.old.items index frame.now in
-        IsWireMessageAssembled held (count_in_frame frame.now) result }
+        IsWireMessageAssembled held (count_in_wire_frame frame.now) result }
     ensures ok { OnOk result (frames.new.items ≡ insert frames.old.items index frame.now) }
     ensures unchanged { OnErr result (frames.new.items ≡ frames.old.items) }
 {
@@ -111,7 +111,7 @@ enum FrameCheck {
 
 fn frame_check_of(frames: &[Frame], frame: &[u8]) -> FrameCheck
     requires { AreWireFramesTogether frames.now }
-    ensures { IsFrameCheck frames.now frame.now result }
+    ensures { IsWireFrameCheck frames.now frame.now result }
 {
     if frame.len() <= HEADER_LEN {
         return FrameCheck::Refused;
@@ -143,9 +143,9 @@ fn agree(frames: &[Frame], count: u32) -> bool
 fn frame_check_among(frames: &[Frame], frame: &[u8]) -> FrameCheck
     requires long { 9 ≤ length frame.now }
     requires short { length frame.now ≤ 16384 }
-    requires below { place_in_frame frame.now < count_in_frame frame.now }
-    requires rising { AreWireFramesRising 0 (count_in_frame frame.now) frames.now }
-    ensures { IsFrameCheck frames.now frame.now result }
+    requires below { place_in_wire_frame frame.now < count_in_wire_frame frame.now }
+    requires rising { AreWireFramesRising 0 (count_in_wire_frame frame.now) frames.now }
+    ensures { IsWireFrameCheck frames.now frame.now result }
 {
     let place = wire_place_of(frame);
     match find_wire_frame_at(frames, place) {
@@ -162,21 +162,21 @@ fn frame_check_among(frames: &[Frame], frame: &[u8]) -> FrameCheck
 
 // The frame of this place; `None` if it hasn't come.
 fn find_wire_frame_at(frames: &[Frame], place: u32) -> Option<&Frame>
-    ensures { option_copied result ≡ frame_held_at frames.now place }
+    ensures { option_copied result ≡ wire_frame_held_at frames.now place }
 {
     frames.iter().find(|frame| frame.place() == place)
 }
 
 // The index of the first frame of this place or a higher one.
 fn first_wire_frame_from(frames: &[Frame], place: u32) -> Option<usize>
-    ensures { result ≡ position (λ f. nat_le place (place_in_frame f)) frames.now }
+    ensures { result ≡ position (λ f. nat_le place (place_in_wire_frame f)) frames.now }
 {
     frames.iter().position(|frame| place <= frame.place())
 }
 
 // How many frames are before the first of this place or a higher one.
 fn wire_frame_index_of(frames: &[Frame], place: u32) -> usize
-    ensures { result ≡ position_or_len (λ f. nat_le place (place_in_frame f)) frames.now }
+    ensures { result ≡ position_or_len (λ f. nat_le place (place_in_wire_frame f)) frames.now }
 {
     match first_wire_frame_from(frames, place) {
         Some(index) => index,

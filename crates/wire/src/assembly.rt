@@ -1,6 +1,6 @@
 ghost use Rattle.std.specs.Prelude.{◌≡◌, ◌↔◌, length, map, IsTrue, IfOk};
 ghost use Rattle.std.specs.List.{flat_map};
-ghost use Rattle.wire.specs.Frames.{chunk_in_frame};
+ghost use Rattle.wire.specs.Frames.{chunk_in_wire_frame};
 ghost use Rattle.wire.specs.Assembly.{AreWireFramesRising, IsWireMessageAssembled, IsWireMessageWhole};
 
 use crate::codec::decode;
@@ -19,7 +19,7 @@ pub(crate) fn are_same_frame_bytes(a: &[u8], b: &[u8]) -> bool
 
 // The chunks, one after the other.
 fn joined(alloc: Global, frames: &[Frame]) -> Result<Vec<u8>, AllocError>
-    ensures { IfOk result (λ bytes. bytes.items ≡ flat_map chunk_in_frame frames.now) }
+    ensures { IfOk result (λ bytes. bytes.items ≡ flat_map chunk_in_wire_frame frames.now) }
 {
     let mut bytes = Vec::with_capacity(alloc, frames.len().saturating_mul(MAX_CHUNK))?;
     for frame in frames {
@@ -30,7 +30,7 @@ fn joined(alloc: Global, frames: &[Frame]) -> Result<Vec<u8>, AllocError>
 
 // Whether these are the chunks of the frames.
 fn are_frame_chunks(frames: &[Frame], parts: &[&[u8]]) -> bool
-    ensures { IsTrue result ↔ (map chunk_in_frame frames.now ≡ map (λ p. p.now) parts.now) }
+    ensures { IsTrue result ↔ (map chunk_in_wire_frame frames.now ≡ map (λ p. p.now) parts.now) }
 {
     if frames.len() != parts.len() {
         return false;
@@ -46,7 +46,7 @@ fn are_frame_chunks(frames: &[Frame], parts: &[&[u8]]) -> bool
 // The message of these frames, whose chunks make these bytes.
 fn decoded_frames(alloc: Global, frames: &[Frame], bytes: &[u8]) -> Result<Message, WireError>
     requires rising { AreWireFramesRising 0 (length frames.now) frames.now }
-    requires bytes { bytes.now ≡ flat_map chunk_in_frame frames.now }
+    requires bytes { bytes.now ≡ flat_map chunk_in_wire_frame frames.now }
     ensures { IsWireMessageWhole frames.now result }
 {
     let message = decode(alloc, bytes)?;

@@ -3,8 +3,8 @@ ghost use Rattle.ctrl_msg.specs.declared.message.Message.{Message};
 ghost use Rattle.base.specs.Refusals.{IfRefused};
 ghost use Rattle.wire.specs.Fields as form;
 ghost use Rattle.wire.specs.Messages as kinds;
-ghost use Rattle.wire.specs.Messages.{AreWireShort, WireFieldsSuit, HasSpelling, IsWireSpelling, IsWirePlace, wire_cache_rule_of, kind_number, made_body, read_wire_fields, whole_message};
-ghost use Rattle.wire.specs.Reading.{AppendsWireForm, AppendsWireFields, Gives, WireFormatReads};
+ghost use Rattle.wire.specs.Messages.{AreWireShort, WireFieldsSuit, HasWireSpelling, IsWireSpelling, IsWirePlace, wire_cache_rule_of, wire_kind_number, wire_made_body, read_wire_fields, whole_wire_message};
+ghost use Rattle.wire.specs.Reading.{AppendsWireForm, AppendsWireFields, GivesWireReading, WireFormatReads};
 
 use crate::error::{Malformed, WireError};
 use crate::fields::{
@@ -22,9 +22,9 @@ use std::alloc::{AllocError, Global};
 use switch_table::Touched;
 use ternary::Word;
 
-#[tactic(auto, unfolding(crate::specs::Messages::receiver))]
+#[tactic(auto, unfolding(crate::specs::Messages::wire_receiver))]
 pub(crate) fn read_receiver(reader: &mut ByteReader) -> Result<Place, WireError>
-    ensures { WireFormatReads kinds.receiver reader.old result reader.new }
+    ensures { WireFormatReads kinds.wire_receiver reader.old result reader.new }
 {
     match reader.n1()? {
         255 => Ok(Place::Controller),
@@ -34,11 +34,11 @@ pub(crate) fn read_receiver(reader: &mut ByteReader) -> Result<Place, WireError>
 }
 
 /// The byte of a receiver.
-#[tactic(auto, unfolding(crate::specs::Messages::receiver, crate::specs::Fields::switch, crate::specs::Fields::n1, crate::specs::Format::wire_spelled_number))]
+#[tactic(auto, unfolding(crate::specs::Messages::wire_receiver, crate::specs::Fields::switch, crate::specs::Fields::n1, crate::specs::Format::wire_spelled_number))]
 pub(crate) fn receiver_byte(to: Place) -> u8
     requires { IsWirePlace to }
-    ensures fits { kinds.receiver.fits to ≡ true }
-    ensures spelled { kinds.receiver.spell to ≡ result ∷ [] }
+    ensures fits { kinds.wire_receiver.fits to ≡ true }
+    ensures spelled { kinds.wire_receiver.spell to ≡ result ∷ [] }
 {
     match to {
         Place::Controller => 255,
@@ -48,15 +48,15 @@ pub(crate) fn receiver_byte(to: Place) -> u8
 
 pub(crate) fn put_receiver(out: &mut Vec<u8>, to: Place) -> Result<(), AllocError>
     requires { IsWirePlace to }
-    ensures { OnOk result (AppendsWireForm kinds.receiver to out.old.items out.new.items) }
+    ensures { OnOk result (AppendsWireForm kinds.wire_receiver to out.old.items out.new.items) }
 {
     out.push(receiver_byte(to))?;
     Ok(())
 }
 
-#[tactic(auto, unfolding(crate::specs::Messages::install_form))]
+#[tactic(auto, unfolding(crate::specs::Messages::wire_install_form))]
 fn read_install(reader: &mut ByteReader) -> Result<(u32, SharedTables), WireError>
-    ensures { WireFormatReads kinds.install_form reader.old result reader.new }
+    ensures { WireFormatReads kinds.wire_install_form reader.old result reader.new }
 {
     let boot = reader.n4()?;
     let tables = read_wire_tables(reader)?;
@@ -64,19 +64,19 @@ fn read_install(reader: &mut ByteReader) -> Result<(u32, SharedTables), WireErro
     Ok((boot, tables))
 }
 
-#[tactic(auto, unfolding(crate::specs::Messages::boot_and_version))]
+#[tactic(auto, unfolding(crate::specs::Messages::wire_boot_and_version))]
 fn read_wire_boot_version(reader: &mut ByteReader) -> Result<(u32, u32), WireError>
-    ensures { WireFormatReads kinds.boot_and_version reader.old result reader.new }
+    ensures { WireFormatReads kinds.wire_boot_and_version reader.old result reader.new }
 {
     let boot = reader.n4()?;
     let version = reader.n4()?;
     Ok((boot, version))
 }
 
-#[tactic(auto, unfolding(crate::specs::Messages::stamp_form))]
+#[tactic(auto, unfolding(crate::specs::Messages::wire_stamp_form))]
 fn read_wire_stamp(reader: &mut ByteReader) -> Result<(u32, u32, Shared<Touched>), WireError>
-    ensures { let read = kinds.stamp_form.read reader.old in
-        Gives (λ p. (p.0, (p.1, p.2))) read result reader.new }
+    ensures { let read = kinds.wire_stamp_form.read reader.old in
+        GivesWireReading (λ p. (p.0, (p.1, p.2))) read result reader.new }
 {
     let boot = reader.n4()?;
     let version = reader.n4()?;
@@ -97,10 +97,10 @@ fn read_advert(reader: &mut ByteReader) -> Result<Advert, WireError>
     })
 }
 
-#[tactic(auto, unfolding(crate::specs::Messages::cache_rule_form))]
+#[tactic(auto, unfolding(crate::specs::Messages::wire_cache_rule_form))]
 fn read_wire_cache_rule(reader: &mut ByteReader) -> Result<Body, WireError>
-    ensures { let read = made_body wire_cache_rule_of (kinds.cache_rule_form.read reader.old) in
-        Gives (λ body. body) read result reader.new }
+    ensures { let read = wire_made_body wire_cache_rule_of (kinds.wire_cache_rule_form.read reader.old) in
+        GivesWireReading (λ body. body) read result reader.new }
 {
     Ok(Body::CacheRule {
         version: reader.n4()?,
@@ -119,10 +119,10 @@ fn read_hello(reader: &mut ByteReader) -> Result<(u32, u32), WireError>
     Ok((switch, boot))
 }
 
-#[tactic(auto, unfolding(crate::specs::Messages::acknowledgement))]
+#[tactic(auto, unfolding(crate::specs::Messages::wire_acknowledgement))]
 fn read_acknowledged(reader: &mut ByteReader) -> Result<(u32, u32, u32), WireError>
-    ensures { let read = kinds.acknowledgement.read reader.old in
-        Gives (λ p. (p.0, (p.1, p.2))) read result reader.new }
+    ensures { let read = kinds.wire_acknowledgement.read reader.old in
+        GivesWireReading (λ p. (p.0, (p.1, p.2))) read result reader.new }
 {
     let switch = read_wire_switch(reader)?;
     let (boot, version) = read_wire_boot_version(reader)?;
@@ -130,7 +130,7 @@ fn read_acknowledged(reader: &mut ByteReader) -> Result<(u32, u32, u32), WireErr
 }
 
 fn read_wire_fields(kind: u8, reader: &mut ByteReader) -> Result<Body, WireError>
-    ensures { Gives (λ body. body) (read_wire_fields kind reader.old) result reader.new }
+    ensures { GivesWireReading (λ body. body) (read_wire_fields kind reader.old) result reader.new }
 {
     match kind {
         1 => read_install(reader).map(|(boot, tables)| Body::Install { boot, tables }),
@@ -184,7 +184,7 @@ fn read_message(reader: &mut ByteReader) -> Result<Message, WireError>
 }
 
 fn whole(reader: &mut ByteReader) -> Result<Message, WireError>
-    ensures { Gives (λ message. message) (whole_message reader.old) result reader.new }
+    ensures { GivesWireReading (λ message. message) (whole_wire_message reader.old) result reader.new }
 {
     let message = read_message(reader)?;
     if reader.is_empty() {
@@ -194,32 +194,32 @@ fn whole(reader: &mut ByteReader) -> Result<Message, WireError>
     }
 }
 
-#[tactic(auto, unfolding(crate::specs::Messages::install_form))]
+#[tactic(auto, unfolding(crate::specs::Messages::wire_install_form))]
 fn put_install(out: &mut Vec<u8>, boot: u32, tables: &SharedTables) -> Result<(), AllocError>
     requires { AreWireShort tables.now }
-    ensures { OnOk result (AppendsWireForm kinds.install_form (boot, tables.now) out.old.items out.new.items) }
+    ensures { OnOk result (AppendsWireForm kinds.wire_install_form (boot, tables.now) out.old.items out.new.items) }
 {
     put_n4(out, boot)?;
     put_tables(out, tables.tables())
 }
 
-#[tactic(auto, unfolding(crate::specs::Messages::boot_and_version))]
+#[tactic(auto, unfolding(crate::specs::Messages::wire_boot_and_version))]
 fn put_wire_boot_and_version(out: &mut Vec<u8>, boot: u32, version: u32) -> Result<(), AllocError>
-    ensures { OnOk result (AppendsWireForm kinds.boot_and_version (boot, version) out.old.items
+    ensures { OnOk result (AppendsWireForm kinds.wire_boot_and_version (boot, version) out.old.items
         out.new.items) }
 {
     put_n4(out, boot)?;
     put_n4(out, version)
 }
 
-#[tactic(auto, unfolding(crate::specs::Messages::stamp_form))]
+#[tactic(auto, unfolding(crate::specs::Messages::wire_stamp_form))]
 fn put_stamp(
     out: &mut Vec<u8>,
     boot: u32,
     version: u32,
     touched: &Touched,
 ) -> Result<(), AllocError>
-    ensures { OnOk result (AppendsWireForm kinds.stamp_form (boot, (version, touched.now))
+    ensures { OnOk result (AppendsWireForm kinds.wire_stamp_form (boot, (version, touched.now))
         out.old.items out.new.items) }
 {
     put_n4(out, boot)?;
@@ -227,14 +227,14 @@ fn put_stamp(
     put_wire_touched(out, touched)
 }
 
-#[tactic(auto, unfolding(crate::specs::Messages::cache_rule_form))]
+#[tactic(auto, unfolding(crate::specs::Messages::wire_cache_rule_form))]
 fn put_wire_cache_rule(
     out: &mut Vec<u8>,
     version: u32,
     word: &Word,
     hit: Hit,
 ) -> Result<(), AllocError>
-    ensures { OnOk result (AppendsWireForm kinds.cache_rule_form (version, (word.now, (hit.rule, hit.action)))
+    ensures { OnOk result (AppendsWireForm kinds.wire_cache_rule_form (version, (word.now, (hit.rule, hit.action)))
         out.old.items out.new.items) }
 {
     put_n4(out, version)?;
@@ -280,7 +280,7 @@ fn put_hello(out: &mut Vec<u8>, switch: u32, boot: u32) -> Result<(), AllocError
     put_n4(out, boot)
 }
 
-#[tactic(auto, unfolding(crate::specs::Messages::acknowledgement))]
+#[tactic(auto, unfolding(crate::specs::Messages::wire_acknowledgement))]
 fn put_acknowledged(
     out: &mut Vec<u8>,
     switch: u32,
@@ -288,7 +288,7 @@ fn put_acknowledged(
     version: u32,
 ) -> Result<(), AllocError>
     requires { switch < 64 }
-    ensures { OnOk result (AppendsWireForm kinds.acknowledgement (switch, (boot, version))
+    ensures { OnOk result (AppendsWireForm kinds.wire_acknowledgement (switch, (boot, version))
         out.old.items out.new.items) }
 {
     put_wire_switch(out, switch)?;
@@ -296,7 +296,7 @@ fn put_acknowledged(
 }
 
 fn wire_kind_of_body(body: &Body) -> u8
-    ensures { result ≡ kind_number body.now }
+    ensures { result ≡ wire_kind_number body.now }
 {
     match body {
         Body::Install { .. } => 1,
@@ -367,7 +367,7 @@ fn put_body(out: &mut Vec<u8>, body: &Body) -> Result<(), AllocError>
 /// Only out of memory; then a part of it may be written.
 #[tactic(auto, unfolding(crate::specs::Messages::message))]
 pub fn append(out: &mut Vec<u8>, message: &Message) -> Result<(), AllocError>
-    requires { HasSpelling message.now }
+    requires { HasWireSpelling message.now }
     ensures fits { OnOk result (kinds.message.fits message.now ≡ true) }
     ensures spelled { OnOk result
         (out.new.items ≡ out.old.items ++ kinds.message.spell message.now) }
@@ -381,7 +381,7 @@ pub fn append(out: &mut Vec<u8>, message: &Message) -> Result<(), AllocError>
 /// # Errors
 /// Only out of memory.
 pub fn encode(alloc: Global, message: &Message) -> Result<Vec<u8>, AllocError>
-    requires { HasSpelling message.now }
+    requires { HasWireSpelling message.now }
     ensures { IfOk result (λ bytes. IsWireSpelling message.now bytes.items) }
 {
     let mut bytes = Vec::new(alloc);

@@ -51,9 +51,9 @@ pub(crate) fn put_word(out: &mut Vec<u8>, word: &Word) -> Result<(), AllocError>
     put_n16(out, word.mask())
 }
 
-#[tactic(auto, unfolding(crate::specs::Fields::rule_name))]
+#[tactic(auto, unfolding(crate::specs::Fields::wire_rule_name))]
 pub(crate) fn read_wire_rule_name(reader: &mut ByteReader) -> Result<Option<u32>, WireError>
-    ensures { WireFormatReads form.rule_name reader.old result reader.new }
+    ensures { WireFormatReads form.wire_rule_name reader.old result reader.new }
 {
     match reader.n1()? {
         0 => Ok(None),
@@ -62,9 +62,9 @@ pub(crate) fn read_wire_rule_name(reader: &mut ByteReader) -> Result<Option<u32>
     }
 }
 
-#[tactic(auto, unfolding(crate::specs::Fields::rule_name))]
+#[tactic(auto, unfolding(crate::specs::Fields::wire_rule_name))]
 pub(crate) fn put_wire_rule_name(out: &mut Vec<u8>, rule: Option<u32>) -> Result<(), AllocError>
-    ensures { OnOk result (AppendsWireForm form.rule_name rule out.old.items out.new.items) }
+    ensures { OnOk result (AppendsWireForm form.wire_rule_name rule out.old.items out.new.items) }
 {
     match rule {
         None => put_n1(out, 0),
@@ -101,7 +101,7 @@ pub(crate) fn put_action(out: &mut Vec<u8>, action: Action) -> Result<(), AllocE
 
 // How many values follow: a byte from `least` to `most`.
 fn read_byte_count(reader: &mut ByteReader, least: u8, most: u8) -> Result<usize, WireError>
-    ensures read { WireFormatReads (form.count_within least most) reader.old result reader.new }
+    ensures read { WireFormatReads (form.wire_count_within least most) reader.old result reader.new }
     ensures within { IfOk result (λ count. (least ≤ count) × (count ≤ most)) }
 {
     let count = reader.n1()?;

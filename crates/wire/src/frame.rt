@@ -1,5 +1,5 @@
 ghost use Rattle.std.specs.Prelude.{◌≡◌, ◌<◌, ◌≤◌, length, IfOk};
-ghost use Rattle.wire.specs.Frames.{frame, place_in_frame, count_in_frame, chunk_in_frame};
+ghost use Rattle.wire.specs.Frames.{frame, place_in_wire_frame, count_in_wire_frame, chunk_in_wire_frame};
 
 use crate::writer::put_n4;
 use std::alloc::{AllocError, Global};
@@ -66,19 +66,19 @@ impl Frame {
     }
 
     pub fn place(&self) -> u32
-        ensures { result ≡ place_in_frame self.now }
+        ensures { result ≡ place_in_wire_frame self.now }
     {
         wire_place_of(self.bytes())
     }
 
     pub fn count(&self) -> u32
-        ensures { result ≡ count_in_frame self.now }
+        ensures { result ≡ count_in_wire_frame self.now }
     {
         wire_count_of(self.bytes())
     }
 
     pub fn chunk(&self) -> &[u8]
-        ensures { result.now ≡ chunk_in_frame self.now }
+        ensures { result.now ≡ chunk_in_wire_frame self.now }
     {
         &self.bytes()[HEADER_LEN..]
     }
@@ -94,19 +94,19 @@ impl Clone for Frame {
 }
 
 /// The place of a frame.
-#[tactic(auto, unfolding(crate::specs::Frames::place_in_frame))]
+#[tactic(auto, unfolding(crate::specs::Frames::place_in_wire_frame))]
 pub(crate) fn wire_place_of(frame: &[u8]) -> u32
     requires { 8 ≤ length frame.now }
-    ensures { result ≡ place_in_frame frame.now }
+    ensures { result ≡ place_in_wire_frame frame.now }
 {
     u32::from_be_bytes([frame[0], frame[1], frame[2], frame[3]])
 }
 
 /// How many frames there are, as this frame says.
-#[tactic(auto, unfolding(crate::specs::Frames::count_in_frame))]
+#[tactic(auto, unfolding(crate::specs::Frames::count_in_wire_frame))]
 pub(crate) fn wire_count_of(frame: &[u8]) -> u32
     requires { 8 ≤ length frame.now }
-    ensures { result ≡ count_in_frame frame.now }
+    ensures { result ≡ count_in_wire_frame frame.now }
 {
     u32::from_be_bytes([frame[4], frame[5], frame[6], frame[7]])
 }

@@ -1,7 +1,7 @@
 ghost use Rattle.std.specs.Prelude.{◌≡◌, ◌<◌, ◌≤◌, ◌^◌, ◌↔◌, Some, true, length, map, take, drop, slice_get, IfOk, IfSome, IsNone};
-ghost use Rattle.wire.specs.Frames.{AreFrames, wire_begun_for, frame_begun_with, wire_chunks_behind_head, wire_first_chunk_len, frames_of, wire_frames_of_version};
+ghost use Rattle.wire.specs.Frames.{AreWireFrames, wire_begun_for, wire_frame_begun_with, wire_chunks_behind_head, wire_first_chunk_len, wire_frames_of, wire_frames_of_version};
 ghost use Rattle.wire.specs.Messages as kinds;
-ghost use Rattle.wire.specs.Messages.{HasSpelling, IsWirePlace};
+ghost use Rattle.wire.specs.Messages.{HasWireSpelling, IsWirePlace};
 
 use crate::codec::{encode, receiver_byte};
 use crate::frame::{Frame, HEADER_LEN};
@@ -75,7 +75,7 @@ fn shared(alloc: Global, frames: &[Frame]) -> Result<Vec<Frame>, AllocError>
 // The frame with the four bytes of this version at the beginning of its chunk.
 fn frame_begun_with(alloc: Global, version: u32, frame: &[u8]) -> Result<Frame, AllocError>
     requires { 8 ≤ length frame.now }
-    ensures { IfOk result (λ f. f ≡ frame_begun_with version frame.now) }
+    ensures { IfOk result (λ f. f ≡ wire_frame_begun_with version frame.now) }
 {
     let mut bytes = Vec::with_capacity(alloc, frame.len())?;
     bytes.extend_from_slice(split_front(frame, HEADER_LEN).0)?;
@@ -89,7 +89,7 @@ fn frame_begun_with(alloc: Global, version: u32, frame: &[u8]) -> Result<Frame, 
 pub fn set_wire_receiver(frame: &mut [u8], to: Place)
     requires receiver { IsWirePlace to }
     requires long { 9 ≤ length frame.old }
-    ensures fits { kinds.receiver.fits to ≡ true }
+    ensures fits { kinds.wire_receiver.fits to ≡ true }
     ensures written { frame.new ≡ wire_begun_for to frame.old }
 {
     frame[HEADER_LEN] = receiver_byte(to);
@@ -101,9 +101,9 @@ pub fn set_wire_receiver(frame: &mut [u8], to: Place)
 /// # Errors
 /// Only out of memory.
 pub fn split(alloc: Global, message: &Message) -> Result<Frames, AllocError>
-    requires spelling { HasSpelling message.now }
+    requires spelling { HasWireSpelling message.now }
     requires short { length (kinds.message.spell message.now) < 2 ^ 40 }
-    ensures { IfOk result (λ frames. AreFrames message.now frames) }
+    ensures { IfOk result (λ frames. AreWireFrames message.now frames) }
 {
     let bytes = encode(alloc, message)?;
     let parts = cut(alloc, wire_first_chunk_len(&message.body, &bytes), &bytes)?;
@@ -154,7 +154,7 @@ pub(crate) fn cut(alloc: Global, head: usize, bytes: &[u8]) -> Result<Vec<&[u8]>
 // The frames of these chunks.
 fn framed(alloc: Global, parts: &[&[u8]]) -> Result<Vec<Frame>, AllocError>
     requires { length parts.now < 2 ^ 32 }
-    ensures { IfOk result (λ frames. frames.items ≡ frames_of (map (λ p. p.now) parts.now)) }
+    ensures { IfOk result (λ frames. frames.items ≡ wire_frames_of (map (λ p. p.now) parts.now)) }
 {
     let mut frames = Vec::new(alloc);
     let count = parts.len() as u32;

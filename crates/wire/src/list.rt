@@ -1,6 +1,6 @@
 ghost use Rattle.std.specs.Prelude.{◌<◌, ◌^◌, length, All, OnOk};
-ghost use Rattle.wire.specs.Format.{Format, wire_list_of, wire_read_items};
-ghost use Rattle.wire.specs.Reading.{WireFormatReads, Gives, AppendsWireForm, AppendsEncodedItems};
+ghost use Rattle.wire.specs.Format.{WireFormat, wire_list_of, wire_read_items};
+ghost use Rattle.wire.specs.Reading.{WireFormatReads, GivesWireReading, AppendsWireForm, AppendsEncodedItems};
 ghost use Rattle.wire.specs.Fields.{n4};
 
 use crate::error::WireError;
@@ -14,7 +14,7 @@ const LEAST_OF_PART: usize = 32;
 /// A part of a message that has a format.
 pub(crate) trait Part: Sized + Drop {
     /// How it is encoded.
-    ghost format: { Format Self };
+    ghost format: { WireFormat Self };
 
     /// What its writer requires.
     ghost needs: { Self → Type 0 };
@@ -34,7 +34,7 @@ pub(crate) fn wire_read_items<T: Part>(
     reader: &mut ByteReader,
     count: u32,
 ) -> Result<Vec<T>, WireError>
-    ensures { Gives (λ v. v.items) (wire_read_items T.format count reader.old) result reader.new }
+    ensures { GivesWireReading (λ v. v.items) (wire_read_items T.format count reader.old) result reader.new }
 {
     let most = reader.len() / LEAST_OF_PART;
     let mut items = Vec::with_capacity(reader.alloc(), most.min(count as usize))?;
@@ -46,7 +46,7 @@ pub(crate) fn wire_read_items<T: Part>(
 
 #[tactic(auto, unfolding(crate::specs::Format::wire_list_of))]
 pub(crate) fn wire_read_list<T: Part>(reader: &mut ByteReader) -> Result<Vec<T>, WireError>
-    ensures { Gives (λ v. v.items) ((wire_list_of n4 T.format).read reader.old) result reader.new }
+    ensures { GivesWireReading (λ v. v.items) ((wire_list_of n4 T.format).read reader.old) result reader.new }
 {
     let count = reader.n4()?;
     wire_read_items(reader, count)

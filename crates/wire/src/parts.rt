@@ -3,7 +3,7 @@
 ghost use Rattle.std.specs.Prelude.{OnOk};
 ghost use Rattle.wire.specs.Reading.{AppendsWireForm, WireFormatReads};
 ghost use Rattle.wire.specs.Fields as form;
-ghost use Rattle.wire.specs.Messages.{AreWireShort, AreSwitches, HasFewWireRules};
+ghost use Rattle.wire.specs.Messages.{AreWireShort, AreWireSwitchNumbers, HasFewWireRules};
 
 use crate::error::WireError;
 use crate::fields::{
@@ -57,7 +57,7 @@ impl Part for Rule {
 impl Part for PartRow {
     ghost format = { form.region };
 
-    ghost needs = { AreSwitches };
+    ghost needs = { AreWireSwitchNumbers };
 
     fn read(reader: &mut ByteReader) -> Result<PartRow, WireError> {
         Ok(PartRow {

@@ -5,9 +5,9 @@ use Rattle.message_bag.specs.Exports.{Post}
 use Rattle.controller.specs.declared.sends.Act.{Act}
 use Rattle.update_machine.specs.Exports.{Item, Setting, Step, piece}
 use Rattle.journal.specs.declared.item.Item.TheVariants as item
-use Rattle.world.specs.Exports.{WorldBeginsStep, WorldStepGoes, WorldPartsKeepNet, WorldPartsKeepRest, comes_in, world_setting_in, world_state_in}
+use Rattle.world.specs.Exports.{WorldBeginsStep, WorldStepGoes, WorldPartsKeepNet, WorldPartsKeepRest, world_packets_coming_in, world_setting_in, world_state_in}
 use Rattle.refinement.specs.Exports.{RefineJournal}
-use Rattle.travelling.specs.Travelling.{Flights}
+use Rattle.travelling.specs.Travelling.{TravellingFlights}
 use Rattle.world_log.specs.Exports.{IsLogPart, log_act_items, log_act_posts}
 use Rattle.world_log.specs.declared.log.Log.{Log}
 use Rattle.world.specs.declared.parts.WorldParts.{WorldParts}
@@ -21,7 +21,7 @@ pub record Tells {T E : Type 0} (r : Result T E) (before : List Item) (row : ℕ
     (posts more : List Post) : Type 0 where
   pub piece_is : piece (world_setting_in old) before row step
       ≡ item.Row row step ∷ first ∷ tail (length old.log.bag + 1)
-  pub counted : new.packets ≡ old.packets + comes_in step
+  pub counted : new.packets ≡ old.packets + world_packets_coming_in step
   pub pushed : begun ≡ old.log.journal ++ first ∷ []
   pub number_is : number ≡ length old.log.bag
   pub travelling : new.log.travelling ≡ old.log.travelling
@@ -69,7 +69,7 @@ goes_told {r} {before} {row} {step} {old} {new} first tail begun number posts mo
 -- where the controller's acts are what it writes then
 pub goes_acting : {T E : Type 0} {r : Result T E} {before : List Item} {row : ℕ} {step : Step}
     {old new : WorldParts} (first : Item) (acts given : List Act) (begun : List Item)
-    → WorldBeginsStep before row step old → Follows old new → new.packets ≡ old.packets + comes_in step
+    → WorldBeginsStep before row step old → Follows old new → new.packets ≡ old.packets + world_packets_coming_in step
     → piece (world_setting_in old) before row step
     ≡ item.Row row step ∷ first ∷ log_act_items (length old.log.bag + 1) acts
     → begun ≡ old.log.journal ++ first ∷ [] → given ≡ acts → new.log.travelling ≡ old.log.travelling
@@ -103,7 +103,7 @@ first_goes {before} {row} {step} first rest begins keeps is failed pushed =
 
 -- the parts refine the journal where only switches, messages and usable links changed
 pub relinked_refines : {old new : WorldParts} {setting : Setting} {journal : List Item}
-    {travelling : Flights} {posts : List Post} {near : List ℕ} → WorldPartsKeepRest old new → new.near ≡ near
+    {travelling : TravellingFlights} {posts : List Post} {near : List ℕ} → WorldPartsKeepRest old new → new.near ≡ near
     → RefineJournal setting journal (record (world_state_in old) {
       switches = new.switches.items;
       travelling = travelling;

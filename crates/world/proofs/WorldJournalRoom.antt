@@ -1,6 +1,6 @@
 -- Whether a step may begin after the journal, by the count of the messages that were sent.
 use Rattle.std.proofs.Common.{◌<◌, ◌≡◌, ◌≤◌, Err, IsErrAnd, IsErrOf, List, Ok, Result, arith, length}
-use Rattle.update_machine.specs.Exports.{Failure, HasRoom, IsMachineJournalFull, Item, NoMemory, Setting}
+use Rattle.update_machine.specs.Exports.{Failure, MachineJournalHasRoom, IsMachineJournalFull, Item, NoMemory, Setting}
 use Rattle.update_machine.specs.declared.full.TheConstants.{FULL_AT}
 use Rattle.world.specs.Exports.{no_world_step}
 use Rattle.world.specs.declared.error.Full.{Full}
@@ -11,7 +11,7 @@ module _ {setting : Setting} {journal : List Item} {state : RefinedNetworkState}
   pub is_full : FULL_AT ≤ length state.posts → IsMachineJournalFull journal
   is_full many = omega (arith, refines.bag.many, many)
 
-  pub has_room : length state.posts < FULL_AT → HasRoom journal
+  pub has_room : length state.posts < FULL_AT → MachineJournalHasRoom journal
   has_room few = omega (arith, refines.bag.many, few)
 
 -- out of memory is another error

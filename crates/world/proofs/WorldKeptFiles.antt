@@ -1,10 +1,10 @@
 -- What is kept of the files of policies.
 use Rattle.std.proofs.Common.{[], ◌+◌, ◌<◌, ◌∙◌, ◌∷◌, ◌≡◌, ◌≤◌, IsSome, List, None, Ok, Option, Some, ap, arith, get_or, get_or-set_other, get_or-set_same, inl, inr, length, length-set, refl, set, slice_get, subst, suc, sym, zero, ℕ}
 use Rattle.base.proofs.Exports.{cases_eq, cases_lt, get_or_past, get_or_read}
-use Rattle.controller.specs.Exports.{PlanValue}
+use Rattle.controller.specs.Exports.{ControllerPlanValue}
 use Rattle.net_file.specs.Exports.{IsNet}
 use Rattle.update_machine.specs.Exports.{Change, Net, PolicyFile, Row, Whole}
-use Rattle.world.specs.Exports.{AreWorldFilesCompiled, IsWorldFileCompiled, WorldFilesKeepWhole, world_file_or_none, first_policy, world_file_made_at, world_file_made_from, own_policy}
+use Rattle.world.specs.Exports.{AreWorldFilesCompiled, IsWorldFileCompiled, WorldFilesKeepWhole, world_file_or_none, world_first_file_policy, world_file_made_at, world_file_made_from, world_file_own_policy}
 use Rattle.world.specs.declared.files.Compiled.{Compiled}
 use Rattle.world.specs.declared.files.Compiled.TheVariants.{Planned}
 use Rattle.switch_table.specs.Exports.{cache_all_touched}
@@ -12,23 +12,23 @@ use Rattle.switch_table.specs.Exports.{cache_all_touched}
 -- ---- files
 
 -- a first file with a policy of its own has that
-pub first_whole : (files : List PolicyFile) (rows : List Row) → first_policy files ≡ Some rows
+pub first_whole : (files : List PolicyFile) (rows : List Row) → world_first_file_policy files ≡ Some rows
     → slice_get files 0 ≡ Some (Whole rows)
 first_whole [] rows is = absurd cc
 first_whole (Whole own ∷ files) rows is = cc
 first_whole (Change edits ∷ files) rows is = absurd cc
 
 -- so there is one
-pub first_there : (files : List PolicyFile) → IsSome (first_policy files) → 0 < length files
+pub first_there : (files : List PolicyFile) → IsSome (world_first_file_policy files) → 0 < length files
 first_there [] is = absurd cc
 first_there (file ∷ files) is = omega arith
 
 -- and it is the file at place 0; the first part shows a tactic what to match
 pub first_at : (files : List PolicyFile) (first : PolicyFile) → 0 < length files
     → first ≡ get_or files 0 first → (get_or files 0 first ≡ get_or files 0 first)
-    × (first_policy files ≡ own_policy first)
+    × (world_first_file_policy files ≡ world_file_own_policy first)
 first_at [] first there at = absurd (omega arith)
-first_at (file ∷ files) first there at = (refl, ap own_policy (sym at))
+first_at (file ∷ files) first there at = (refl, ap world_file_own_policy (sym at))
 
 -- a file that is there
 pub file_there : (files : List PolicyFile) (place : ℕ) → place < length files
@@ -38,13 +38,13 @@ file_there (file ∷ files) zero within = refl
 file_there (file ∷ files) (suc place) within = file_there files place (omega arith)
 
 -- one with a policy of its own makes that of any other
-pub own_made : (file : PolicyFile) (one other : List Row) → IsSome (own_policy file)
+pub own_made : (file : PolicyFile) (one other : List Row) → IsSome (world_file_own_policy file)
     → world_file_made_from file one ≡ world_file_made_from file other
 own_made (Whole rows) one other own = refl
 own_made (Change edits) one other own = absurd cc
 
 -- and the first one its own
-first_made : (files : List PolicyFile) (rows newest : List Row) → first_policy files ≡ Some rows
+first_made : (files : List PolicyFile) (rows newest : List Row) → world_first_file_policy files ≡ Some rows
     → world_file_made_at files newest 0 ≡ (Ok rows, cache_all_touched)
 first_made [] rows newest is = absurd cc
 first_made (Whole own ∷ files) rows newest is =
@@ -83,8 +83,8 @@ kept_with net files newest kept place compiled are within made = record {
 }
 
 -- at first the plan of the first file is kept alone
-pub kept_first : (net : Net) (files : List PolicyFile) (plan : PlanValue)
-    (kept : List (Option Compiled)) → IsNet net → first_policy files ≡ Some plan.policy
+pub kept_first : (net : Net) (files : List PolicyFile) (plan : ControllerPlanValue)
+    (kept : List (Option Compiled)) → IsNet net → world_first_file_policy files ≡ Some plan.policy
     → IsWorldFileCompiled net (Ok plan.policy, cache_all_touched) (Planned plan cache_all_touched) → length kept ≡ length files
     → ((i : ℕ) → get_or kept i None ≡ get_or (Some (Planned plan cache_all_touched) ∷ []) i None)
     → AreWorldFilesCompiled net files plan.policy kept
@@ -108,7 +108,7 @@ pub record AreForgotten (files : List PolicyFile) (many : ℕ) (old new : List (
   pub same : length new ≡ length old
   pub each : (place : ℕ) (compiled : Compiled) → get_or new place None ≡ Some compiled
       → (get_or old place None ≡ Some compiled)
-      × (place < many → IsSome (own_policy (world_file_or_none files place)))
+      × (place < many → IsSome (world_file_own_policy (world_file_or_none files place)))
 
 pub none_forgotten : (files : List PolicyFile) (old : List (Option Compiled))
     → AreForgotten files 0 old old
@@ -117,13 +117,13 @@ none_forgotten files old = record {
   each = λ place compiled at. (at, λ below. absurd (omega (arith, below)));
 }
 
-pub whole_own : (file : PolicyFile) (rows : List Row) → file ≡ Whole rows → IsSome (own_policy file)
+pub whole_own : (file : PolicyFile) (rows : List Row) → file ≡ Whole rows → IsSome (world_file_own_policy file)
 whole_own file rows is = rw is refl
 
 -- the next one has a policy of its own
 pub whole_kept : (files : List PolicyFile) (many : ℕ) (file : PolicyFile)
     (old new : List (Option Compiled)) → many < length files → file ≡ get_or files many file
-    → IsSome (own_policy file) → AreForgotten files many old new
+    → IsSome (world_file_own_policy file) → AreForgotten files many old new
     → AreForgotten files (many + 1) old new
 whole_kept files many file old new within at own so_far = record {
   same = so_far.same;
@@ -132,7 +132,7 @@ whole_kept files many file old new within at own so_far = record {
     λ below. elim (cases_lt place many) [
       | inl less ↦ (so_far.each place compiled kept).1 less
       | inr more ↦ let same : many ≡ place = omega (arith, below, more) in
-          subst (λ k. IsSome (own_policy (world_file_or_none files k))) same
+          subst (λ k. IsSome (world_file_own_policy (world_file_or_none files k))) same
           (rw (get_or_read files many file within at (Change [])) at own)
     ],
   );

@@ -6,14 +6,14 @@ use Rattle.message_bag.specs.Deliveries as statuses
 use Rattle.message_bag.specs.Posts as bag
 use Rattle.message_bag.proofs.BagNumberedPosts.{numbered_map}
 use Rattle.message_bag.specs.declared.deliveries.MessageState.{MessageState}
-use Rattle.update_machine.specs.Exports.{Item, Message, count_of, is_deliverable, is_forgotten_in_journal, is_sending, is_waiting, journal_message_of, journal_next_message, next_waiting, was_delivered}
+use Rattle.update_machine.specs.Exports.{Item, Message, machine_count_of, is_deliverable, is_forgotten_in_journal, is_machine_sending_item, is_waiting, journal_message_of, journal_next_message, next_waiting, was_delivered_in_journal}
 use Rattle.world.specs.Exports.{IsLeastInWorldFrom, WorldRefinesJournal, WorldValue}
 use Rattle.refinement.specs.Exports.{IsRefinedBagOf, refined_post_at}
 
 -- a post waits as the journal says of its message
-post_waits : (sent : Option Message) (delivered forgotten : Bool) → option_map_or statuses.waits
+post_waits : (sent : Option Message) (delivered forgotten : Bool) → option_map_or statuses.bag_post_waits
     (option_map (λ (post : bag.Post). post.1) (option_map (λ message. (
-      bag.posted_frames message,
+      bag.bag_posted_frames message,
       record { delivered = delivered; forgotten = forgotten },
     ))
     sent)) false
@@ -27,19 +27,19 @@ post_waits (Some message) false false = refl
 waits_same : (journal : List Item) (posts : List bag.Post) → IsRefinedBagOf journal posts → (n : ℕ)
     → statuses.is_waiting (bag.bag_post_statuses posts) n ≡ is_waiting journal n
 unfolding refined_post_at is_deliverable
-waits_same journal posts of n = ap (λ o. option_map_or statuses.waits o false)
+waits_same journal posts of n = ap (λ o. option_map_or statuses.bag_post_waits o false)
     (numbered_map (λ (post : bag.Post). post.1) posts n
     ∙ ap (option_map (λ (post : bag.Post). post.1)) (of.each n))
-    ∙ post_waits (journal_message_of journal n) (was_delivered journal n) (is_forgotten_in_journal journal n)
+    ∙ post_waits (journal_message_of journal n) (was_delivered_in_journal journal n) (is_forgotten_in_journal journal n)
 
 least_waits : (journal : List Item) (posts : List bag.Post) → IsRefinedBagOf journal posts
-    → bag.next_waiting_post posts 1 ≡ next_waiting journal
+    → bag.next_waiting_bag_post posts 1 ≡ next_waiting journal
 unfolding next_waiting journal_next_message
 least_waits journal posts of = let all : List MessageState = bag.bag_post_statuses posts in
     ap (λ count. find (statuses.is_waiting all) (range_with_len 1 count))
     (omega (arith, of.many, length-map posts (λ (post : bag.Post). post.1)))
     ∙ find_same (statuses.is_waiting all) (is_waiting journal) (waits_same journal posts of)
-    (range_with_len 1 (count_of is_sending journal))
+    (range_with_len 1 (machine_count_of is_machine_sending_item journal))
 
 -- ---- from any number on
 
@@ -77,7 +77,7 @@ none_behind all zero behind = refl
 none_behind all (suc place) behind = cc (slice_get_past all place (omega (arith, behind)))
 
 least_from : (journal : List Item) (posts : List bag.Post) → IsRefinedBagOf journal posts → (from : ℕ)
-    → IsLeastInWorldFrom (is_waiting journal) from (bag.next_waiting_post posts from)
+    → IsLeastInWorldFrom (is_waiting journal) from (bag.next_waiting_bag_post posts from)
 least_from journal posts of from = let all : List MessageState = bag.bag_post_statuses posts in
     subst (λ next. IsLeastInWorldFrom (is_waiting journal) from next)
     (sym (find_same (statuses.is_waiting all) (is_waiting journal) (waits_same journal posts of)
@@ -86,9 +86,9 @@ least_from journal posts of from = let all : List MessageState = bag.bag_post_st
     (λ i behind. sym (waits_same journal posts of i) ∙ none_behind all i (omega (arith, behind))))
 
 pub least_from_in : (world : WorldValue) → WorldRefinesJournal world → (from : ℕ)
-    → IsLeastInWorldFrom (is_waiting world.journal) from (bag.next_waiting_post world.bag from)
+    → IsLeastInWorldFrom (is_waiting world.journal) from (bag.next_waiting_bag_post world.bag from)
 least_from_in world refines from = least_from world.journal world.bag refines.bag from
 
 pub least_waits_in : (world : WorldValue) → WorldRefinesJournal world
-    → bag.next_waiting_post world.bag 1 ≡ next_waiting world.journal
+    → bag.next_waiting_bag_post world.bag 1 ≡ next_waiting world.journal
 least_waits_in world refines = least_waits world.journal world.bag refines.bag

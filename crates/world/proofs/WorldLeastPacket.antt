@@ -1,11 +1,11 @@
 -- The least packet on its way is the least that travels.
 use Rattle.std.proofs.Common.{◌+◌, ◌∙◌, ◌≡◌, ◌≤◌, Bool, IsSome, List, None, Option, Some, ap, arith, cond, false, find, inl, inr, refl, subst, suc, sym, true, zero, ℕ}
 use Rattle.base.proofs.Exports.{cases_lt, cond-true, false_from_ne_true, none-some, range_with_len, some_passes_of}
-use Rattle.update_machine.specs.Exports.{Item, Setting, journal_next_packet, next_travelling, travels}
+use Rattle.update_machine.specs.Exports.{Item, Setting, journal_next_packet, next_travelling, travels_in_journal}
 use Rattle.packet_laws.specs.Exports.{packet_facts_of}
 use Rattle.world.specs.Exports.{IsLeastInWorldFrom, WorldRefinesJournal, WorldValue, world_setting_at}
 use Rattle.refinement.specs.Exports.{refined_flight_in, refined_flight_of}
-use Rattle.travelling.specs.Travelling.{IsNextTravellerFrom, Flights, flight}
+use Rattle.travelling.specs.Travelling.{IsNextTravellerFrom, TravellingFlights, flight}
 use Rattle.refinement.proofs.RefinedSteps.{reached_known}
 
 differ : {X : Type 0} (b : Bool) → b ≡ true → b ≡ false → X
@@ -53,34 +53,34 @@ least_is_found test from (suc count) next over least =
     (least_is_found test (from + 1) count next (λ i behind. over i (omega (arith, behind))))
 
 -- the least packet on its way from a number on is the least that travels
-least_from : (setting : Setting) (journal : List Item) (travelling : Flights)
+least_from : (setting : Setting) (journal : List Item) (travelling : TravellingFlights)
     → ((i : ℕ) → flight travelling i ≡ refined_flight_in setting journal i) → (from : ℕ) (next : Option ℕ)
-    → IsNextTravellerFrom travelling from next → IsLeastInWorldFrom (travels journal) from next
+    → IsNextTravellerFrom travelling from next → IsLeastInWorldFrom (travels_in_journal journal) from next
 unfolding refined_flight_in
 least_from setting journal travelling tie from next least = by next least where
-  none : (i : ℕ) → flight travelling i ≡ None → travels journal i ≡ false
-  none i is = false_from_ne_true (travels journal i)
+  none : (i : ℕ) → flight travelling i ≡ None → travels_in_journal journal i ≡ false
+  none i is = false_from_ne_true (travels_in_journal journal i)
       (λ yes. none-some (refined_flight_of setting journal i) (sym is ∙ tie i
-      ∙ cond-true (travels journal i) (Some (refined_flight_of setting journal i)) None yes))
+      ∙ cond-true (travels_in_journal journal i) (Some (refined_flight_of setting journal i)) None yes))
 
-  by : (b : Option ℕ) → IsNextTravellerFrom travelling from b → IsLeastInWorldFrom (travels journal) from b
+  by : (b : Option ℕ) → IsNextTravellerFrom travelling from b → IsLeastInWorldFrom (travels_in_journal journal) from b
   by None least = λ i behind. none i (least i behind)
   by (Some i) least = (
     least.0,
-    some_passes_of (travels journal i) (refined_flight_of setting journal i) (subst IsSome (tie i) least.1),
+    some_passes_of (travels_in_journal journal i) (refined_flight_of setting journal i) (subst IsSome (tie i) least.1),
     λ k behind below. none k (least.2 k behind below),
   )
 
 -- from the first number on it is the least of all
 least_travels : (journal : List Item) (next : Option ℕ)
-    → ((i : ℕ) → journal_next_packet journal ≤ i → travels journal i ≡ false)
-    → IsLeastInWorldFrom (travels journal) 1 next → next ≡ next_travelling journal
+    → ((i : ℕ) → journal_next_packet journal ≤ i → travels_in_journal journal i ≡ false)
+    → IsLeastInWorldFrom (travels_in_journal journal) 1 next → next ≡ next_travelling journal
 unfolding journal_next_packet next_travelling
 least_travels journal next over least =
-    least_is_found (travels journal) 1 _ next (λ i behind. over i (omega (arith, behind))) least
+    least_is_found (travels_in_journal journal) 1 _ next (λ i behind. over i (omega (arith, behind))) least
 
 pub least_from_in : (world : WorldValue) (from : ℕ) (next : Option ℕ) → WorldRefinesJournal world
-    → IsNextTravellerFrom world.travelling from next → IsLeastInWorldFrom (travels world.journal) from next
+    → IsNextTravellerFrom world.travelling from next → IsLeastInWorldFrom (travels_in_journal world.journal) from next
 least_from_in world from next refines least =
     least_from (world_setting_at world) world.journal world.travelling refines.packet from next least
 

@@ -3,12 +3,12 @@ use Rattle.std.proofs.Common.{◌++◌, ◌+◌, ◌∙◌, ◌∷◌, ◌≡◌
 use Rattle.base.proofs.Exports.{both_ok, get_or_from_slice_get, on_ok_weaker, three_ok}
 use Rattle.update_machine.specs.Exports.{Header, Hop, Item, Packet as PacketStep}
 use Rattle.journal.specs.declared.item.Item.TheVariants as item
-use Rattle.switch_core.specs.Exports.{Answer, SwitchValue, switch_call_counted}
+use Rattle.switch_core.specs.Exports.{SwitchAnswer, SwitchValue, switch_call_counted}
 use Rattle.tunnel.specs.Exports.{here}
 use Rattle.world_log.specs.Exports.{Hops, LogAfter, MayLoggedPacketGoOn, log_coming_in, log_entered_flight, log_entered_items, log_entered_posts, entry, log_hop_written}
 use Rattle.world.specs.Exports.{WorldBeginsStep, WorldStepGoes, world_setting_in}
 use Rattle.refinement.specs.Exports.{RefineJournal}
-use Rattle.travelling.specs.Travelling.{Flight, Standing, flight}
+use Rattle.travelling.specs.Travelling.{TravellingFlight, TravellingStanding, flight}
 use Rattle.world_log.specs.declared.log.Log.{Log}
 use Rattle.world.specs.declared.parts.WorldParts.{WorldParts}
 use Rattle.refinement.proofs.RefinedHopPieces.{CanAsk, can_ask, within_here}
@@ -22,10 +22,10 @@ use Rattle.world.proofs.WorldStepClauses.{files_stay, goes_one, goes_quiet, none
 module _ {parts : WorldParts} {before : List Item} {row s : ℕ} {header : Header}
     (begins : WorldBeginsStep before row (PacketStep s header) parts) (own : SwitchValue)
     (its : own ≡ get_or parts.switches.items s own) where
-  abbrev what : Option Answer
+  abbrev what : Option SwitchAnswer
   what = entry own (slice_index parts.near s) parts.ports (parts.packets + 1) header
 
-  abbrev at : Standing
+  abbrev at : TravellingStanding
   at = log_coming_in (parts.packets + 1) header own.number
 
   pub packet_goes : {T E : Type 0} (r : Result T E) (log : Log) (switches : Vec SwitchValue Global)
@@ -62,24 +62,24 @@ own_of switches s switch found = sym (get_or_from_slice_get switches s switch sw
 module _ {parts : WorldParts} {before : List Item} {row i : ℕ}
     (begins : WorldBeginsStep before row (Hop i) parts) where
   -- its switch can be asked
-  can : (t : Flight) (switch : SwitchValue) → flight parts.log.travelling i ≡ Some t
+  can : (t : TravellingFlight) (switch : SwitchValue) → flight parts.log.travelling i ≡ Some t
       → slice_get parts.switches.items (here t.tunnel) ≡ Some switch → CanAsk (world_setting_in parts)
       before i t (here t.tunnel) (slice_index parts.near (here t.tunnel)) switch parts.ports
   can t switch its found = can_ask begins.ready.refines i t (here t.tunnel) switch parts.ports
       begins.ready.sound.owners its refl (own_of parts.switches.items (here t.tunnel) switch found)
 
-  pub may_go_on : (t : Flight) (switch : SwitchValue) → flight parts.log.travelling i ≡ Some t
+  pub may_go_on : (t : TravellingFlight) (switch : SwitchValue) → flight parts.log.travelling i ≡ Some t
       → slice_get parts.switches.items (here t.tunnel) ≡ Some switch
       → MayLoggedPacketGoOn i switch (slice_index parts.near (here t.tunnel)) t
   may_go_on t switch its found = let can = can t switch its found in record {
-    known = ap (λ (u : Flight). u.tunnel.packet) can.standing.is;
+    known = ap (λ (u : TravellingFlight). u.tunnel.packet) can.standing.is;
     here = can.stands;
     serving = can.serving;
     stamped = can.stamped;
     authority = can.authority;
     ingress = omega (
       arith,
-      ap (λ (u : Flight). u.tunnel.ingress) can.standing.is,
+      ap (λ (u : TravellingFlight). u.tunnel.ingress) can.standing.is,
       can.standing.stands.at_first,
       begins.ready.sound.sound.few_switches,
     );
@@ -88,7 +88,7 @@ module _ {parts : WorldParts} {before : List Item} {row i : ℕ}
   module _ {T E : Type 0} (r : Result T E) (log : Log) (switches : Vec SwitchValue Global)
       (after : List SwitchValue) (same : switches.items ≡ after) where
     -- and says what the journal's definitions say
-    pub hop_goes : (o : Option Flight) → flight parts.log.travelling i ≡ o
+    pub hop_goes : (o : Option TravellingFlight) → flight parts.log.travelling i ≡ o
         → Hops r i parts.near parts.ports parts.log parts.switches.items log after o
         → WorldStepGoes r before row (Hop i) parts (record parts { log = log; switches = switches })
     hop_goes None none nothing =

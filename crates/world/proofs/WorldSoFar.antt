@@ -1,6 +1,6 @@
 -- What a world wrote so far.
 use Rattle.std.proofs.Common.{◌++◌, ◌≡◌, List, append_assoc, length, ℕ}
-use Rattle.update_machine.specs.Exports.{IsSetting, Item, Setting, Step, piece}
+use Rattle.update_machine.specs.Exports.{IsMachineSetting, Item, Setting, Step, piece}
 use Rattle.packet_laws.specs.Exports.{PacketLawHoldsBetween, PacketLawsHoldSoFar, ArePacketsKeptBehind}
 use Rattle.control_laws.specs.Exports.{ControlLawHoldsReached}
 use Rattle.refinement.proofs.RefinedSteps.{reached_more}
@@ -10,10 +10,10 @@ use Rattle.world_log.specs.Exports.{IsLogPart}
 
 -- the law of what is written so far, and that of what is kept after steps
 abbrev pub SoFarLaw : Type 0
-SoFarLaw = ControlLawHoldsReached (λ setting journal. IsSetting setting → PacketLawsHoldSoFar setting journal)
+SoFarLaw = ControlLawHoldsReached (λ setting journal. IsMachineSetting setting → PacketLawsHoldSoFar setting journal)
 
 abbrev pub BehindLaw : Type 0
-BehindLaw = PacketLawHoldsBetween (λ setting journal. IsSetting setting → ArePacketsKeptBehind setting journal)
+BehindLaw = PacketLawHoldsBetween (λ setting journal. IsMachineSetting setting → ArePacketsKeptBehind setting journal)
 
 pub so_far_in : SoFarLaw → (world : WorldValue) → WorldRefinesJournal world
     → PacketLawsHoldSoFar (world_setting_at world) world.journal

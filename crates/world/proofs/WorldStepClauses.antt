@@ -6,7 +6,7 @@ use Rattle.message_bag.specs.Exports.{Post}
 use Rattle.controller.specs.Exports.{controller_newest_policy}
 use Rattle.update_machine.specs.Exports.{Item, Setting, Step, piece, machine_step_items}
 use Rattle.journal.specs.declared.item.Item.TheVariants as item
-use Rattle.world.specs.Exports.{WorldBeginsStep, FilesValue, WorldStepGoes, WorldStepHasBegun, WorldFilesHoldNewest, IsWorldReadyForStep, WorldPartsKeepNet, WorldPartsRefineJournal, WorldPlaysStep, comes_in, world_setting_in, world_state_in}
+use Rattle.world.specs.Exports.{WorldBeginsStep, WorldFilesValue, WorldStepGoes, WorldStepHasBegun, WorldFilesHoldNewest, IsWorldReadyForStep, WorldPartsKeepNet, WorldPartsRefineJournal, WorldPlaysStep, world_packets_coming_in, world_setting_in, world_state_in}
 use Rattle.refinement.specs.Exports.{RefinedNetworkState, RefineJournal}
 use Rattle.world_log.specs.Exports.{IsLogPart}
 use Rattle.world.specs.declared.parts.WorldParts.{WorldParts}
@@ -25,8 +25,8 @@ files_stay files ports = record { files = files; ports = ports }
 -- so the network stays, and the files
 pub net_stays : {old new : WorldParts} → new.files ≡ old.files → new.ports ≡ old.ports → WorldPartsKeepNet old new
 net_stays files ports = record {
-  same_net = ap (λ (f : FilesValue). f.net) files;
-  same_files = ap (λ (f : FilesValue). f.files) files;
+  same_net = ap (λ (f : WorldFilesValue). f.net) files;
+  same_files = ap (λ (f : WorldFilesValue). f.files) files;
   same_ports = ports;
 }
 
@@ -41,7 +41,7 @@ pub follows : {before : List Item} {row : ℕ} {step : Step} {old new : WorldPar
     → controller_newest_policy new.controller ≡ controller_newest_policy old.controller → Follows old new
 follows begins files ports newest = record {
   net = net_stays files ports;
-  newest = newest ∙ begins.ready.newest ∙ ap (λ (f : FilesValue). Some f.newest) (sym files);
+  newest = newest ∙ begins.ready.newest ∙ ap (λ (f : WorldFilesValue). Some f.newest) (sym files);
 }
 
 -- the network and the files stayed
@@ -92,7 +92,7 @@ piece_split setting before row step = refl
 module _ {T E : Type 0} {r : Result T E} {before : List Item} {row : ℕ} {step : Step}
     {old new : WorldParts} (begins : WorldBeginsStep before row step old) (keeps : Follows old new) where
   pub goes : (items : List Item) → piece (world_setting_in old) before row step
-      ≡ item.Row row step ∷ items → OnOk r (new.packets ≡ old.packets + comes_in step)
+      ≡ item.Row row step ∷ items → OnOk r (new.packets ≡ old.packets + world_packets_coming_in step)
       → OnOk r (new.log.journal ≡ old.log.journal ++ items)
       → OnErr r (IsLogPart old.log.journal items new.log.journal)
       → OnOk r (RefineJournal (world_setting_in old) (before ++ item.Row row step ∷ items) (world_state_in new))
@@ -115,7 +115,7 @@ module _ {T E : Type 0} {r : Result T E} {before : List Item} {row : ℕ} {step 
   -- and of the control plane it changes messages alone
   pub goes_quiet : (items : List Item) → KeepControl old new
       → piece (world_setting_in old) before row step ≡ item.Row row step ∷ items
-      → OnOk r (new.packets ≡ old.packets + comes_in step)
+      → OnOk r (new.packets ≡ old.packets + world_packets_coming_in step)
       → OnOk r (new.log.journal ≡ old.log.journal ++ items)
       → OnErr r (IsLogPart old.log.journal items new.log.journal)
       → OnOk r (RefineJournal (world_setting_in old) (before ++ item.Row row step ∷ items)
@@ -127,7 +127,7 @@ module _ {T E : Type 0} {r : Result T E} {before : List Item} {row : ℕ} {step 
 
   -- it writes one item, and no packet enters
   pub goes_one : (one : Item) (posts : List Post) → KeepControl old new → new.log.bag ≡ posts
-      → new.packets ≡ old.packets + comes_in step
+      → new.packets ≡ old.packets + world_packets_coming_in step
       → (piece (world_setting_in old) before row step ≡ item.Row row step ∷ one ∷ [])
       × RefineJournal (world_setting_in old) (grown before row step one) (with_posts old new posts)
       → OnOk r (new.log.journal ≡ old.log.journal ++ one ∷ [])
@@ -168,7 +168,7 @@ with_journal parts journal = record parts { log = record parts.log { journal = j
 
 -- nothing happens: of all parts the journal alone changes, which says so
 pub goes_nothing : {T E : Type 0} {r : Result T E} {before : List Item} {row : ℕ} {step : Step}
-    {old : WorldParts} {journal : List Item} → WorldBeginsStep before row step old → comes_in step ≡ 0
+    {old : WorldParts} {journal : List Item} → WorldBeginsStep before row step old → world_packets_coming_in step ≡ 0
     → (piece (world_setting_in old) before row step ≡ item.Row row step ∷ item.Nothing ∷ [])
     × RefineJournal (world_setting_in old) (grown before row step item.Nothing) (world_state_in old)
     → OnOk r (journal ≡ old.log.journal ++ item.Nothing ∷ []) → OnErr r (journal ≡ old.log.journal)

@@ -1,17 +1,17 @@
 -- The parts of a world, and what is true of them.
 use Rattle.std.specs.Prelude.{[], ◌++◌, ◌+◌, ◌<◌, ◌∷◌, ◌≡◌, ◌≤◌, Bool, List, OnErr, OnOk, Result, Some, false, length, ℕ}
 use Rattle.controller.specs.Exports.{controller_newest_policy}
-use Rattle.update_machine.specs.Exports.{Item, Setting, Step, journal_next_packet, piece, setting_of}
+use Rattle.update_machine.specs.Exports.{Item, Setting, Step, journal_next_packet, piece, machine_setting_of}
 use Rattle.journal.specs.declared.item.Item.TheVariants as item
 use Rattle.net_file.specs.Exports.{AreNetPortOwners, IsNet}
 use Rattle.steps.specs.Exports.{IsStep}
-use Rattle.world.specs.State.{WorldValue, comes_in}
+use Rattle.world.specs.State.{WorldValue, world_packets_coming_in}
 use Rattle.refinement.specs.Exports.{RefinedNetworkState, RefineJournal}
 use Rattle.world_log.specs.Exports.{IsLogPart}
 use Rattle.world.specs.declared.parts.WorldParts.{WorldParts}
 
 abbrev pub world_setting_in : WorldParts → Setting
-world_setting_in parts = setting_of parts.files.net parts.files.files
+world_setting_in parts = machine_setting_of parts.files.net parts.files.files
 
 -- the table of the ports is the network's
 pub record AreSoundWorldParts (parts : WorldParts) : Type 0 where
@@ -75,7 +75,7 @@ pub record WorldStepGoes {T E : Type 0} (result : Result T E) (before : List Ite
     (old new : WorldParts) : Type 0 where
   pub net : WorldPartsKeepNet old new
   pub newest : OnOk result (WorldFilesHoldNewest new)
-  pub counted : OnOk result (new.packets ≡ old.packets + comes_in step)
+  pub counted : OnOk result (new.packets ≡ old.packets + world_packets_coming_in step)
   pub written : OnOk result (new.log.journal ≡ before ++ piece (world_setting_in old) before row step)
   pub refines : OnOk result (WorldPartsRefineJournal new)
   pub part : OnErr result (IsLogPart before (piece (world_setting_in old) before row step) new.log.journal)

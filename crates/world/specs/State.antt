@@ -2,9 +2,9 @@
 use Rattle.std.specs.Prelude.{[], ◌≡◌, Bool, List, false, ℕ}
 use Rattle.message_bag.specs.Exports.{Post}
 use Rattle.controller.specs.Exports.{ControllerValue}
-use Rattle.update_machine.specs.Exports.{Item, Net, Packet, PolicyFile, Setting, Step, setting_of}
+use Rattle.update_machine.specs.Exports.{Item, Net, Packet, PolicyFile, Setting, Step, machine_setting_of}
 use Rattle.switch_core.specs.Exports.{SwitchValue}
-use Rattle.travelling.specs.Travelling.{Flights}
+use Rattle.travelling.specs.Travelling.{TravellingFlights}
 use Rattle.refinement.specs.Exports.{RefinedNetworkState, RefineJournal}
 
 pub record WorldValue : Type 0 where
@@ -12,7 +12,7 @@ pub record WorldValue : Type 0 where
   pub files : List PolicyFile
   pub journal : List Item
   pub switches : List SwitchValue
-  pub travelling : Flights
+  pub travelling : TravellingFlights
   -- the frames of the messages that were sent, and what became of each
   pub bag : List Post
   -- how many packets entered or were closed
@@ -27,13 +27,13 @@ pub record WorldValue : Type 0 where
 
 -- the setting of its journal
 abbrev pub world_setting_at : WorldValue → Setting
-world_setting_at world = setting_of world.net world.files
+world_setting_at world = machine_setting_of world.net world.files
 
 -- ---- a world
 
 -- all that it has
-abbrev pub state_at : WorldValue → RefinedNetworkState
-state_at world = record {
+abbrev pub world_state_at : WorldValue → RefinedNetworkState
+world_state_at world = record {
   switches = world.switches;
   travelling = world.travelling;
   packets = world.packets;
@@ -45,7 +45,7 @@ state_at world = record {
 
 -- the world is as its journal says
 abbrev pub WorldRefinesJournal : WorldValue → Type 0
-WorldRefinesJournal world = RefineJournal (world_setting_at world) world.journal (state_at world)
+WorldRefinesJournal world = RefineJournal (world_setting_at world) world.journal (world_state_at world)
 
 -- nothing happened yet
 pub record IsWorldBegun (setting : Setting) (world : WorldValue) : Type 0 where
@@ -54,6 +54,6 @@ pub record IsWorldBegun (setting : Setting) (world : WorldValue) : Type 0 where
   pub able : world.is_spent ≡ false
 
 -- how many packets enter or are closed in a step
-abbrev pub comes_in : Step → ℕ
-comes_in (Packet switch header) = 1
-comes_in _ = 0
+abbrev pub world_packets_coming_in : Step → ℕ
+world_packets_coming_in (Packet switch header) = 1
+world_packets_coming_in _ = 0

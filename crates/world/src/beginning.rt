@@ -1,6 +1,6 @@
 ghost use Rattle.std.specs.Prelude.{◌≡◌, [], length, map, IfOk};
 ghost use Rattle.std.specs.List.{range_with_len};
-ghost use Rattle.controller.specs.Exports.{PlanValue, controller_at_start};
+ghost use Rattle.controller.specs.Exports.{ControllerPlanValue, controller_at_start};
 ghost use Rattle.net_file.specs.Net.{IsNet};
 ghost use Rattle.world_log.specs.Linking.{AreLogNearMasks};
 ghost use Rattle.refinement.specs.Begun.{IsRefinedFirstController, refined_switch_begun};
@@ -40,7 +40,7 @@ pub fn first_world_switches(
     requires net { IsNet net.now }
     requires near { AreLogNearMasks net.now near.now }
     requires first { IsRefinedFirstController net.now controller.now }
-    ensures { IfOk result (λ switches. (plan : PlanValue)
+    ensures { IfOk result (λ switches. (plan : ControllerPlanValue)
         → controller.now ≡ controller_at_start (length net.now.switches) plan
         → switches.items ≡ map (refined_switch_begun net.now plan.hosted)
         (range_with_len 0 (length net.now.switches))) }

@@ -1,6 +1,6 @@
 //! The codes by which a policy or a change of one is refused, in a journal's item as for a command.
 ghost use Rattle.std.specs.Prelude.{◌≡◌};
-ghost use Rattle.world.specs.Files.{code_of};
+ghost use Rattle.world.specs.Files.{world_plan_code_of};
 
 use controller::PlanError;
 
@@ -30,7 +30,7 @@ pub const TOO_MANY_ROWS: u32 = 26;
 
 /// The code of why a policy has no plan; `None` exactly if memory ran out.
 pub fn code_of(error: PlanError) -> Option<u32>
-    ensures { result ≡ code_of error }
+    ensures { result ≡ world_plan_code_of error }
 {
     match error {
         PlanError::TooManyWords { .. } => Some(TOO_MANY_WORDS),

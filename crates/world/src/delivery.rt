@@ -1,10 +1,10 @@
 //! Messages that are delivered: which switch hears them, and what is sent in reply.
 ghost use Rattle.std.specs.Prelude.{◌≡◌, ◌+◌, ◌-◌, ◌^◌, ◌<◌, ◌≤◌, ◌++◌, All, OnOk, OnErr, length, map};
-ghost use Rattle.message_bag.specs.Posts.{new_post};
+ghost use Rattle.message_bag.specs.Posts.{new_bag_post};
 ghost use Rattle.controller.specs.Exports.{ControllerValue, ControllerReplyNamesExist, ControllerSettlesWith, controller_hear_acts, controller_marks_after, controller_newest_policy};
 ghost use Rattle.steps.specs.declared.step.Step.TheVariants.{Deliver as DeliverStep};
 ghost use Rattle.update_machine.specs.Messages.{machine_sent_items_from};
-ghost use Rattle.world_log.specs.Linking.{AreLogSwitchesRelinked, all_adverts_sent, logged_near_all};
+ghost use Rattle.world_log.specs.Linking.{AreLogSwitchesRelinked, log_all_adverts_sent, logged_near_all};
 ghost use Rattle.world.specs.Parts.{WorldStepHasBegun, WorldPartsKeepRest, WorldPlaysStep};
 ghost use Rattle.world_log.specs.Sending.{LogMayNote, LogMaySend, log_act_items, log_act_posts};
 ghost use Rattle.world_log.specs.Writing.{IsLogPart};
@@ -61,7 +61,7 @@ impl WorldParts {
     pub fn change_links(&mut self, alloc: Global) -> Result<(), AllocError>
         requires many { length self.old.switches.items ≤ 64 }
         requires next { All (λ switch. switch.seq < 2 ^ 32 - 1) self.old.switches.items }
-        requires may { LogMaySend self.old.log.bag (all_adverts_sent self.old.near
+        requires may { LogMaySend self.old.log.bag (log_all_adverts_sent self.old.near
             (logged_near_all self.old.links self.old.switches.items) self.old.switches.items) }
         ensures near { OnOk result
             (self.new.near ≡ logged_near_all self.old.links self.old.switches.items) }
@@ -69,13 +69,13 @@ impl WorldParts {
             (logged_near_all self.old.links self.old.switches.items)
             self.old.switches.items self.new.switches.items) }
         ensures written { OnOk result (self.new.log.journal ≡ self.old.log.journal
-            ++ machine_sent_items_from (length self.old.log.bag + 1) (all_adverts_sent self.old.near
+            ++ machine_sent_items_from (length self.old.log.bag + 1) (log_all_adverts_sent self.old.near
             (logged_near_all self.old.links self.old.switches.items) self.old.switches.items)) }
         ensures posted { OnOk result (self.new.log.bag ≡ self.old.log.bag
-            ++ map new_post (all_adverts_sent self.old.near
+            ++ map new_bag_post (log_all_adverts_sent self.old.near
             (logged_near_all self.old.links self.old.switches.items) self.old.switches.items)) }
         ensures part { OnErr result (IsLogPart self.old.log.journal
-            (machine_sent_items_from (length self.old.log.bag + 1) (all_adverts_sent self.old.near
+            (machine_sent_items_from (length self.old.log.bag + 1) (log_all_adverts_sent self.old.near
             (logged_near_all self.old.links self.old.switches.items) self.old.switches.items))
             self.new.log.journal) }
         ensures rest { WorldPartsKeepRest self.old self.new }

@@ -1,6 +1,6 @@
 //! Switches and links that fail and come back.
 ghost use Rattle.steps.specs.declared.step.Step.TheVariants.{Crash as CrashStep, Restart as RestartStep};
-ghost use Rattle.refinement.specs.Links.{link_step};
+ghost use Rattle.refinement.specs.Links.{refined_link_step};
 ghost use Rattle.world.specs.Parts.{WorldStepHasBegun, WorldPlaysStep};
 
 use crate::parts::WorldParts;
@@ -59,8 +59,8 @@ impl WorldParts {
         two: u32,
         up: bool,
     ) -> Result<(), AllocError>
-        requires { WorldStepHasBegun (link_step up one two) self.old }
-        ensures { WorldPlaysStep (link_step up one two) result self.old self.new }
+        requires { WorldStepHasBegun (refined_link_step up one two) self.old }
+        ensures { WorldPlaysStep (refined_link_step up one two) result self.old self.new }
     {
         if has(self.links[one as usize], two) == up {
             return self.log.journal.push(Item::Nothing);

@@ -1,10 +1,10 @@
 //! The files of a world, by their numbers, and the plans of the policies that they have or make.
 ghost use Rattle.std.specs.Prelude.{◌≡◌, ◌<◌, IfOk, IsSome, Ok, Some, length};
 ghost use Rattle.net_file.specs.Net.{IsNet};
-ghost use Rattle.policy_rules.specs.Exports.{applied};
-ghost use Rattle.controller.specs.Exports.{touched_few};
+ghost use Rattle.policy_rules.specs.Exports.{policy_change_applied};
+ghost use Rattle.controller.specs.Exports.{controller_touched_few};
 ghost use Rattle.switch_table.specs.Carried.{cache_all_touched};
-ghost use Rattle.world.specs.Files.{IsWorldFileCompiled, WorldFilesKeepWhole, first_policy, world_file_made_at, world_file_made_from};
+ghost use Rattle.world.specs.Files.{IsWorldFileCompiled, WorldFilesKeepWhole, world_first_file_policy, world_file_made_at, world_file_made_from};
 ghost use Rattle.world.specs.declared.files.Compiled.TheVariants.{Planned};
 
 use crate::codes::{ABSENT, TAKEN, TOO_MANY_ROWS, code_of};
@@ -50,9 +50,9 @@ pub struct Files {
 }
 
 impl Model for Files {
-    ghost use Rattle.world.specs.Files.{FilesValue, AreWorldFilesCompiled};
+    ghost use Rattle.world.specs.Files.{WorldFilesValue, AreWorldFilesCompiled};
 
-    ghost Value = { FilesValue };
+    ghost Value = { WorldFilesValue };
 
     ghost view = { λ f. record { net = f.net; files = f.files.items; newest = f.newest.policy } };
 
@@ -72,7 +72,7 @@ impl Files {
         plan: Plan,
     ) -> Result<Files, AllocError>
         requires net { IsNet net }
-        requires first { first_policy files.items ≡ Some plan.policy }
+        requires first { world_first_file_policy files.items ≡ Some plan.policy }
         requires planned { IsWorldFileCompiled net (Ok plan.policy, cache_all_touched) (Planned plan cache_all_touched) }
         ensures { IfOk result (λ made. made
             ≡ record { net = net; files = files.items; newest = plan.policy }) }
@@ -107,7 +107,7 @@ impl Files {
         }
         let file = &self.files[place];
         let newest = self.newest.policy();
-        let compiled = world_plan_or_code(alloc, file, newest, &self.net)?;
+        let compiled = compiled_world_file(alloc, file, newest, &self.net)?;
         let kept = compiled.clone()?;
         self.compiled[place] = Some(kept);
         Ok(compiled)
@@ -117,7 +117,7 @@ impl Files {
     pub fn set_newest(&mut self, plan: Plan)
         ensures { self.new ≡ record self.old { newest = plan.policy } }
     {
-        forget_world_changed_files(&self.files, &mut self.compiled);
+        forget_world_change_plans(&self.files, &mut self.compiled);
         self.newest = plan;
     }
 }
@@ -125,8 +125,8 @@ impl Files {
 /// The policy of the first file.
 #[tactic(auto, using(crate::proofs::WorldKeptFiles::first_there, crate::proofs::WorldKeptFiles::first_at))]
 pub fn world_first_policy(files: &[PolicyFile]) -> &Policy
-    requires { IsSome (first_policy files.now) }
-    ensures { first_policy files.now ≡ Some result.now }
+    requires { IsSome (world_first_file_policy files.now) }
+    ensures { world_first_file_policy files.now ≡ Some result.now }
 {
     match &files[0] {
         PolicyFile::Whole(policy) => policy,
@@ -135,7 +135,7 @@ pub fn world_first_policy(files: &[PolicyFile]) -> &Policy
 }
 
 // Forgets the results for changes, which depend on the newest policy.
-fn forget_world_changed_files(files: &[PolicyFile], compiled: &mut Vec<Option<Compiled>>)
+fn forget_world_change_plans(files: &[PolicyFile], compiled: &mut Vec<Option<Compiled>>)
     requires { length compiled.old.items ≡ length files.now }
     ensures { WorldFilesKeepWhole files.now compiled.old.items compiled.new.items }
 {
@@ -148,7 +148,7 @@ fn forget_world_changed_files(files: &[PolicyFile], compiled: &mut Vec<Option<Co
 }
 
 // The plan of what the file makes of the newest policy, or the code of its refusal.
-fn world_plan_or_code(
+fn compiled_world_file(
     alloc: Global,
     file: &PolicyFile,
     newest: &Policy,
@@ -158,13 +158,13 @@ fn world_plan_or_code(
     ensures { IfOk result (IsWorldFileCompiled net.now (world_file_made_from file.now newest.now)) }
 {
     match file {
-        PolicyFile::Whole(policy) => world_file_plan_or_code(alloc, policy, Touched::all(), net),
-        PolicyFile::Change(change) => world_file_amended_or_code(alloc, newest, change, net),
+        PolicyFile::Whole(policy) => compiled_world_policy(alloc, policy, Touched::all(), net),
+        PolicyFile::Change(change) => compiled_world_amendment(alloc, newest, change, net),
     }
 }
 
 // The plan of the policy on the network, or the code of its refusal.
-fn world_file_plan_or_code(
+fn compiled_world_policy(
     alloc: Global,
     policy: &Policy,
     touched: Touched,
@@ -183,7 +183,7 @@ fn world_file_plan_or_code(
 }
 
 // The plan of the policy that the change makes of this one, or the code of its refusal.
-fn world_file_amended_or_code(
+fn compiled_world_amendment(
     alloc: Global,
     policy: &Policy,
     change: &Amendment,
@@ -191,12 +191,12 @@ fn world_file_amended_or_code(
 ) -> Result<Compiled, AllocError>
     requires { IsNet net.now }
     ensures { IfOk result (IsWorldFileCompiled net.now
-        (applied policy.now change.now, touched_few policy.now change.now)) }
+        (policy_change_applied policy.now change.now, controller_touched_few policy.now change.now)) }
 {
     let code = match apply(alloc, policy, change) {
         Ok(amended) => {
             let touched = touched(alloc, policy, change)?;
-            return world_file_plan_or_code(alloc, &amended, touched, net);
+            return compiled_world_policy(alloc, &amended, touched, net);
         }
         Err(ApplyError::Refused(Inapplicable::Absent)) => ABSENT,
         Err(ApplyError::Refused(Inapplicable::Taken)) => TAKEN,

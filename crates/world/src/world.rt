@@ -1,17 +1,17 @@
 ghost use Rattle.std.specs.Prelude.{◌≡◌, ◌+◌, ◌-◌, ◌++◌, ◌<◌, ◌≤◌, false, true, [], length, unwrap_or, All, OnOk, OnErr, IfOk, IfErr, IsErrOf, IsSome, is_some};
-ghost use Rattle.message_bag.specs.Posts.{next_waiting_post};
+ghost use Rattle.message_bag.specs.Posts.{next_waiting_bag_post};
 ghost use Rattle.controller.specs.Plan.{ControllerRefusesPlan};
 ghost use Rattle.net_file.specs.Net.{IsNet};
-ghost use Rattle.policy_rules.specs.Exports.{PolicyFileRowsAre, IsPolicyRulesOrAmendment};
-ghost use Rattle.update_machine.specs.Exports.{HasRoom, IsMachineJournalFull, NamesSettingPort, journal_next_packet, next_travelling, next_waiting, piece, setting_of, travels};
+ghost use Rattle.policy_rules.specs.Exports.{PolicyFileRowsAre, IsSoundPolicyFile};
+ghost use Rattle.update_machine.specs.Exports.{MachineJournalHasRoom, IsMachineJournalFull, NamesMachineSettingPort, journal_next_packet, next_travelling, next_waiting, piece, machine_setting_of, travels_in_journal};
 ghost use Rattle.update_machine.specs.Messages.{is_waiting};
 ghost use Rattle.packet_laws.specs.Exports.{PacketLawsHoldSoFar, ArePacketsKeptBehind};
 ghost use Rattle.steps.specs.Steps.{IsStep};
 ghost use Rattle.base.specs.declared.error.Failure.TheVariants.{NoMemory};
-ghost use Rattle.world.specs.Files.{first_policy};
+ghost use Rattle.world.specs.Files.{world_first_file_policy};
 ghost use Rattle.world.specs.Least.{IsLeastInWorldFrom};
 ghost use Rattle.world.specs.NoStep.{no_world_step};
-ghost use Rattle.world.specs.State.{IsWorldBegun, WorldRefinesJournal, comes_in, world_setting_at};
+ghost use Rattle.world.specs.State.{IsWorldBegun, WorldRefinesJournal, world_packets_coming_in, world_setting_at};
 ghost use Rattle.travelling.specs.Travelling.{IsNextTravellerFrom, flight};
 ghost use Rattle.world_log.specs.Writing.{IsLogPart};
 
@@ -65,13 +65,13 @@ impl World {
     /// Why the first policy has no plan on the network, or out of memory.
     pub fn begin(alloc: Global, net: &Net, files: Vec<PolicyFile>) -> Result<World, PlanError>
         requires net { IsNet net.now }
-        requires first { IsSome (first_policy files.items) }
-        requires sound { All IsPolicyRulesOrAmendment files.items }
-        requires ports { All (PolicyFileRowsAre (λ row. NamesSettingPort (setting_of net.now files.items)
+        requires first { IsSome (world_first_file_policy files.items) }
+        requires sound { All IsSoundPolicyFile files.items }
+        requires ports { All (PolicyFileRowsAre (λ row. NamesMachineSettingPort (machine_setting_of net.now files.items)
             row.action)) files.items }
-        ensures begun { IfOk result (IsWorldBegun (setting_of net.now files.items)) }
+        ensures begun { IfOk result (IsWorldBegun (machine_setting_of net.now files.items)) }
         ensures refused { IfErr result
-            (ControllerRefusesPlan (unwrap_or (first_policy files.items) []) net.now) }
+            (ControllerRefusesPlan (unwrap_or (world_first_file_policy files.items) []) net.now) }
     {
         let plan = compile(alloc, world_first_policy(&files), net)?;
         let first = plan.clone()?;
@@ -109,17 +109,17 @@ impl World {
     /// before; then nothing changes. Otherwise only out of memory: then the journal has a part of
     /// the step's items, and each further step returns the same at once and changes nothing.
     pub fn step(&mut self, row: u32, step: &Step) -> Result<(), StepError>
-        requires may { HasRoom self.old.journal
+        requires may { MachineJournalHasRoom self.old.journal
             → IsStep self.old.net (length self.old.files) step.now }
         requires few { journal_next_packet self.old.journal ≤ 4_000_000_000 }
         ensures setting { world_setting_at self.new ≡ world_setting_at self.old }
         ensures written { OnOk result (self.new.journal ≡ self.old.journal
             ++ piece (world_setting_at self.old) self.old.journal row step.now) }
-        ensures counted { OnOk result (self.new.packets ≡ self.old.packets + comes_in step.now) }
+        ensures counted { OnOk result (self.new.packets ≡ self.old.packets + world_packets_coming_in step.now) }
         ensures goes_on { OnOk result (self.new.is_spent ≡ false) }
         ensures part { OnErr result (IsLogPart self.old.journal
             (piece (world_setting_at self.old) self.old.journal row step.now) self.new.journal) }
-        ensures room { OnOk result (HasRoom self.old.journal) }
+        ensures room { OnOk result (MachineJournalHasRoom self.old.journal) }
         ensures full { IsErrOf result no_world_step → IsMachineJournalFull self.old.journal }
         ensures refused { self.old.is_spent ≡ false → IsMachineJournalFull self.old.journal
             → IsErrOf result no_world_step }
@@ -150,7 +150,7 @@ impl World {
     pub fn next_travelling(&self, from: u32) -> Option<u32>
         ensures next { IsNextTravellerFrom self.now.travelling from result }
         ensures least { self.now.is_spent ≡ false
-            → IsLeastInWorldFrom (travels self.now.journal) from result }
+            → IsLeastInWorldFrom (travels_in_journal self.now.journal) from result }
         ensures first { self.now.is_spent ≡ false → from ≡ 1
             → result ≡ next_travelling self.now.journal }
     {
@@ -160,7 +160,7 @@ impl World {
     /// The least number at or above `from` of a message that was never delivered and isn't
     /// forgotten; `None` exactly if there is none.
     pub fn next_waiting(&self, from: u32) -> Option<u32>
-        ensures next { result ≡ next_waiting_post self.now.bag from }
+        ensures next { result ≡ next_waiting_bag_post self.now.bag from }
         ensures least { self.now.is_spent ≡ false
             → IsLeastInWorldFrom (is_waiting self.now.journal) from result }
         ensures first { self.now.is_spent ≡ false → from ≡ 1

@@ -3,14 +3,14 @@ use Rattle.std.proofs.Common.{[], ◌++◌, ◌∙◌, ◌∷◌, ◌≡◌, IsE
 use Rattle.base.proofs.Exports.{both_written, on_err, on_err_weaker, on_ok_failed, on_ok_weaker}
 use Rattle.update_machine.specs.Exports.{Item}
 use Rattle.message_bag.specs.Exports.{Post}
-use Rattle.travelling.specs.Travelling.{Flight, TravellingWithOne}
+use Rattle.travelling.specs.Travelling.{TravellingFlight, TravellingWithOne}
 use Rattle.world_log.specs.Exports.{IsLogPart, LogAfter}
 use Rattle.world_log.specs.declared.log.Log.{Log}
 use Rattle.world_log.proofs.LogStepWrites.{part_none, part_of_rest}
 
 -- memory ran out where a part was written
 pub log_failed : {T E : Type 0} (r : Result T E) (items : List Item) (posts : List Post)
-    (packet : ℕ) (this : Option Flight) (old new : Log) → IsErr r
+    (packet : ℕ) (this : Option TravellingFlight) (old new : Log) → IsErr r
     → IsLogPart old.journal items new.journal → LogAfter r items posts packet this old new
 log_failed r items posts packet this old new failed part = record {
   written = on_ok_failed _ r failed;
@@ -21,14 +21,14 @@ log_failed r items posts packet this old new failed part = record {
 
 -- or nothing was
 pub log_unwritten : {T E : Type 0} {r : Result T E} {items : List Item} {posts : List Post}
-    {packet : ℕ} {this : Option Flight} {old new : Log} → IsErr r → new.journal ≡ old.journal
+    {packet : ℕ} {this : Option TravellingFlight} {old new : Log} → IsErr r → new.journal ≡ old.journal
     → LogAfter r items posts packet this old new
 log_unwritten {r} {items} {posts} {packet} {this} {old} {new} failed same = log_failed r items posts
     packet this old new failed (part_none old.journal items new.journal same)
 
 -- the first items were written, and the messages of the first part were posted
 pub log_behind : {T E : Type 0} (r : Result T E) (first items : List Item)
-    (before posts : List Post) (packet : ℕ) (this : Option Flight) (old mid new : Log)
+    (before posts : List Post) (packet : ℕ) (this : Option TravellingFlight) (old mid new : Log)
     → mid.journal ≡ old.journal ++ first → mid.bag ≡ old.bag ++ before
     → mid.travelling ≡ old.travelling → LogAfter r items posts packet this mid new
     → LogAfter r (first ++ items) (before ++ posts) packet this old new
@@ -44,7 +44,7 @@ log_behind r first items before posts packet this old mid new grown more same lo
 
 -- one item was written
 pub log_one : {T E : Type 0} (r : Result T E) (item : Item) (packet : ℕ)
-    (this : Option Flight) (old new : Log)
+    (this : Option TravellingFlight) (old new : Log)
     → OnOk r (new.journal ≡ old.journal ++ item ∷ []) → OnErr r (new.journal ≡ old.journal)
     → new.bag ≡ old.bag → TravellingWithOne old.travelling packet this new.travelling
     → LogAfter r (item ∷ []) [] packet this old new
@@ -57,7 +57,7 @@ log_one r item packet this old new written unwritten unsent with = record {
 
 -- and none of the messages was posted by the rest
 pub log_ends : {T E : Type 0} (r : Result T E) (first items : List Item) (posts : List Post)
-    (packet : ℕ) (this : Option Flight) (old mid new : Log)
+    (packet : ℕ) (this : Option TravellingFlight) (old mid new : Log)
     → mid.journal ≡ old.journal ++ first → mid.bag ≡ old.bag ++ posts
     → mid.travelling ≡ old.travelling → LogAfter r items [] packet this mid new
     → LogAfter r (first ++ items) posts packet this old new

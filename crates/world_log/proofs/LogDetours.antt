@@ -1,14 +1,14 @@
 -- What a hop wrote where a link was found down: the way around it, or that there is none.
 use Rattle.std.proofs.Common.{[], ◌++◌, ◌∙◌, ◌∷◌, ◌≡◌, List, None, Option, Result, Some, ap, append-nil, subst, sym, ℕ}
 use Rattle.base.proofs.Exports.{get_or_from_slice_get}
-use Rattle.failover.specs.Exports.{route_of, with_link}
+use Rattle.failover.specs.Exports.{route_of, with_failover_link}
 use Rattle.journal.specs.declared.item.Item.TheVariants as item
 use Rattle.update_machine.specs.Exports.{Cause, Leg, Ports}
-use Rattle.switch_core.specs.Exports.{IsSwitchAuthorityForLeg, Moved, SwitchStandsAtRoutePlace, SwitchValue, are_isolated, switch_call_counted, switch_stuck_cause, switch_found_down_with, switch_hop_answer, switch_move_answer, switch_moved_along_route}
+use Rattle.switch_core.specs.Exports.{MaySwitchEndLeg, SwitchPacketMoved, SwitchStandsAtRoutePlace, SwitchValue, are_switch_targets_isolated, switch_call_counted, switch_stuck_cause, switch_found_down_with, switch_hop_answer, switch_move_answer, switch_moved_along_route}
 use Rattle.switch_core.specs.declared.tunnel_calls.HopEnd.TheVariants as hop
 use Rattle.switch_core.proofs.SwitchHops.{hop_around, hop_stays}
-use Rattle.tunnel.specs.Exports.{here, tunnel_marked_down, next, on_route}
-use Rattle.travelling.specs.Travelling.{Flight, Standing, flight_begun_at, traveller_found_down_at, travels_by}
+use Rattle.tunnel.specs.Exports.{here, tunnel_marked_down, next, tunnel_on_route}
+use Rattle.travelling.specs.Travelling.{TravellingFlight, TravellingStanding, travelling_flight_begun_at, traveller_found_down_at, travels_by}
 use Rattle.world_log.specs.Exports.{LogAfter, LogMeetsDownLink, log_ended_switch, log_followed, log_followed_flight, log_followed_items, log_followed_posts, log_hop_flight, log_hop_posts, log_hop_written, log_hopped_switch}
 use Rattle.world_log.specs.declared.log.Log.{Log}
 use Rattle.world_log.proofs.LogCalls.{log_behind}
@@ -16,8 +16,8 @@ use Rattle.world_log.proofs.LogPacketMoves.{authority_counted}
 use Rattle.world_log.proofs.LogHops.{hop_log, turned_along}
 
 -- the switch finds a route around the link, or none, as it does for the packet
-module _ (at : Standing) (version : ℕ) (rule : Option ℕ) (leg : Leg) (targets : List ℕ)
-    (other : ℕ) (before s : SwitchValue) (near : ℕ) (t : Flight)
+module _ (at : TravellingStanding) (version : ℕ) (rule : Option ℕ) (leg : Leg) (targets : List ℕ)
+    (other : ℕ) (before s : SwitchValue) (near : ℕ) (t : TravellingFlight)
     (met : LogMeetsDownLink at version rule leg targets other before s near t) (links : List ℕ)
     (links_are : links ≡ (traveller_found_down_at at other).down) where
   pub stands : here t.tunnel ≡ before.number
@@ -36,17 +36,17 @@ module _ (at : Standing) (version : ℕ) (rule : Option ℕ) (leg : Leg) (target
 
   pub why : (cause : Cause) → cause ≡ switch_stuck_cause s near links leg targets
       → cause ≡ switch_stuck_cause before near (switch_found_down_with t.tunnel other) t.tunnel.leg t.tunnel.targets
-  unfolding switch_stuck_cause are_isolated
+  unfolding switch_stuck_cause are_switch_targets_isolated
   why cause is = rw met.asked at is ∙ ap (λ down. switch_stuck_cause before near down leg targets) links_is
       ∙ ap (λ l. switch_stuck_cause before near (switch_found_down_with t.tunnel other) l targets) met.leg
       ∙ ap (switch_stuck_cause before near (switch_found_down_with t.tunnel other) t.tunnel.leg) met.targets
 
   -- on that route
-  abbrev pub turned : List ℕ → Flight
-  turned route = record t { tunnel = on_route (tunnel_marked_down t.tunnel other) route }
+  abbrev pub turned : List ℕ → TravellingFlight
+  turned route = record t { tunnel = tunnel_on_route (tunnel_marked_down t.tunnel other) route }
 
   pub turned_is : (route : List ℕ)
-      → travels_by (flight_begun_at (traveller_found_down_at at other) leg targets route) version rule ≡ turned route
+      → travels_by (travelling_flight_begun_at (traveller_found_down_at at other) leg targets route) version rule ≡ turned route
   turned_is route = cc (met.stands, stands, met.leg, met.targets, met.version, met.rule)
 
   -- ---- there is none
@@ -68,18 +68,18 @@ module _ (at : Standing) (version : ℕ) (rule : Option ℕ) (leg : Leg) (target
         (record { end = hop.Stuck cause; tunnel = tunnel_marked_down t.tunnel other }) old new met.found
         is_stuck
         (subst (λ n. LogAfter r (item.FoundDown t.tunnel.packet before.number other ∷ item.Stuck
-        t.tunnel.packet before.number cause t.tunnel.leg (with_link t.tunnel.down n other) ∷ []) []
+        t.tunnel.packet before.number cause t.tunnel.leg (with_failover_link t.tunnel.down n other) ∷ []) []
         packet None old new) (sym stands) (subst (λ l. LogAfter r
         (item.FoundDown t.tunnel.packet before.number other ∷ item.Stuck t.tunnel.packet
-        before.number cause l (with_link t.tunnel.down before.number other) ∷ []) [] packet None old
-        new) met.leg (subst (λ (a : Standing). LogAfter r (item.FoundDown a.packet a.switch other
+        before.number cause l (with_failover_link t.tunnel.down before.number other) ∷ []) [] packet None old
+        new) met.leg (subst (λ (a : TravellingStanding). LogAfter r (item.FoundDown a.packet a.switch other
         ∷ item.Stuck a.packet a.switch cause leg (traveller_found_down_at a other).down ∷ []) [] packet None old
         new) met.stands (log_behind r (item.FoundDown at.packet at.switch other ∷ [])
         (item.Stuck at.packet at.switch cause leg (traveller_found_down_at at other).down ∷ []) [] [] packet None
         old mid new grown (same_bag ∙ sym (append-nil old.bag)) same log))))
 
     pub stuck_switch : switch_call_counted before ≡ log_hopped_switch before near t
-    stuck_switch = ap (λ (m : Moved). log_ended_switch (switch_call_counted before) m.end) (sym is_stuck)
+    stuck_switch = ap (λ (m : SwitchPacketMoved). log_ended_switch (switch_call_counted before) m.end) (sym is_stuck)
 
   -- ---- along a route
 
@@ -88,8 +88,8 @@ module _ (at : Standing) (version : ℕ) (rule : Option ℕ) (leg : Leg) (target
       goes : switch_hop_answer before near t.tunnel ≡ log_followed (turned route)
       goes = around (Some route) some
 
-      abbrev begun : Flight
-      begun = travels_by (flight_begun_at (traveller_found_down_at at other) leg targets route) version rule
+      abbrev begun : TravellingFlight
+      begun = travels_by (travelling_flight_begun_at (traveller_found_down_at at other) leg targets route) version rule
 
       pub turned_log : {T E : Type 0} (r : Result T E) (ports : Ports) (number : ℕ) (old mid
           new : Log) → mid.journal ≡ old.journal ++ item.FoundDown at.packet at.switch other
@@ -100,12 +100,12 @@ module _ (at : Standing) (version : ℕ) (rule : Option ℕ) (leg : Leg) (target
           at.packet (log_hop_flight before near ports t) old new
       turned_log r ports number old mid new grown same_bag same log =
           let packet = at.packet in
-          let m : Moved = log_followed (turned route) in
+          let m : SwitchPacketMoved = log_followed (turned route) in
           hop_log before near ports t r number packet (Some other) m old new met.found goes
           (log_behind r _ (log_followed_items number (switch_call_counted before) near ports (turned route)) []
           (log_followed_posts (switch_call_counted before) near ports (turned route)) packet
           (log_followed_flight (switch_call_counted before) near ports (turned route)) old mid new
-          (grown ∙ ap (λ (a : Standing). old.journal ++ item.FoundDown a.packet a.switch other
+          (grown ∙ ap (λ (a : TravellingStanding). old.journal ++ item.FoundDown a.packet a.switch other
           ∷ item.Rerouted a.packet route ∷ []) met.stands
           ∙ ap (λ js. old.journal ++ js) (sym (turned_along t.tunnel.packet before.number other
           (turned route).tunnel (next (turned route).tunnel))))
@@ -117,18 +117,18 @@ module _ (at : Standing) (version : ℕ) (rule : Option ℕ) (leg : Leg) (target
 
       -- where its route is that one switch it has arrived there
       pub last_here : next begun.tunnel ≡ None → SwitchStandsAtRoutePlace s begun.tunnel.route begun.tunnel.place
-          × IsSwitchAuthorityForLeg s begun.tunnel.header begun.tunnel.leg
+          × MaySwitchEndLeg s begun.tunnel.header begun.tunnel.leg
       last_here none =
           let ends : switch_hop_answer before near t.tunnel
           ≡ record { end = hop.Arrive; tunnel = (turned route).tunnel } =
           goes ∙ ap (switch_move_answer (turned route).tunnel)
-          (ap (λ (f : Flight). next f.tunnel) (sym (turned_is route)) ∙ none) in
-          let arrives = ap (λ (m : Moved). m.end) ends in
-          let there = subst (λ (m : Moved). SwitchStandsAtRoutePlace before m.tunnel.route m.tunnel.place) ends
+          (ap (λ (f : TravellingFlight). next f.tunnel) (sym (turned_is route)) ∙ none) in
+          let arrives = ap (λ (m : SwitchPacketMoved). m.end) ends in
+          let there = subst (λ (m : SwitchPacketMoved). SwitchStandsAtRoutePlace before m.tunnel.route m.tunnel.place) ends
           (hop_stays before near t.tunnel met.here arrives) in
           let at = authority_counted before t.tunnel.header t.tunnel.leg (met.authority arrives) in
-          subst (λ (f : Flight). SwitchStandsAtRoutePlace s f.tunnel.route f.tunnel.place
-          × IsSwitchAuthorityForLeg s f.tunnel.header f.tunnel.leg) (sym (turned_is route))
+          subst (λ (f : TravellingFlight). SwitchStandsAtRoutePlace s f.tunnel.route f.tunnel.place
+          × MaySwitchEndLeg s f.tunnel.header f.tunnel.leg) (sym (turned_is route))
           (rw met.asked (there, at))
 
       pub turned_switch : (now : SwitchValue) → now ≡ log_ended_switch s (log_followed begun).end

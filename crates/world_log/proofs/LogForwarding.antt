@@ -5,7 +5,7 @@ use Rattle.ctrl_msg.specs.declared.message.Place.TheVariants as receiver
 use Rattle.message_bag.specs.Exports.{HasShortBagSpelling}
 use Rattle.message_bag.proofs.BagSpellingLengths.{alone_short}
 use Rattle.net_file.specs.Exports.{owner_in_net_ports}
-use Rattle.switch_core.specs.Exports.{SwitchSite, SwitchValue, switch_stuck_cause, switch_exit_by_tunnel, switch_leave_by_port, next_of, switch_seek_by, set_out}
+use Rattle.switch_core.specs.Exports.{SwitchSite, SwitchValue, switch_stuck_cause, switch_exit_by_tunnel, switch_leave_by_port, switch_next_of, switch_seek_by, switch_set_out}
 use Rattle.failover.specs.Exports.{route_of}
 use Rattle.tunnel.specs.Exports.{TunnelValue, tunnel_begun}
 use Rattle.switch_core.specs.declared.tunnel_calls.Packet.{Packet}
@@ -13,7 +13,7 @@ use Rattle.switch_core.specs.declared.deciding.Decision.{Decision}
 use Rattle.switch_core.specs.declared.tunnel_calls.Next.{Next}
 use Rattle.switch_core.specs.declared.tunnel_calls.Next.TheVariants.{Out, Stuck}
 use Rattle.ternary.specs.Exports.{WordValue}
-use Rattle.travelling.specs.Travelling.{Standing}
+use Rattle.travelling.specs.Travelling.{TravellingStanding}
 use Rattle.world_log.specs.Exports.{LogAfter, log_answer_flight, log_answer_items, log_answer_posts, log_decided_flight, log_end_item, log_exit_leg, log_packet_standing, log_set_flight, log_set_item}
 use Rattle.world_log.specs.declared.log.Log.{Log}
 
@@ -22,8 +22,8 @@ pub route_known : (s : SwitchValue) (near : ℕ) (packet : Packet) (leg : Leg)
     (targets links route : List ℕ) → links ≡ packet.down
     → route_of s.database s.number targets near links ≡ Some route
     → Ok (tunnel_begun packet.number packet.header packet.ingress leg targets route packet.down)
-    ≡ set_out s near packet leg targets
-unfolding set_out
+    ≡ switch_set_out s near packet leg targets
+unfolding switch_set_out
 route_known s near packet leg targets links route same is =
     sym (ap (λ found. ok_or (option_map (λ route. tunnel_begun packet.number packet.header
     packet.ingress leg targets route packet.down) found) (switch_stuck_cause s near packet.down leg targets))
@@ -32,14 +32,14 @@ route_known s near packet leg targets links route same is =
 -- or why there is none
 pub none_known : (s : SwitchValue) (near : ℕ) (packet : Packet) (leg : Leg) (targets links : List ℕ)
     (cause : Cause) → links ≡ packet.down → route_of s.database s.number targets near links ≡ None
-    → cause ≡ switch_stuck_cause s near links leg targets → Err cause ≡ set_out s near packet leg targets
-unfolding set_out
+    → cause ≡ switch_stuck_cause s near links leg targets → Err cause ≡ switch_set_out s near packet leg targets
+unfolding switch_set_out
 none_known s near packet leg targets links cause same none is = ap Err (rw same at is)
     ∙ sym (ap (λ found. ok_or (option_map (λ route. tunnel_begun packet.number packet.header
     packet.ingress leg targets route packet.down) found) (switch_stuck_cause s near packet.down leg targets))
     (rw same at none))
 
-module _ {T E : Type 0} (r : Result T E) (at : Standing) (packet : ℕ) (old new : Log) where
+module _ {T E : Type 0} (r : Result T E) (at : TravellingStanding) (packet : ℕ) (old new : Log) where
   -- to an authority switch
   pub sought : (number : ℕ) (leg : Leg) (version : ℕ) (rule : Option ℕ)
       (way : Result TunnelValue Cause)
@@ -60,7 +60,7 @@ module _ {T E : Type 0} (r : Result T E) (at : Standing) (packet : ℕ) (old new
 
 -- ---- as the decision's action says
 
-module _ {T E : Type 0} (r : Result T E) (at : Standing) (packet : ℕ) (old new : Log)
+module _ {T E : Type 0} (r : Result T E) (at : TravellingStanding) (packet : ℕ) (old new : Log)
     (s : SwitchValue) (site : SwitchSite) (decision : Decision) where
   -- what was written of it goes this way
   abbrev pub Goes : Decision → Next → Type 0
@@ -68,7 +68,7 @@ module _ {T E : Type 0} (r : Result T E) (at : Standing) (packet : ℕ) (old new
       (log_decided_flight decision way) old new
 
   abbrev pub way_by : Action → Next
-  way_by action = next_of s site (log_packet_standing at) action
+  way_by action = switch_next_of s site (log_packet_standing at) action
 
   pub by_action : (action : Action) → decision.action ≡ action
       → Goes (record decision { action = action }) (way_by action)
@@ -80,7 +80,7 @@ module _ {T E : Type 0} (r : Result T E) (at : Standing) (packet : ℕ) (old new
         → Goes (record decision { action = OutBy port })
         (switch_leave_by_port s site.near (log_packet_standing at) port owner)
         → Goes (record decision { action = OutBy port }) (way_by (OutBy port))
-    unfolding next_of
+    unfolding switch_next_of
     by_owner owner is goes = rw is goes
 
     pub unowned : decision.action ≡ OutBy port → owner_in_net_ports site.ports port ≡ None
@@ -91,7 +91,7 @@ module _ {T E : Type 0} (r : Result T E) (at : Standing) (packet : ℕ) (old new
 
     abbrev way_of : ℕ → Bool → Next
     way_of owner here = if here then Out port
-        else switch_exit_by_tunnel (set_out s site.near (log_packet_standing at) (ExitLeg port) (owner ∷ []))
+        else switch_exit_by_tunnel (switch_set_out s site.near (log_packet_standing at) (ExitLeg port) (owner ∷ []))
 
     pub owned : (owner : ℕ) (here : Bool) → decision.action ≡ OutBy port
         → owner_in_net_ports site.ports port ≡ Some owner → (owner == s.number) ≡ here

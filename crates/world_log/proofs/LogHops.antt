@@ -4,12 +4,12 @@ use Rattle.base.proofs.Exports.{on_ok_weaker}
 use Rattle.update_machine.specs.Exports.{Item, Leg, Ports}
 use Rattle.journal.specs.declared.item.Item.TheVariants as item
 use Rattle.message_bag.specs.Exports.{Post}
-use Rattle.switch_core.specs.Exports.{SwitchArrival, Moved, SwitchValue, around, switch_arrival_on_leg, switch_call_counted, switch_hop_answer, switch_hopped_to, switch_found_link_down, switch_move_answer, switch_hop_onward, received}
+use Rattle.switch_core.specs.Exports.{SwitchArrival, SwitchPacketMoved, SwitchValue, switch_site_around, switch_arrival_on_leg, switch_call_counted, switch_hop_answer, switch_hopped_to, switch_found_link_down, switch_move_answer, switch_hop_onward, switch_received}
 use Rattle.switch_core.specs.declared.packet.Onward.{Onward}
 use Rattle.switch_core.specs.declared.tunnel_calls.HopEnd.{HopEnd}
 use Rattle.switch_core.specs.declared.tunnel_calls.HopEnd.TheVariants as hop
 use Rattle.tunnel.specs.Exports.{TunnelValue, advanced_tunnel, next}
-use Rattle.travelling.specs.Travelling.{Flight, Standing, flight_placed_at, traveller_standing_at}
+use Rattle.travelling.specs.Travelling.{TravellingFlight, TravellingStanding, travelling_flight_placed_at, traveller_standing_at}
 use Rattle.world_log.specs.Exports.{LogHasHopped, IsLogPart, LogAfter, log_arrival, log_arrival_items, log_arrival_posts, log_arrived_flight, log_arrived_items, log_arrived_posts, log_ended_flight, log_ended_items, log_ended_posts, log_ended_switch, log_hop_flight, log_hop_posts, log_hop_written, log_packet_standing, log_turned_items}
 use Rattle.world_log.specs.declared.log.Log.{Log}
 use Rattle.world_log.proofs.LogStepWrites.{part_first}
@@ -22,18 +22,18 @@ passed_by near answer route place t route_is place_is is = cc (is, route_is, pla
 
 -- ---- all that a hop wrote
 
-module _ (s : SwitchValue) (near : ℕ) (ports : Ports) (t : Flight) where
-  abbrev pub items_by : ℕ → Option ℕ → Moved → List Item
+module _ (s : SwitchValue) (near : ℕ) (ports : Ports) (t : TravellingFlight) where
+  abbrev pub items_by : ℕ → Option ℕ → SwitchPacketMoved → List Item
   items_by number found m = log_turned_items t.tunnel.packet s.number found m.end m.tunnel.route
       ++ log_ended_items number (switch_call_counted s) near ports (record t { tunnel = m.tunnel }) m.end
 
-  abbrev pub posts_by : Moved → List Post
+  abbrev pub posts_by : SwitchPacketMoved → List Post
   posts_by m = log_ended_posts (switch_call_counted s) near ports (record t { tunnel = m.tunnel }) m.end
 
-  abbrev pub flight_by : Moved → Option Flight
+  abbrev pub flight_by : SwitchPacketMoved → Option TravellingFlight
   flight_by m = log_ended_flight (switch_call_counted s) near ports (record t { tunnel = m.tunnel }) m.end
 
-  pub hop_log : {T E : Type 0} (r : Result T E) (number packet : ℕ) (found : Option ℕ) (m : Moved)
+  pub hop_log : {T E : Type 0} (r : Result T E) (number packet : ℕ) (found : Option ℕ) (m : SwitchPacketMoved)
       (old new : Log) → switch_found_link_down near (next t.tunnel) ≡ found → switch_hop_answer s near t.tunnel
       ≡ m → LogAfter r (items_by number found m) (posts_by m) packet (flight_by m) old new
       → LogAfter r (log_hop_written number s near ports t) (log_hop_posts s near ports t) packet
@@ -57,29 +57,29 @@ module _ (s : SwitchValue) (near : ℕ) (ports : Ports) (t : Flight) where
         log = hop_log r (length old.bag + 1) packet None (switch_move_answer t.tunnel onward) old new free
             to log;
         counted = on_ok_weaker r (λ _. asked
-            ∙ ap (λ (m : Moved). log_ended_switch (switch_call_counted s) m.end) (sym to)) log.written;
+            ∙ ap (λ (m : SwitchPacketMoved). log_ended_switch (switch_call_counted s) m.end) (sym to)) log.written;
       }
 
 -- it moved on over a usable link
 pub move_hop : {T E : Type 0} (r : Result T E) (s : SwitchValue) (near : ℕ) (ports : Ports)
-    (t : Flight) (packet place other : ℕ) (there : Option Flight) (old new : Log)
+    (t : TravellingFlight) (packet place other : ℕ) (there : Option TravellingFlight) (old new : Log)
     (after : SwitchValue) → Some t ≡ there → t.tunnel.packet ≡ packet → place ≡ t.tunnel.place + 1
     → switch_found_link_down near (next t.tunnel) ≡ None → next t.tunnel ≡ Some other → LogAfter r
-    (item.Hopped packet other ∷ []) [] packet (option_map (flight_placed_at place) there) old new
+    (item.Hopped packet other ∷ []) [] packet (option_map (travelling_flight_placed_at place) there) old new
     → after ≡ switch_call_counted s → LogHasHopped r packet s near ports old after new t
 move_hop r s near ports t packet place other there old new after its same place_is free is log =
     passed_hop s near ports t r packet (Some other) old new after free is
     (subst (λ k. LogAfter r (item.Hopped k other ∷ []) [] packet
     (Some (record t { tunnel = advanced_tunnel t.tunnel })) old new) (sym same)
     (subst (λ o. LogAfter r (item.Hopped packet other ∷ []) [] packet
-    (option_map (flight_placed_at (t.tunnel.place + 1)) o) old new) (sym its)
+    (option_map (travelling_flight_placed_at (t.tunnel.place + 1)) o) old new) (sym its)
     (subst (λ k. LogAfter r (item.Hopped packet other ∷ []) [] packet
-    (option_map (flight_placed_at k) there) old new) place_is log)))
+    (option_map (travelling_flight_placed_at k) there) old new) place_is log)))
 
 -- ---- a link was found down
 
 -- a part of what a hop writes: that link alone
-pub found_part : (s : SwitchValue) (near : ℕ) (ports : Ports) (t : Flight) (number packet here
+pub found_part : (s : SwitchValue) (near : ℕ) (ports : Ports) (t : TravellingFlight) (number packet here
     other : ℕ) (old new : List Item) → switch_found_link_down near (next t.tunnel) ≡ Some other
     → packet ≡ t.tunnel.packet → here ≡ s.number → new ≡ old ++ item.FoundDown packet here other
     ∷ [] → IsLogPart old (log_hop_written number s near ports t) new
@@ -111,24 +111,24 @@ placed P route place t route_is place_is holds = rw route_is (rw place_is holds)
 
 -- what was written of the packet that is there, by its switch's answer, is what its arrival writes
 pub arrival_log : {T E : Type 0} (r : Result T E) (number : ℕ) (w : SwitchValue) (near : ℕ)
-    (ports : Ports) (t : Flight) (at : Standing) (version : ℕ) (rule : Option ℕ)
+    (ports : Ports) (t : TravellingFlight) (at : TravellingStanding) (version : ℕ) (rule : Option ℕ)
     (leg : Leg) (packet : ℕ) (said : SwitchArrival) (old new : Log) → at ≡ traveller_standing_at w.number t
     → version ≡ t.version → rule ≡ t.rule → leg ≡ t.tunnel.leg → at.packet ≡ packet
-    → said ≡ switch_arrival_on_leg w (around near ports) (log_packet_standing at) leg
+    → said ≡ switch_arrival_on_leg w (switch_site_around near ports) (log_packet_standing at) leg
     → LogAfter r (log_arrived_items number at version rule said) (log_arrived_posts at said) at.packet
     (log_arrived_flight version rule said) old new → LogAfter r (log_arrival_items number w near ports t)
     (log_arrival_posts w near ports t) packet (log_arrival w near ports t) old new
-unfolding log_arrival_items log_arrival_posts log_arrival received
+unfolding log_arrival_items log_arrival_posts log_arrival switch_received
 arrival_log r number w near ports t at version rule leg packet said old new at_is version_is rule_is
     leg_is packet_is said_is log =
-    let P : ℕ → Standing → ℕ → Option ℕ → SwitchArrival → Type 0 = λ packet at version rule what.
+    let P : ℕ → TravellingStanding → ℕ → Option ℕ → SwitchArrival → Type 0 = λ packet at version rule what.
     LogAfter r (log_arrived_items number at version rule what) (log_arrived_posts at what) packet
     (log_arrived_flight version rule what) old new in
     let now = traveller_standing_at w.number t in
-    subst (λ leg. P packet now t.version t.rule (switch_arrival_on_leg w (around near ports)
+    subst (λ leg. P packet now t.version t.rule (switch_arrival_on_leg w (switch_site_around near ports)
     (log_packet_standing now) leg)) leg_is
-    (subst (λ rule. P packet now t.version rule (switch_arrival_on_leg w (around near ports)
+    (subst (λ rule. P packet now t.version rule (switch_arrival_on_leg w (switch_site_around near ports)
     (log_packet_standing now) leg)) rule_is (subst (λ version. P packet now version rule
-    (switch_arrival_on_leg w (around near ports) (log_packet_standing now) leg)) version_is (subst (λ at. P packet
-    at version rule (switch_arrival_on_leg w (around near ports) (log_packet_standing at) leg)) at_is (subst
+    (switch_arrival_on_leg w (switch_site_around near ports) (log_packet_standing now) leg)) version_is (subst (λ at. P packet
+    at version rule (switch_arrival_on_leg w (switch_site_around near ports) (log_packet_standing at) leg)) at_is (subst
     (P packet at version rule) said_is (subst (λ k. P k at version rule said) packet_is log)))))

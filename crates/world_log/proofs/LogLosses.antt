@@ -3,11 +3,11 @@ use Rattle.std.proofs.Common.{[], if◌then◌else◌, ◌++◌, ◌+◌, ◌-�
 use Rattle.base.proofs.Exports.{cases_lt, filter_more, map-append, range_with_len}
 use Rattle.update_machine.specs.Exports.{Item}
 use Rattle.journal.specs.declared.item.Item.TheVariants as item
-use Rattle.travelling.specs.Travelling.{IsNextTravellerAt, Flights, TravellingWithOne, TravellingWithoutAt, numbers_at, stands_at, flight}
+use Rattle.travelling.specs.Travelling.{IsNextTravellerAt, TravellingFlights, TravellingWithOne, TravellingWithoutAt, travelling_numbers_at, travelling_stands_at, flight}
 use Rattle.world_log.specs.Exports.{AreLoggedLossesBelow, IsLogPart, log_numbers_below}
 use Rattle.travelling.proofs.TravellingSlots.{beyond, filter_on, none_between}
 
-pub none_lost : (before : Flights) (switch : ℕ) (journal : List Item)
+pub none_lost : (before : TravellingFlights) (switch : ℕ) (journal : List Item)
     → AreLoggedLossesBelow before switch 0 journal journal before
 none_lost before switch journal = record {
   within = omega arith;
@@ -16,17 +16,17 @@ none_lost before switch journal = record {
   later = λ i above. refl;
 }
 
-module _ (before : Flights) (switch from : ℕ) (journal now : List Item) (after : Flights)
+module _ (before : TravellingFlights) (switch from : ℕ) (journal now : List Item) (after : TravellingFlights)
     (lost : AreLoggedLossesBelow before switch from journal now after) where
   abbrev test : ℕ → Bool
-  test i = stands_at switch (flight before i)
+  test i = travelling_stands_at switch (flight before i)
 
-  stands_so : (i : ℕ) → from ≤ i → stands_at switch (flight after i) ≡ test i
-  stands_so i above = ap (stands_at switch) (lost.later i above)
+  stands_so : (i : ℕ) → from ≤ i → travelling_stands_at switch (flight after i) ≡ test i
+  stands_so i above = ap (travelling_stands_at switch) (lost.later i above)
 
   -- a part of all is written
-  pub lost_part : IsLogPart journal (map item.Lost (numbers_at before switch)) now
-  unfolding numbers_at
+  pub lost_part : IsLogPart journal (map item.Lost (travelling_numbers_at before switch)) now
+  unfolding travelling_numbers_at
   lost_part =
       let more : ℕ = length before - from in
       let rest : List ℕ = filter test (range_with_len from more) in
@@ -64,7 +64,7 @@ module _ (before : Flights) (switch from : ℕ) (journal now : List Item) (after
         more (λ i above below. between i above (omega (arith, below, next.0))))
 
     -- it is lost too
-    pub lost_more : (behind : List Item) (gone : Flights)
+    pub lost_more : (behind : List Item) (gone : TravellingFlights)
         → behind ≡ now ++ item.Lost packet ∷ [] → TravellingWithOne after packet None gone
         → AreLoggedLossesBelow before switch (packet + 1) journal behind gone
     lost_more behind gone pushed without = record {
@@ -97,8 +97,8 @@ module _ (before : Flights) (switch from : ℕ) (journal now : List Item) (after
     none_more i above = sym (stands_so i above) ∙ next i above
 
     -- all of them are lost
-    pub lost_written : now ≡ journal ++ map item.Lost (numbers_at before switch)
-    unfolding numbers_at
+    pub lost_written : now ≡ journal ++ map item.Lost (travelling_numbers_at before switch)
+    unfolding travelling_numbers_at
     lost_written = let more : ℕ = length before - from in
         lost.written
         ∙ ap (λ numbers. journal ++ map item.Lost numbers)

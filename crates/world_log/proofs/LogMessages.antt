@@ -1,7 +1,7 @@
 -- What messages and acts write, one part after another.
 use Rattle.std.proofs.Common.{[], ◌++◌, ◌+◌, ◌<◌, ◌^◌, ◌∙◌, ◌∷◌, ◌≡◌, ◌≤◌, All, IsErr, List, Result, ap, append-nil, append_assoc, arith, get_or-append-add, length, length-append, map, refl, subst, sym, ℕ}
 use Rattle.base.proofs.Exports.{both_written, holds_next, get_or-map, get_or_append_left, length-map, map-append, on_err, on_ok_failed}
-use Rattle.message_bag.specs.Exports.{HasShortBagSpelling, Post, new_post}
+use Rattle.message_bag.specs.Exports.{HasShortBagSpelling, Post, new_bag_post}
 use Rattle.controller.specs.declared.sends.Act.{Act}
 use Rattle.controller.specs.declared.sends.Act.TheVariants as act
 use Rattle.update_machine.specs.Exports.{Item, Message, machine_sent_items_from}
@@ -221,10 +221,10 @@ sent_as_acts number [] = refl
 sent_as_acts number (message ∷ messages) = cc (sent_as_acts (number + 1) messages)
 
 pub posts_as_acts : (messages : List Message)
-    → log_act_posts (map act.Post messages) ≡ map new_post messages
+    → log_act_posts (map act.Post messages) ≡ map new_bag_post messages
 unfolding log_act_posts
 posts_as_acts [] = refl
-posts_as_acts (message ∷ messages) = ap (λ posts. new_post message ∷ posts) (posts_as_acts messages)
+posts_as_acts (message ∷ messages) = ap (λ posts. new_bag_post message ∷ posts) (posts_as_acts messages)
 
 -- messages are acts too
 pub spelled_as_acts : (messages : List Message) → All HasShortBagSpelling messages
@@ -239,7 +239,7 @@ spelled_as_acts (message ∷ messages) all = λ k d within.
 pub may_as_acts : (bag : List Post) (messages : List Message) → LogMaySend bag messages
     → LogMayNote bag (map act.Post messages)
 may_as_acts bag messages may = record {
-  few = omega (arith, may.few, ap length (posts_as_acts messages), length-map messages new_post);
+  few = omega (arith, may.few, ap length (posts_as_acts messages), length-map messages new_bag_post);
   spelled = spelled_as_acts messages may.spelled;
 }
 
@@ -252,7 +252,7 @@ may_sent bag messages later may = record {
     may.few,
     counted bag (map act.Post messages) later may,
     ap length (posts_as_acts messages),
-    length-map messages new_post,
+    length-map messages new_bag_post,
   );
   spelled = messages_spelled messages later may.spelled;
 }

@@ -1,8 +1,8 @@
 -- What a switch's move makes of a packet: it keeps its number, its header, its leg and its ingress.
 use Rattle.std.proofs.Common.{◌≡◌, List, None, Option, Some, refl, ℕ}
 use Rattle.update_machine.specs.Exports.{Exit, Header, Leg, Seek}
-use Rattle.switch_core.specs.Exports.{IsSwitchAuthorityForLeg, SwitchValue, switch_call_counted, switch_hop_answer, switch_hopped_to, switch_found_link_down, switch_move_answer, switch_moved_along_route, switch_rerouted_here}
-use Rattle.tunnel.specs.Exports.{TunnelValue, tunnel_marked_down, next, on_route, tunnel_route_from_here}
+use Rattle.switch_core.specs.Exports.{MaySwitchEndLeg, SwitchValue, switch_call_counted, switch_hop_answer, switch_hopped_to, switch_found_link_down, switch_move_answer, switch_moved_along_route, switch_rerouted_here}
+use Rattle.tunnel.specs.Exports.{TunnelValue, tunnel_marked_down, next, tunnel_on_route, tunnel_route_from_here}
 
 -- the same packet on the same leg
 pub record SamePacket (old new : TunnelValue) : Type 0 where
@@ -19,7 +19,7 @@ along_same : (w : SwitchValue) (near : ℕ) (t : TunnelValue) (route : Option (L
     → SamePacket t (switch_moved_along_route w near t route).tunnel
 along_same w near t None = record { packet = refl; header = refl; leg = refl; ingress = refl }
 along_same w near t (Some route) =
-    let same = moved_same (on_route t route) (next (on_route t route)) in
+    let same = moved_same (tunnel_on_route t route) (next (tunnel_on_route t route)) in
     record { packet = same.packet; header = same.header; leg = same.leg; ingress = same.ingress }
 
 pub hopped_same : (w : SwitchValue) (near : ℕ) (t : TunnelValue)
@@ -35,6 +35,6 @@ hopped_same w near t = by_link (switch_found_link_down near (next t)) where
 
 -- one more call changes nothing at an authority switch
 pub authority_counted : (w : SwitchValue) (header : Header) (leg : Leg)
-    → IsSwitchAuthorityForLeg w header leg → IsSwitchAuthorityForLeg (switch_call_counted w) header leg
+    → MaySwitchEndLeg w header leg → MaySwitchEndLeg (switch_call_counted w) header leg
 authority_counted w header (Seek version partition) at = at
 authority_counted w header (Exit port) at = tt

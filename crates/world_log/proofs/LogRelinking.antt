@@ -2,11 +2,11 @@
 use Rattle.std.proofs.Common.{[], if◌then◌else◌, ◌&&◌, ◌++◌, ◌+◌, ◌<◌, ◌^◌, ◌||◌, ◌∙◌, ◌∷◌, ◌≡◌, ◌≤◌, Bool, List, None, Option, Some, ap, append-nil, arith, bit_and, bit_or, cond, false, filter, filter_map, flat_map, get_or, inl, inr, length, map, refl, suc, sym, true, zero, ℕ}
 use Rattle.base.proofs.Exports.{and_le_l, cases_lt, common_steps, filter_map-append, filter_more, flat_map-append, has-and, has-or, has-zero, has_mask, has_only_other, has_only_same, map-append, mask_of_is, mask_of_lt, option_map_or, range_more, range_with_len, slice_get-get_or}
 use Rattle.update_machine.specs.Exports.{Advert, Hello, Message, machine_advert_to}
-use Rattle.ctrl_msg.specs.Exports.{to_controller}
+use Rattle.ctrl_msg.specs.Exports.{message_to_controller}
 use Rattle.failover.specs.Exports.{held_advert}
 use Rattle.base.specs.Exports.{has, only_if, switches}
 use Rattle.switch_core.specs.Exports.{SwitchValue, near_changed, switch_next_advert, serves}
-use Rattle.world_log.specs.Exports.{log_advert_if_held, world_log_adverts_again, logged_adverts_relinked_at, logged_adverts_on_change, adverts_over, all_adverts_sent, all_held, links_change, logged_near_mask_where, log_switch_relinked, logged_switch_serves_at}
+use Rattle.world_log.specs.Exports.{log_advert_if_held, world_log_adverts_again, logged_adverts_relinked_at, logged_adverts_on_change, log_adverts_over, log_all_adverts_sent, log_held_adverts, log_links_change, logged_near_mask_where, log_switch_relinked, logged_switch_serves_at}
 
 -- ---- adverts
 
@@ -42,7 +42,7 @@ held_step switch other n = cc (held_one switch other n, by_one (held_advert swit
 pub ruleset held_steps = (common_steps, held_none, held_step)
 
 pub held_all : (switch : SwitchValue) (other : ℕ)
-    → held_below switch other 64 ≡ map (machine_advert_to other) (all_held switch)
+    → held_below switch other 64 ≡ map (machine_advert_to other) (log_held_adverts switch)
 unfolding held_below switches
 held_all switch other = refl
 
@@ -74,14 +74,14 @@ pub ruleset near_steps = (common_steps, near_none, near_step)
 -- what it sends the neighbours below n about its links
 abbrev pub told_below : SwitchValue → Advert → ℕ → ℕ → ℕ → List Message
 told_below switch own had near n =
-    near_below (λ other. adverts_over switch own (has had other) other) near n
+    near_below (λ other. log_adverts_over switch own (has had other) other) near n
 
 -- and what it sends them again
 abbrev pub again_below : SwitchValue → ℕ → ℕ → List Message
-again_below switch near n = near_below (λ other. map (machine_advert_to other) (all_held switch)) near n
+again_below switch near n = near_below (λ other. map (machine_advert_to other) (log_held_adverts switch)) near n
 
 pub again_all : (s count near : ℕ) (switch : SwitchValue) → switch.is_up ≡ true
-    → to_controller (Hello s switch.boot) ∷ again_below switch near count
+    → message_to_controller (Hello s switch.boot) ∷ again_below switch near count
     ≡ world_log_adverts_again s count near switch
 unfolding near_below
 again_all s count near switch up = rw up refl
@@ -90,14 +90,14 @@ pub again_none : (s count near : ℕ) (switch : SwitchValue) → switch.is_up �
     → [] ≡ world_log_adverts_again s count near switch
 again_none s count near switch down = rw down refl
 
-pub told_all : (switch : SwitchValue) (count had near : ℕ) → links_change had near switch ≡ true
+pub told_all : (switch : SwitchValue) (count had near : ℕ) → log_links_change had near switch ≡ true
     → told_below (near_changed switch near) (switch_next_advert switch near) had near count
     ≡ logged_adverts_on_change count had near switch
 unfolding near_below
 told_all switch count had near is = rw is refl
 
 pub told_nothing : (switch : SwitchValue) (count had near : ℕ)
-    → links_change had near switch ≡ false
+    → log_links_change had near switch ≡ false
     → (log_switch_relinked had near switch ≡ switch) × (logged_adverts_on_change count had near switch ≡ [])
 told_nothing switch count had near is = (rw is refl, rw is refl)
 
@@ -127,8 +127,8 @@ all_more count had near all n d there =
     ]) (slice_get-get_or all n d there))
 
 pub all_of_them : (had near : List ℕ) (all : List SwitchValue)
-    → all_below (length all) had near all (length all) ≡ all_adverts_sent had near all
-unfolding all_below all_adverts_sent
+    → all_below (length all) had near all (length all) ≡ log_all_adverts_sent had near all
+unfolding all_below log_all_adverts_sent
 all_of_them had near all = refl
 
 -- ---- masks

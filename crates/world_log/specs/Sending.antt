@@ -1,6 +1,6 @@
 -- Messages that are sent one after another, and what a controller does, as items of the journal.
 use Rattle.std.specs.Prelude.{[], ◌++◌, ◌+◌, ◌<◌, ◌^◌, ◌∷◌, ◌≡◌, All, List, OnErr, OnOk, Result, length, ℕ, ⊤}
-use Rattle.message_bag.specs.Exports.{HasShortBagSpelling, Post, new_post}
+use Rattle.message_bag.specs.Exports.{HasShortBagSpelling, Post, new_bag_post}
 use Rattle.controller.specs.declared.sends.Act.{Act}
 use Rattle.controller.specs.declared.sends.Act.TheVariants as act
 use Rattle.update_machine.specs.Exports.{Item, Message}
@@ -25,7 +25,7 @@ log_act_items number (first ∷ acts) = log_act_item number first ∷ log_act_it
 
 -- what one act posts
 abbrev pub log_act_post : Act → List Post
-log_act_post (act.Post message) = new_post message ∷ []
+log_act_post (act.Post message) = new_bag_post message ∷ []
 log_act_post _ = []
 
 unfoldable pub log_act_posts : List Act → List Post

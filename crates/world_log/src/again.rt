@@ -1,7 +1,7 @@
 //! What a switch sends again because it may have been lost.
 ghost use Rattle.std.specs.Prelude.{◌≡◌, ◌<◌, ◌≤◌, ◌++◌, IfOk, OnOk};
 ghost use Rattle.ctrl_msg.specs.declared.message.Body.TheVariants.{Hello};
-ghost use Rattle.ctrl_msg.specs.Kinds.{to_controller};
+ghost use Rattle.ctrl_msg.specs.Kinds.{message_to_controller};
 ghost use Rattle.world_log.specs.Linking.{world_log_adverts_again, logged_adverts_all_near};
 
 use crate::usable_links::send_world_log_held;
@@ -56,7 +56,7 @@ fn world_log_resend_to_neighbour(
 
 /// The message by which a switch tells the controller that it is up, in this boot.
 pub fn hello(switch: u32, boot: u32) -> Message
-    ensures { result ≡ to_controller (Hello switch boot) }
+    ensures { result ≡ message_to_controller (Hello switch boot) }
 {
     Message {
         to: Place::Controller,

@@ -19,7 +19,7 @@
 //! log.hop(alloc, 1, &mut switches, &near, &ports)?;
 //! log.send(alloc, message)?;
 //! let now = usable(&links, &switches);
-//! for message in relink(alloc, &mut switches, &near, &now)? { .. }
+//! for message in world_log_relink(alloc, &mut switches, &near, &now)? { .. }
 //! ```
 #![tactic(auto)]
 

@@ -1,8 +1,8 @@
 ghost use Rattle.std.specs.Prelude.{◌≡◌, ◌+◌, ◌-◌, ◌^◌, ◌<◌, [], ◌∷◌, ◌++◌, None, IsSomeAnd, OnOk, OnErr, length, option_map};
-ghost use Rattle.message_bag.specs.Posts.{new_post};
+ghost use Rattle.message_bag.specs.Posts.{new_bag_post};
 ghost use Rattle.message_bag.specs.Feeding.{HasShortBagSpelling};
 ghost use Rattle.journal.specs.declared.item.Item.TheVariants.{Hopped as HoppedItem, Sent as SentItem, Stuck as StuckItem};
-ghost use Rattle.travelling.specs.Travelling.{FlightHasPlace, flight_placed_at, traveller_standing_kept, flight};
+ghost use Rattle.travelling.specs.Travelling.{TravellingFlightHasPlace, travelling_flight_placed_at, traveller_standing_kept, flight};
 ghost use Rattle.update_machine.specs.Exports.{machine_takes_route};
 ghost use Rattle.world_log.specs.Writing.{LogAfter, log_left_item};
 
@@ -30,7 +30,7 @@ impl Log {
         requires few { length self.old.bag < 2 ^ 32 - 1 }
         ensures written { OnOk result (self.new.journal
             ≡ self.old.journal ++ SentItem (length self.old.bag + 1) message ∷ []) }
-        ensures posted { OnOk result (self.new.bag ≡ self.old.bag ++ new_post message ∷ []) }
+        ensures posted { OnOk result (self.new.bag ≡ self.old.bag ++ new_bag_post message ∷ []) }
         ensures unwritten { OnErr result (self.new.journal ≡ self.old.journal) }
         ensures travelling { self.new.travelling ≡ self.old.travelling }
     {
@@ -75,9 +75,9 @@ impl Log {
 
     // Moves the packet on to this place of its route, at this switch. Only the journal allocates.
     pub(crate) fn move_on(&mut self, packet: u32, place: u32, switch: u32) -> Result<(), AllocError>
-        requires { IsSomeAnd (flight self.old.travelling packet) (FlightHasPlace place) }
+        requires { IsSomeAnd (flight self.old.travelling packet) (TravellingFlightHasPlace place) }
         ensures { LogAfter result (HoppedItem packet switch ∷ []) [] packet
-            (option_map (flight_placed_at place) (flight self.old.travelling packet))
+            (option_map (travelling_flight_placed_at place) (flight self.old.travelling packet))
             self.old self.new }
     {
         self.travelling.move_to(packet, place);

@@ -1,7 +1,7 @@
 //! Packets that are lost where they are.
 ghost use Rattle.std.specs.Prelude.{◌≡◌, ◌++◌, ◌∷◌, [], ℕ, map, None, OnOk, OnErr};
 ghost use Rattle.journal.specs.declared.item.Item.TheVariants.{Lost as LostItem};
-ghost use Rattle.travelling.specs.Travelling.{TravellingWithOne, TravellingWithoutAt, numbers_at};
+ghost use Rattle.travelling.specs.Travelling.{TravellingWithOne, TravellingWithoutAt, travelling_numbers_at};
 ghost use Rattle.world_log.specs.Losing.{AreLoggedLossesBelow};
 ghost use Rattle.world_log.specs.Writing.{IsLogPart};
 
@@ -34,10 +34,10 @@ impl Log {
     /// these have left the table.
     pub fn lose_at(&mut self, switch: u32) -> Result<(), AllocError>
         ensures written { OnOk result (self.new.journal ≡ self.old.journal
-            ++ map LostItem (numbers_at self.old.travelling switch)) }
+            ++ map LostItem (travelling_numbers_at self.old.travelling switch)) }
         ensures lost { OnOk result (TravellingWithoutAt self.old.travelling switch self.new.travelling) }
         ensures part { OnErr result (IsLogPart self.old.journal
-            (map LostItem (numbers_at self.old.travelling switch)) self.new.journal) }
+            (map LostItem (travelling_numbers_at self.old.travelling switch)) self.new.journal) }
         ensures left { OnErr result ((bound : ℕ) × AreLoggedLossesBelow self.old.travelling switch bound
             self.old.journal self.new.journal self.new.travelling) }
         ensures unsent { self.new.bag ≡ self.old.bag }

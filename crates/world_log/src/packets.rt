@@ -1,8 +1,8 @@
 ghost use Rattle.std.specs.Prelude.{◌≡◌, ◌≢◌, ◌+◌, ◌-◌, ◌^◌, ◌<◌, ◌++◌, [], ◌∷◌, None, Some, IsTrue, OnOk, OnErr, length, map, slice_get, slice_index};
-ghost use Rattle.message_bag.specs.Posts.{new_post};
-ghost use Rattle.switch_core.specs.Exports.{CanSwitchLookUp, IsSwitchAuthorityForLeg, SwitchStandsAtRoutePlace, answer_of, switch_core_cache_rule, switch_call_counted, next_of, serves, set_out, switch_site_of};
+ghost use Rattle.message_bag.specs.Posts.{new_bag_post};
+ghost use Rattle.switch_core.specs.Exports.{CanSwitchLookUp, MaySwitchEndLeg, SwitchStandsAtRoutePlace, switch_arrival_by_forwarding, switch_core_cache_rule, switch_call_counted, switch_next_of, serves, switch_set_out, switch_site_of};
 ghost use Rattle.switch_core.specs.State.{SwitchValue};
-ghost use Rattle.travelling.specs.Travelling.{Flight, flight, traveller_standing_kept};
+ghost use Rattle.travelling.specs.Travelling.{TravellingFlight, flight, traveller_standing_kept};
 ghost use Rattle.tunnel.specs.Moves.{here, next};
 ghost use Rattle.update_machine.specs.Exports.{machine_sent_items_from};
 ghost use Rattle.world_log.specs.Packets.{LogHasHopped, Hops, LogMeetsDownLink, MayLoggedPacketGoOn, log_coming_in, log_ended_switch, entry, log_followed, log_followed_flight, log_followed_items, log_followed_posts};
@@ -91,9 +91,9 @@ impl Log {
         near: &[u64; 64],
         ports: &Ports,
     ) -> Result<(), AllocError>
-        requires there { (t : Flight) → flight self.old.travelling packet ≡ Some t
+        requires there { (t : TravellingFlight) → flight self.old.travelling packet ≡ Some t
             → here t.tunnel < length switches.old }
-        requires may { (t : Flight) (s : SwitchValue) → flight self.old.travelling packet ≡ Some t
+        requires may { (t : TravellingFlight) (s : SwitchValue) → flight self.old.travelling packet ≡ Some t
             → slice_get switches.old (here t.tunnel) ≡ Some s
             → MayLoggedPacketGoOn packet s (slice_index near.now (here t.tunnel)) t }
         requires few { length self.old.bag < 2 ^ 32 - 1 }
@@ -149,13 +149,13 @@ impl Log {
     ) -> Result<(), AllocError>
         requires serving { IsTrue (serves switch.old) }
         requires stamped { CanSwitchLookUp switch.old }
-        requires met { (before : SwitchValue) × ((t : Flight) × LogMeetsDownLink (traveller_standing_kept at) at.version
+        requires met { (before : SwitchValue) × ((t : TravellingFlight) × LogMeetsDownLink (traveller_standing_kept at) at.version
             at.rule leg targets other before switch.old site.near t) }
         requires here { at.switch < 64 }
         requires different { other ≢ at.switch }
         requires other { other < 64 }
         requires few { length self.old.bag < 2 ^ 32 - 1 }
-        ensures { (before : SwitchValue) (t : Flight)
+        ensures { (before : SwitchValue) (t : TravellingFlight)
             → LogMeetsDownLink (traveller_standing_kept at) at.version at.rule leg targets other before switch.old
             site.entry.near t
             → LogHasHopped result at.packet before site.entry.near site.entry.ports.now self.old switch.new
@@ -194,7 +194,7 @@ impl Log {
         requires stamped { CanSwitchLookUp switch.old }
         requires last { next kept.tunnel ≡ None
             → SwitchStandsAtRoutePlace switch.old kept.tunnel.route kept.tunnel.place
-            × IsSwitchAuthorityForLeg switch.old kept.tunnel.header kept.tunnel.leg }
+            × MaySwitchEndLeg switch.old kept.tunnel.header kept.tunnel.leg }
         requires ingress { kept.tunnel.ingress < 64 }
         requires few { length self.old.bag < 2 ^ 32 - 1 }
         ensures log { LogAfter result
@@ -244,11 +244,11 @@ impl Log {
         requires few { length self.old.bag < 2 ^ 32 - 1 }
         ensures log { LogAfter result
             (log_arrived_items (length self.old.bag + 1) (traveller_standing_kept at) at.version at.rule
-            (answer_of switch.old (switch_site_of site.entry) (log_packet_standing (traveller_standing_kept at)) forwarding))
+            (switch_arrival_by_forwarding switch.old (switch_site_of site.entry) (log_packet_standing (traveller_standing_kept at)) forwarding))
             (log_arrived_posts (traveller_standing_kept at)
-            (answer_of switch.old (switch_site_of site.entry) (log_packet_standing (traveller_standing_kept at)) forwarding))
+            (switch_arrival_by_forwarding switch.old (switch_site_of site.entry) (log_packet_standing (traveller_standing_kept at)) forwarding))
             at.packet (log_arrived_flight at.version at.rule
-            (answer_of switch.old (switch_site_of site.entry) (log_packet_standing (traveller_standing_kept at)) forwarding))
+            (switch_arrival_by_forwarding switch.old (switch_site_of site.entry) (log_packet_standing (traveller_standing_kept at)) forwarding))
             self.old self.new }
         ensures same { switch.new ≡ switch.old }
     {
@@ -284,9 +284,9 @@ impl Log {
     ) -> Result<(), AllocError>
         ensures log { LogAfter result
             (log_set_item (traveller_standing_kept at) leg
-            (set_out switch.old near (log_packet_standing (traveller_standing_kept at)) leg targets) ∷ [])
+            (switch_set_out switch.old near (log_packet_standing (traveller_standing_kept at)) leg targets) ∷ [])
             [] at.packet (log_set_flight at.version at.rule
-            (set_out switch.old near (log_packet_standing (traveller_standing_kept at)) leg targets))
+            (switch_set_out switch.old near (log_packet_standing (traveller_standing_kept at)) leg targets))
             self.old self.new }
         ensures same { switch.new ≡ switch.old }
     {
@@ -317,7 +317,7 @@ impl Log {
             ++ machine_sent_items_from (length self.old.bag + 1)
             (log_message_list (log_cache_message ingress (switch_core_cache_rule decision.now word)))) }
         ensures posted { OnOk result (self.new.bag ≡ self.old.bag
-            ++ map new_post (log_message_list (log_cache_message ingress (switch_core_cache_rule decision.now word)))) }
+            ++ map new_bag_post (log_message_list (log_cache_message ingress (switch_core_cache_rule decision.now word)))) }
         ensures unwritten { OnErr result (self.new.journal ≡ self.old.journal) }
         ensures travelling { self.new.travelling ≡ self.old.travelling }
     {
@@ -342,9 +342,9 @@ impl Log {
         site: SwitchSite,
     ) -> Result<(), AllocError>
         ensures log { LogAfter result
-            (log_end_item (traveller_standing_kept at) decision (next_of switch.old (switch_site_of site.entry)
+            (log_end_item (traveller_standing_kept at) decision (switch_next_of switch.old (switch_site_of site.entry)
             (log_packet_standing (traveller_standing_kept at)) decision.action) ∷ [])
-            [] at.packet (log_decided_flight decision (next_of switch.old (switch_site_of site.entry)
+            [] at.packet (log_decided_flight decision (switch_next_of switch.old (switch_site_of site.entry)
             (log_packet_standing (traveller_standing_kept at)) decision.action))
             self.old self.new }
         ensures same { switch.new ≡ switch.old }

@@ -1,6 +1,6 @@
 //! Messages that are sent one after another, and what the controller does, written into the log.
 ghost use Rattle.std.specs.Prelude.{◌≡◌, ◌+◌, ◌^◌, ◌<◌, ◌++◌, ◌∷◌, [], OnOk, OnErr, length, map};
-ghost use Rattle.message_bag.specs.Posts.{new_post};
+ghost use Rattle.message_bag.specs.Posts.{new_bag_post};
 ghost use Rattle.controller.specs.declared.sends.Act.TheVariants.{Post};
 ghost use Rattle.update_machine.specs.Messages.{machine_sent_items_from};
 ghost use Rattle.world_log.specs.Sending.{LogHasNoted, IsLoggedActSpelled, LogMayNote, LogMaySend, log_act_item, log_act_post};
@@ -21,7 +21,7 @@ impl Log {
         ensures written { OnOk result (self.new.journal
             ≡ self.old.journal ++ machine_sent_items_from (length self.old.bag + 1) messages.items) }
         ensures posted { OnOk result (self.new.bag
-            ≡ self.old.bag ++ map new_post messages.items) }
+            ≡ self.old.bag ++ map new_bag_post messages.items) }
         ensures part { OnErr result (IsLogPart self.old.journal
             (machine_sent_items_from (length self.old.bag + 1) messages.items) self.new.journal) }
         ensures travelling { self.new.travelling ≡ self.old.travelling }

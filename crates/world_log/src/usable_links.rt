@@ -3,7 +3,7 @@
 ghost use Rattle.std.specs.Prelude.{ℕ, ◌≡◌, ◌-◌, ◌^◌, ◌<◌, ◌≤◌, ◌++◌, All, IfOk, OnOk, length, map};
 ghost use Rattle.base.specs.Masks.{has};
 ghost use Rattle.update_machine.specs.Deliveries.{machine_advert_to};
-ghost use Rattle.world_log.specs.Linking.{AreLogSwitchesRelinked, all_adverts_sent, all_held, logged_near_all, logged_near_mask_where, log_switch_relinked, logged_switch_serves_at, logged_adverts_on_change, log_advert_if_held, log_adverts_near, adverts_over};
+ghost use Rattle.world_log.specs.Linking.{AreLogSwitchesRelinked, log_all_adverts_sent, log_held_adverts, logged_near_all, logged_near_mask_where, log_switch_relinked, logged_switch_serves_at, logged_adverts_on_change, log_advert_if_held, log_adverts_near, log_adverts_over};
 
 use base::{has, only_if};
 use ctrl_msg::{Body, Message, Place};
@@ -60,7 +60,7 @@ pub fn world_log_relink(
     ensures switches { OnOk result
         (AreLogSwitchesRelinked had.now now.now switches.old.items switches.new.items) }
     ensures told { IfOk result (λ messages. messages.items
-        ≡ all_adverts_sent had.now now.now switches.old.items) }
+        ≡ log_all_adverts_sent had.now now.now switches.old.items) }
 {
     let mut messages = Vec::new(alloc);
     let count = switches.len() as u32;
@@ -123,7 +123,7 @@ fn send_world_log_adverts(
     other: u32,
 ) -> Result<(), AllocError>
     ensures { OnOk result (messages.new.items
-        ≡ messages.old.items ++ adverts_over switch.now own.now had other) }
+        ≡ messages.old.items ++ log_adverts_over switch.now own.now had other) }
 {
     if had {
         messages.push(world_log_advert_to(other, own))?;
@@ -143,7 +143,7 @@ pub fn send_world_log_held(
     other: u32,
 ) -> Result<(), AllocError>
     ensures { OnOk result (messages.new.items
-        ≡ messages.old.items ++ map (machine_advert_to other) (all_held switch.now)) }
+        ≡ messages.old.items ++ map (machine_advert_to other) (log_held_adverts switch.now)) }
 {
     for origin in 0..64 {
         world_log_send_advert(messages, other, switch.known(origin))?;

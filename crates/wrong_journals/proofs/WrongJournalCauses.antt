@@ -4,8 +4,8 @@ use Rattle.std.specs.Prelude.{⊤}
 use Rattle.std.proofs.lemmas.Bool.Decides.{nat_tests}
 use Rattle.std.proofs.lemmas.List.Elements.{All-from_recursion, All-head}
 use Rattle.std.proofs.lemmas.Option.{same_Some}
-use Rattle.update_machine.specs.Exports.{Decision, HasMachineCause, JournalItemsHaveCauses, MachineLosesRightly, Item, Leads, Out, journal_claim_of, journal_decision_of, journal_packet_header, is_link_up_in_journal, is_open, journal_message_of, journal_present_step, serves, standing}
-use Rattle.wrong_journals.specs.Exports.{right_journal_left, lost_by_nothing, wrong_journal_office, other_port, stuck_beside_a_route, right_journal_stuck}
+use Rattle.update_machine.specs.Exports.{Decision, HasMachineCause, JournalItemsHaveCauses, MachineLosesRightly, Item, MachineWalkLeads, Out, journal_claim_of, journal_decision_of, journal_packet_header, is_link_up_in_journal, is_journal_link_open, journal_message_of, journal_present_step, serves, journal_standing_of}
+use Rattle.wrong_journals.specs.Exports.{right_journal_left, wrong_journal_lost_by_nothing, wrong_journal_office, wrong_journal_other_port, wrong_journal_stuck_beside_route, right_journal_stuck}
 
 -- an item that needs no cause, and those behind it
 free : {causes : Type 0} → causes → ⊤ × causes
@@ -15,7 +15,7 @@ free behind = (tt, behind)
 
 -- the packet leaves at b
 pub left_rightly_has_causes : JournalItemsHaveCauses (HasMachineCause wrong_journal_office) [] right_journal_left
-unfolding standing journal_packet_header journal_decision_of
+unfolding journal_standing_of journal_packet_header journal_decision_of
 left_rightly_has_causes = free (free (free (free (free (free (
   record {
     switch = 1;
@@ -32,14 +32,14 @@ left_rightly_has_causes = free (free (free (free (free (free (
 abbrev cut_off : List Item
 cut_off = take 5 right_journal_stuck
 
-no_way : (path : List ℕ) → Leads (is_open wrong_journal_office cut_off 1 0) 0 path 1 → ⊥
+no_way : (path : List ℕ) → MachineWalkLeads (is_journal_link_open wrong_journal_office cut_off 1 0) 0 path 1 → ⊥
 unfolding serves is_link_up_in_journal
 no_way [] leads = let same : ◌≡◌ {A = ℕ} 0 1 = leads in cc
-no_way (next ∷ path) leads = let first : IsTrue (is_open wrong_journal_office cut_off 1 0 0 next) = leads.0 in
+no_way (next ∷ path) leads = let first : IsTrue (is_journal_link_open wrong_journal_office cut_off 1 0 0 next) = leads.0 in
     grind (arith, nat_tests, first)
 
 pub stuck_rightly_has_causes : JournalItemsHaveCauses (HasMachineCause wrong_journal_office) [] right_journal_stuck
-unfolding standing serves journal_present_step journal_decision_of
+unfolding journal_standing_of serves journal_present_step journal_decision_of
 stuck_rightly_has_causes = free (
   inl refl,
   free (free (free (
@@ -49,7 +49,7 @@ stuck_rightly_has_causes = free (
       targets = 1 ∷ [];
       own_leg = (_, refl, refl, refl);
       no_path = All-from_recursion (λ (target : ℕ). (path : List ℕ)
-          → ¬ Leads (is_open wrong_journal_office cut_off 1 0) 0 path target) (1 ∷ []) (no_way, tt);
+          → ¬ MachineWalkLeads (is_journal_link_open wrong_journal_office cut_off 1 0) 0 path target) (1 ∷ []) (no_way, tt);
     },
     tt,
   ))),
@@ -58,7 +58,7 @@ stuck_rightly_has_causes = free (
 -- ---- journals of which an item has none
 
 -- by a port that isn't the decision's
-pub other_port_has_no_cause : JournalItemsHaveCauses (HasMachineCause wrong_journal_office) [] other_port → ⊥
+pub other_port_has_no_cause : JournalItemsHaveCauses (HasMachineCause wrong_journal_office) [] wrong_journal_other_port → ⊥
 unfolding journal_decision_of
 other_port_has_no_cause causes =
     let own : Decision = record { version = 1; rule = Some 100; action = Out 2 } in
@@ -68,21 +68,21 @@ other_port_has_no_cause causes =
     cc
 
 -- no row, and no crash
-not_lost : MachineLosesRightly (take 2 lost_by_nothing) 1 → ⊥
+not_lost : MachineLosesRightly (take 2 wrong_journal_lost_by_nothing) 1 → ⊥
 unfolding journal_present_step
 not_lost (inl row) = cc
 not_lost (inr crash) = let crashes = crash.crashes in cc
 
-pub lost_by_nothing_has_no_cause : JournalItemsHaveCauses (HasMachineCause wrong_journal_office) [] lost_by_nothing → ⊥
+pub lost_by_nothing_has_no_cause : JournalItemsHaveCauses (HasMachineCause wrong_journal_office) [] wrong_journal_lost_by_nothing → ⊥
 lost_by_nothing_has_no_cause causes = not_lost causes.1.1.0
 
 -- the link from a leads to b
-pub stuck_beside_a_way_has_no_cause : JournalItemsHaveCauses (HasMachineCause wrong_journal_office) [] stuck_beside_a_route → ⊥
+pub stuck_beside_a_way_has_no_cause : JournalItemsHaveCauses (HasMachineCause wrong_journal_office) [] wrong_journal_stuck_beside_route → ⊥
 unfolding serves is_link_up_in_journal journal_claim_of journal_message_of
 stuck_beside_a_way_has_no_cause causes =
     let stuck = causes.1.1.1.0 in
     let no_way_to : ℕ → Type 0 = λ target. (path : List ℕ)
-    → ¬ Leads (is_open wrong_journal_office (take 3 stuck_beside_a_route) 1 0) 0 path target in
+    → ¬ MachineWalkLeads (is_journal_link_open wrong_journal_office (take 3 wrong_journal_stuck_beside_route) 1 0) 0 path target in
     All-head no_way_to 1 []
     (subst (λ (targets : List ℕ). All no_way_to targets) (sym stuck.own_leg.3) stuck.no_path)
     (1 ∷ []) (refl, refl)

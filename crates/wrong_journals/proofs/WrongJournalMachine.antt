@@ -3,7 +3,7 @@
 use Rattle.std.proofs.Common.{[], ◌++◌, ◌∙◌, ◌∷◌, ◌≡◌, List, None, Option, Some, ap, length, option_to_list, refl, subst, sym, ℕ}
 use Rattle.std.specs.Prelude.{⊤}
 use Rattle.std.specs.Result.{result_ok}
-use Rattle.update_machine.specs.Exports.{Dropped, End, IsMachineRun, Item, LeftBy, Lost, Machine, Row, Runs, Setting, Stuck, Takes, first_machine, setting_policy_by, machine_submitted_policy, machine_with_packet}
+use Rattle.update_machine.specs.Exports.{Dropped, MachinePacketEnd, IsMachineRun, Item, LeftBy, Lost, Machine, Row, MachineRuns, Setting, Stuck, MachineTakes, first_machine, machine_policy_by, machine_submitted_policy, machine_with_packet}
 use Rattle.journal.specs.declared.item.Item.TheVariants as item
 use Rattle.update_machine.specs.Machine.{Packet}
 
@@ -21,14 +21,14 @@ changed_there old number change packet there =
     subst (λ (known : Option Packet). machine_with_packet old number (change packet)
     ≡ elim known [ None ↦ old | Some own ↦ machine_with_packet old number (change own) ]) (sym there) refl
 
-abbrev pub ended : End → Packet → Packet
+abbrev pub ended : MachinePacketEnd → Packet → Packet
 ended end packet = record packet { end = Some end }
 
 abbrev pub behind_item : Setting → Machine → Item → Machine
 behind_item setting old (item.Submitted file version) =
     let newest = machine_submitted_policy old (length old.policies) in
     record old {
-      policies = old.policies ++ option_to_list (result_ok (setting_policy_by setting newest file));
+      policies = old.policies ++ option_to_list (result_ok (machine_policy_by setting newest file));
     }
 behind_item setting old (item.Retired version) = record old { mark = version }
 behind_item setting old (item.Entered packet switch header) = machine_with_packet old packet
@@ -42,7 +42,7 @@ behind_item setting old (item.Stuck packet switch cause leg down) = changed old 
 behind_item setting old _ = old
 
 taken : (setting : Setting) (old : Machine) (item : Item) (new : Machine)
-    → Takes setting old item new → new ≡ behind_item setting old item
+    → MachineTakes setting old item new → new ≡ behind_item setting old item
 taken setting old (item.Submitted file version) new takes =
     let with_made : Option (List Row) → Machine =
     λ made. record old { policies = old.policies ++ option_to_list made } in
@@ -68,15 +68,15 @@ behind_items setting old (item ∷ items) = behind_items setting (behind_item se
 
 -- a move of the machine by this item
 abbrev pub Move : Setting → Machine → Item → Type 0
-Move setting old item = (new : Machine) × Takes setting old item new
+Move setting old item = (new : Machine) × MachineTakes setting old item new
 
 move_within : (setting : Setting) (old : Machine) (before : List Item) (item : Item)
-    (after : List Item) (new : Machine) → Runs setting old (before ++ item ∷ after) new
+    (after : List Item) (new : Machine) → MachineRuns setting old (before ++ item ∷ after) new
     → Move setting (behind_items setting old before) item
 move_within setting old [] item after new runs = (runs.0, runs.1)
 move_within setting old (first ∷ before) item after new runs =
     move_within setting (behind_item setting old first) before item after new
-    (subst (λ (m : Machine). Runs setting m (before ++ item ∷ after) new)
+    (subst (λ (m : Machine). MachineRuns setting m (before ++ item ∷ after) new)
     (taken setting old first runs.0 runs.1) runs.2)
 
 pub move_at : (setting : Setting) (before : List Item) (item : Item) (after : List Item)
@@ -88,11 +88,11 @@ move_at setting before item after run =
 -- the machine may take these items in turn, each to the machine behind it
 abbrev pub MayTake : Setting → Machine → List Item → Type 0
 MayTake setting old [] = ⊤
-MayTake setting old (item ∷ items) = Takes setting old item (behind_item setting old item)
+MayTake setting old (item ∷ items) = MachineTakes setting old item (behind_item setting old item)
     × MayTake setting (behind_item setting old item) items
 
 pub runs_by : (setting : Setting) (old : Machine) (items : List Item) → MayTake setting old items
-    → Runs setting old items (behind_items setting old items)
+    → MachineRuns setting old items (behind_items setting old items)
 runs_by setting old [] may = refl
 runs_by setting old (item ∷ items) may = (
   behind_item setting old item,

@@ -1,9 +1,9 @@
 -- The first matches of the two policies, and what is none.
 use Rattle.std.proofs.Common.{[], ◌∙◌, ◌∷◌, ◌≡◌, ◌≤◌, Some, arith, refl, sym}
 use Rattle.std.proofs.lemmas.List.Elements.{All-contains, All-from_recursion, All-head}
-use Rattle.policy_rules.specs.Exports.{IsFirstMatch}
+use Rattle.policy_rules.specs.Exports.{IsFirstPolicyMatch}
 use Rattle.update_machine.specs.Exports.{Action, Drop, Hit, Out, Row}
-use Rattle.wrong_journals.specs.Exports.{allowed, wrong_journal_denied, wrong_journal_everywhere, wrong_journals_policy, wrong_journal_row, wrong_journals_second_policy, wrong_journal_server_room}
+use Rattle.wrong_journals.specs.Exports.{wrong_journal_allowed, wrong_journal_denied, wrong_journal_everywhere, wrong_journals_policy, wrong_journal_row, wrong_journals_second_policy, wrong_journal_server_room}
 
 abbrev pub by_100 : Action → Hit
 by_100 action = record { rule = Some 100; action = action }
@@ -13,7 +13,7 @@ by_200 = record { rule = Some 200; action = Drop }
 
 -- ---- what is a first match
 
-pub first_of_allowed : IsFirstMatch wrong_journals_policy allowed (by_100 (Out 2))
+pub first_of_allowed : IsFirstPolicyMatch wrong_journals_policy wrong_journal_allowed (by_100 (Out 2))
 first_of_allowed = (
   wrong_journal_row 100 wrong_journal_everywhere (Out 2),
   record {
@@ -25,7 +25,7 @@ first_of_allowed = (
   refl,
 )
 
-pub first_of_denied : IsFirstMatch wrong_journals_policy wrong_journal_denied by_200
+pub first_of_denied : IsFirstPolicyMatch wrong_journals_policy wrong_journal_denied by_200
 first_of_denied = (
   wrong_journal_row 200 wrong_journal_server_room Drop,
   record {
@@ -37,7 +37,7 @@ first_of_denied = (
   refl,
 )
 
-pub second_of_allowed : IsFirstMatch wrong_journals_second_policy allowed (by_100 Drop)
+pub second_of_allowed : IsFirstPolicyMatch wrong_journals_second_policy wrong_journal_allowed (by_100 Drop)
 second_of_allowed = (
   wrong_journal_row 100 wrong_journal_everywhere Drop,
   record {
@@ -52,7 +52,7 @@ second_of_allowed = (
 -- ---- what is none
 
 -- the row 100 isn't the highest that matches
-pub no_first_of_denied : IsFirstMatch wrong_journals_policy wrong_journal_denied (by_100 (Out 2)) → ⊥
+pub no_first_of_denied : IsFirstPolicyMatch wrong_journals_policy wrong_journal_denied (by_100 (Out 2)) → ⊥
 no_first_of_denied first =
     let above : 200 ≤ first.0.priority =
     All-head (λ (other : Row). other.priority ≤ first.0.priority)
@@ -60,7 +60,7 @@ no_first_of_denied first =
     let own : first.0.priority ≡ 100 = first.2 in omega (arith, above, own)
 
 -- the only row of the second policy drops
-pub no_second_of_allowed : IsFirstMatch wrong_journals_second_policy allowed (by_100 (Out 2)) → ⊥
+pub no_second_of_allowed : IsFirstPolicyMatch wrong_journals_second_policy wrong_journal_allowed (by_100 (Out 2)) → ⊥
 no_second_of_allowed first =
     let drops : first.0.action ≡ Drop =
     All-contains (λ (row : Row). row.action ≡ Drop) wrong_journals_second_policy first.0

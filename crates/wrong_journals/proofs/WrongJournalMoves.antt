@@ -1,9 +1,9 @@
 -- Moves of the machine with one packet: it enters, is decided, and ends.
 use Rattle.std.proofs.Common.{◌<◌, ◌≡◌, List, None, Some, arith, refl, ℕ}
-use Rattle.update_machine.specs.Exports.{Decides, End, Ends, MachineEnters, Header, Hit, Machine, MachinePacketMayEnd, Out, Row, machine_submitted_policy, machine_with_packet}
-use Rattle.policy_rules.specs.Exports.{IsFirstMatch}
+use Rattle.update_machine.specs.Exports.{MachineDecides, MachinePacketEnd, MachineEndsPacket, MachineEnters, Header, Hit, Machine, MachinePacketMayEnd, Out, Row, machine_submitted_policy, machine_with_packet}
+use Rattle.policy_rules.specs.Exports.{IsFirstPolicyMatch}
 use Rattle.update_machine.specs.Machine.{Packet}
-use Rattle.wrong_journals.specs.Exports.{allowed, wrong_journals_policy}
+use Rattle.wrong_journals.specs.Exports.{wrong_journal_allowed, wrong_journals_policy}
 use Rattle.wrong_journals.proofs.WrongJournalMatches.{by_100, first_of_allowed}
 
 -- a packet that entered under this mark
@@ -16,7 +16,7 @@ decided header mark hit = record (comer header mark) { decision = Some hit }
 
 -- the first policy lets it out
 abbrev pub let_out : Packet
-let_out = decided allowed 0 (by_100 (Out 2))
+let_out = decided wrong_journal_allowed 0 (by_100 (Out 2))
 
 pub enters : (old : Machine) (header : Header) → old.packets 1 ≡ None
     → MachineEnters old 1 header (machine_with_packet old 1 (comer header old.mark))
@@ -24,8 +24,8 @@ enters old header unknown = record { unknown = unknown; after = refl }
 
 pub decides : (old : Machine) (header : Header) (mark version : ℕ) (policy : List Row) (hit : Hit)
     → old.packets 1 ≡ Some (comer header mark) → mark < version
-    → machine_submitted_policy old version ≡ Some policy → IsFirstMatch policy header hit
-    → Decides old 1 version hit (machine_with_packet old 1 (decided header mark hit))
+    → machine_submitted_policy old version ≡ Some policy → IsFirstPolicyMatch policy header hit
+    → MachineDecides old 1 version hit (machine_with_packet old 1 (decided header mark hit))
 decides old header mark version policy hit entered above submitted first = record {
   packet = comer header mark;
   policy = policy;
@@ -38,14 +38,14 @@ decides old header mark version policy hit entered above submitted first = recor
   after = refl;
 }
 
-pub ends : (old : Machine) (packet : Packet) (end : End) → old.packets 1 ≡ Some packet
+pub ends : (old : Machine) (packet : Packet) (end : MachinePacketEnd) → old.packets 1 ≡ Some packet
     → packet.end ≡ None → MachinePacketMayEnd packet end
-    → Ends old 1 end (machine_with_packet old 1 (record packet { end = Some end }))
+    → MachineEndsPacket old 1 end (machine_with_packet old 1 (record packet { end = Some end }))
 ends old packet end entered going may =
     record { packet = packet; entered = entered; not_ended = going; may = may; after = refl }
 
-pub lets_out : (old : Machine) → old.packets 1 ≡ Some (comer allowed 0)
+pub lets_out : (old : Machine) → old.packets 1 ≡ Some (comer wrong_journal_allowed 0)
     → machine_submitted_policy old 1 ≡ Some wrong_journals_policy
-    → Decides old 1 1 (by_100 (Out 2)) (machine_with_packet old 1 let_out)
-lets_out old entered submitted = decides old allowed 0 1 wrong_journals_policy (by_100 (Out 2)) entered
+    → MachineDecides old 1 1 (by_100 (Out 2)) (machine_with_packet old 1 let_out)
+lets_out old entered submitted = decides old wrong_journal_allowed 0 1 wrong_journals_policy (by_100 (Out 2)) entered
     (omega arith) submitted first_of_allowed

@@ -3,12 +3,12 @@ use Rattle.std.specs.Prelude.{[], ◌∷◌, ◌≡◌, Bool, List, None, false,
 use Rattle.update_machine.specs.Exports.{Event, HasMachineCause, JournalItemsHaveCauses, IsMachineRun, Item, One, journal_all_given}
 use Rattle.journal.specs.declared.item.Item.TheVariants as item
 use Rattle.journal_text.specs.Lines.{journal_text}
-use Rattle.packet_laws.specs.Exports.{AreEntered, packet_law_rows_played}
-use Rattle.wrong_journals.specs.Office.{wrong_journal_office, text_of, wrong_journals_net}
+use Rattle.packet_laws.specs.Exports.{ArePacketRowsEntered, packet_law_rows_played}
+use Rattle.wrong_journals.specs.Office.{wrong_journal_office, wrong_journal_text, wrong_journals_net}
 
 -- the journal prints as these lines
 abbrev pub TriedJournalPrintsAs : List Item → List (List ℕ) → Type 0
-TriedJournalPrintsAs journal lines = journal_text wrong_journals_net journal ≡ text_of lines
+TriedJournalPrintsAs journal lines = journal_text wrong_journals_net journal ≡ wrong_journal_text lines
 
 -- the schedule of the rows that a journal has: so its entries can differ from the schedule's only
 -- if a packet enters by no row
@@ -20,16 +20,16 @@ abbrev pub wrong_journals_events : List Item → List Event
 wrong_journals_events journal = journal_all_given wrong_journal_event_in journal
 
 -- the fact is true, or it is false
-abbrev pub WrongJournalHolds : Bool → Type 0 → Type 0
-WrongJournalHolds true fact = fact
-WrongJournalHolds false fact = ¬ fact
+abbrev pub TriedFactIs : Bool → Type 0 → Type 0
+TriedFactIs true fact = fact
+TriedFactIs false fact = ¬ fact
 
 -- whether the journal is a run of the machine, its ends have their causes, and its rows and
 -- entries are those of the schedule, which was played to its end
 pub record IsSmallTriedJournal (is_run has_causes is_entered : Bool) (journal : List Item) : Type 0 where
-  pub run : WrongJournalHolds is_run (IsMachineRun wrong_journal_office journal)
-  pub causes : WrongJournalHolds has_causes (JournalItemsHaveCauses (HasMachineCause wrong_journal_office) [] journal)
-  pub entered : WrongJournalHolds is_entered (AreEntered (packet_law_rows_played None (wrong_journals_events journal)) journal)
+  pub run : TriedFactIs is_run (IsMachineRun wrong_journal_office journal)
+  pub causes : TriedFactIs has_causes (JournalItemsHaveCauses (HasMachineCause wrong_journal_office) [] journal)
+  pub entered : TriedFactIs is_entered (ArePacketRowsEntered (packet_law_rows_played None (wrong_journals_events journal)) journal)
 
 -- all three are true
 abbrev pub IsRightTriedJournal : List Item → Type 0

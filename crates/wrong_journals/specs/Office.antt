@@ -1,7 +1,7 @@
 -- Two switches with two policies, on which small journals are judged, and how these journals begin.
 use Rattle.std.specs.Prelude.{[], ◌++◌, ◌∷◌, List, Some, codes, flat_map, ℕ}
 use Rattle.five_tuple.specs.Exports.{AddressBlock, header_of}
-use Rattle.update_machine.specs.Exports.{Action, Any, Authority, Drop, Header, Item, Net, Out, Packet, Row, Setting, Update, Whole, setting_of}
+use Rattle.update_machine.specs.Exports.{Action, Any, Authority, Drop, Header, Item, Net, Out, Packet, Row, Setting, Update, Whole, machine_setting_of}
 use Rattle.journal.specs.declared.item.Item.TheVariants as item
 
 -- the switch a has the port 1, and room for 100 rules; b has the port 2; a link joins them
@@ -43,7 +43,7 @@ abbrev pub wrong_journals_second_policy : List Row
 wrong_journals_second_policy = wrong_journal_row 100 wrong_journal_everywhere Drop ∷ []
 
 abbrev pub wrong_journal_office : Setting
-wrong_journal_office = setting_of wrong_journals_net (Whole wrong_journals_policy ∷ Whole wrong_journals_second_policy ∷ [])
+wrong_journal_office = machine_setting_of wrong_journals_net (Whole wrong_journals_policy ∷ Whole wrong_journals_second_policy ∷ [])
 
 -- from 1.2.3.4 to this address, by TCP from port 5000 to port 80
 abbrev pub wrong_journal_header : ℕ → Header
@@ -56,8 +56,8 @@ wrong_journal_header address = header_of (record {
 })
 
 -- to 10.2.0.1, which the first policy lets out by port 2
-abbrev pub allowed : Header
-allowed = wrong_journal_header 167903233
+abbrev pub wrong_journal_allowed : Header
+wrong_journal_allowed = wrong_journal_header 167903233
 
 -- to 10.1.5.5, which it drops
 abbrev pub wrong_journal_denied : Header
@@ -72,12 +72,12 @@ wrong_journals_in_at_a header = item.Row 1 (Packet 0 header) ∷ item.Entered 1 
 -- an allowed packet enters at a, after an update
 abbrev pub wrong_journals_behind_update : List Item
 wrong_journals_behind_update =
-    item.Row 1 (Update 2) ∷ item.Submitted 2 2 ∷ item.Row 2 (Packet 0 allowed)
-    ∷ item.Entered 1 0 allowed ∷ []
+    item.Row 1 (Update 2) ∷ item.Submitted 2 2 ∷ item.Row 2 (Packet 0 wrong_journal_allowed)
+    ∷ item.Entered 1 0 wrong_journal_allowed ∷ []
 
 -- the packet gets rule 100 of a version at a, with this action
-abbrev pub gets : ℕ → Action → Item
-gets version action = item.Decided 1 version (Some 100) action (Authority 0 0)
+abbrev pub wrong_journal_gets : ℕ → Action → Item
+wrong_journal_gets version action = item.Decided 1 version (Some 100) action (Authority 0 0)
 
 -- ---- in print
 
@@ -92,5 +92,5 @@ wrong_journal_printed_behind =
     ∷ codes "row 2: packet a 1.2.3.4 10.2.0.1 5000 80 tcp" ∷ codes "  entered 1 a" ∷ []
 
 -- these lines, each with its line feed
-abbrev pub text_of : List (List ℕ) → List ℕ
-text_of lines = flat_map (λ line. line ++ 10 ∷ []) lines
+abbrev pub wrong_journal_text : List (List ℕ) → List ℕ
+wrong_journal_text lines = flat_map (λ line. line ++ 10 ∷ []) lines

@@ -1,5 +1,5 @@
 //! Frames of messages, fed to an assembler in another order than theirs.
-ghost use Rattle.wire.specs.Messages.{HasSpelling};
+ghost use Rattle.wire.specs.Messages.{HasWireSpelling};
 
 use crate::tests::messages::{collect, install};
 use ctrl_msg::{Body, Message};
@@ -9,7 +9,7 @@ use wire::{Assembler, Frames, encode, split};
 
 // The frames of a message; `None` if its encoding is longer than 1 MiB, or out of memory.
 fn frames(alloc: Global, message: &Message) -> Option<Frames>
-    requires { HasSpelling message.now }
+    requires { HasWireSpelling message.now }
 {
     let Ok(bytes) = encode(alloc, message) else {
         return None;

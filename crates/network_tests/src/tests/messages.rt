@@ -1,6 +1,6 @@
 //! The messages that the tests encode.
 ghost use Rattle.std.specs.Prelude.{◌<◌, ◌^◌, length, IfOk};
-ghost use Rattle.wire.specs.Messages.{HasSpelling};
+ghost use Rattle.wire.specs.Messages.{HasWireSpelling};
 
 use base::Shared;
 use ctrl_msg::{Body, Message, Place, SharedTables};
@@ -11,7 +11,7 @@ use switch_table::{PartRows, Partitions, Tables, Touched};
 use ternary::Word;
 
 pub fn collect() -> Message
-    ensures { HasSpelling result }
+    ensures { HasWireSpelling result }
 {
     Message {
         to: Place::Switch(0),
@@ -24,7 +24,7 @@ pub fn collect() -> Message
 
 /// A stamp whose change touches this many words.
 pub fn stamp(alloc: Global, words: u32) -> Result<Message, Fail>
-    ensures { IfOk result HasSpelling }
+    ensures { IfOk result HasWireSpelling }
 {
     let mut list = Vec::new(alloc);
     for _ in 0..words {
@@ -42,7 +42,7 @@ pub fn stamp(alloc: Global, words: u32) -> Result<Message, Fail>
 }
 
 pub fn hello() -> Message
-    ensures { HasSpelling result }
+    ensures { HasWireSpelling result }
 {
     Message {
         to: Place::Controller,
@@ -79,7 +79,7 @@ fn rules(alloc: Global, defaults: u32, rows: u32) -> Result<Vec<Rule>, Fail>
 
 /// An installation of one partition: its tables take 52 bytes, and 38 or 42 for each rule.
 pub fn install(alloc: Global, defaults: u32, rows: u32) -> Result<Message, Fail>
-    ensures { IfOk result HasSpelling }
+    ensures { IfOk result HasWireSpelling }
 {
     let part = Partition {
         number: 0,

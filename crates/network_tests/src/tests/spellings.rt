@@ -1,5 +1,5 @@
 //! Encodings byte by byte, and bytes that are none.
-ghost use Rattle.wire.specs.Messages.{HasSpelling};
+ghost use Rattle.wire.specs.Messages.{HasWireSpelling};
 
 use crate::tests::messages::{collect, hello, stamp};
 use ctrl_msg::{Body, Message, Place};
@@ -12,7 +12,7 @@ fn is_malformed(alloc: Global, bytes: &[u8]) -> bool {
 }
 
 fn is_spelled(alloc: Global, message: &Message, spelling: &[u8]) -> Result<bool, AllocError>
-    requires { HasSpelling message.now }
+    requires { HasWireSpelling message.now }
 {
     Ok(encode(alloc, message)?.as_slice() == spelling)
 }

@@ -5,7 +5,7 @@ ghost use Rattle.ternary.specs.Meets.{any_word};
 ghost use Rattle.policy_rules.specs.Hosted.{is_in_policy_partition};
 ghost use Rattle.policy_rules.specs.declared.packet.Leg.TheVariants.{Seek};
 ghost use Rattle.switch_table.specs.Tables.{AreSoundSwitchTables};
-ghost use Rattle.switch_core.specs.Exports.{CanSwitchLookUp, HasSwitchAdvertUpTo, IsSwitchAuthorityForLeg, SwitchStandsAtRoutePlace, own_part, serves};
+ghost use Rattle.switch_core.specs.Exports.{CanSwitchLookUp, HasSwitchAdvertUpTo, MaySwitchEndLeg, SwitchStandsAtRoutePlace, switch_own_partition, serves};
 ghost use Rattle.tunnel.specs.Moves.{next};
 
 use ctrl_msg::{Body, SharedTables};
@@ -46,7 +46,7 @@ fn authority_tables(alloc: Global, version: u32) -> Result<SharedTables, Fail>
     ensures sound { IfOk result AreSoundSwitchTables }
     ensures version { IfOk result (λ t. t.version ≡ version) }
     ensures own { IfOk result (λ t. (header : Header) →
-        IsSomeAnd (own_part t 0) (λ part. IsTrue (is_in_policy_partition header part))) }
+        IsSomeAnd (switch_own_partition t 0) (λ part. IsTrue (is_in_policy_partition header part))) }
 {
     let mut rules = Vec::new(alloc);
     rules.push(Rule {
@@ -122,7 +122,7 @@ fn authority(alloc: Global) -> Result<Switch, Fail>
     ensures seq { IfOk result (λ s. s.seq ≡ 1) }
     ensures serves { IfOk result (λ s. IsTrue (serves s)) }
     ensures stamped { IfOk result CanSwitchLookUp }
-    ensures part { IfOk result (λ s. (header : Header) → IsSwitchAuthorityForLeg s header (Seek 1 0)) }
+    ensures part { IfOk result (λ s. (header : Header) → MaySwitchEndLeg s header (Seek 1 0)) }
 {
     let tables = authority_tables(alloc, 1)?;
     Ok(Switch::begin(alloc, 1, 4, tables, chain())?)

@@ -1,10 +1,10 @@
 use Rattle.std.proofs.Common.{◌<◌, ◌^◌, ◌∙◌, ◌≡◌, ◌≢◌, IfSome, IsTrue, ap, arith, bit_and, bit_or, bit_xor, get_or, length-take, refl, subst, sym, take}
 use Rattle.std.proofs.lemmas.List.Quantifiers.{position-Some}
 use Rattle.std.proofs.lemmas.Nat.{one_shl, or_lt, xor_lt}
-use Rattle.five_tuple.specs.Exports.{number_of}
-use Rattle.policy_rules.specs.Exports.{is_held}
-use Rattle.ternary.specs.Exports.{IsWord, WordValue, exact_word, ternary_with_bit_freed, holds, is_fixed_of}
-use Rattle.cache_maker.specs.Differing.{AreWidenedBitsWithoutReason}
+use Rattle.five_tuple.specs.Exports.{header_number_of}
+use Rattle.policy_rules.specs.Exports.{is_held_by_policy_rule}
+use Rattle.ternary.specs.Exports.{IsWord, WordValue, exact_word, ternary_with_bit_freed, holds, is_word_bit_fixed}
+use Rattle.cache_maker.specs.Differing.{AreFixedBitsWithoutReason}
 use Rattle.cache_maker.specs.Independent.{IsIndependentCacheWord, widen, widening_of}
 use Rattle.cache_maker.proofs.IndependentCacheWords.{exact_independent}
 use Rattle.cache_maker.proofs.CacheWordFixedBits.{IsGiven, IsNewReason, closes_both, differs_somewhere, fixed_at_first, fixed_next, independent_at, is_new_reason, left_less, left_over, without_open, word_at_last, word_is_sound}
@@ -22,7 +22,7 @@ loop-place-init c =
     let sound = c.cache_maker_words_are_sound.ensures in
     let bound = subst (λ n. n < 2 ^ 104) same c.number-number.ensures.bound in
     let start = exact_independent c.covers_laws.ensures c.meet_laws.ensures region rules index
-    (number_of c.args.h.now) sound.region sound.rules bound c.requires.region c.requires.first_hit in
+    (header_number_of c.args.h.now) sound.region sound.rules bound c.requires.region c.requires.first_hit in
     let d = c.index-rules-index.result in
     let given : IsGiven number region rules index closed = record {
       covers = c.covers_laws.ensures;
@@ -32,7 +32,7 @@ loop-place-init c =
       bound = c.number-number.ensures.bound;
       words = sound.rules;
       start = subst (λ n. IsIndependentCacheWord region rules index (exact_word n)) (sym same) start;
-      within = (position-Some (is_held (number_of c.args.h.now)) rules index d
+      within = (position-Some (is_held_by_policy_rule (header_number_of c.args.h.now)) rules index d
           c.requires.first_hit).0;
       d = d;
       closes = closes_both region (get_or rules index d).word c.mask.result c.mask-2.result
@@ -69,7 +69,7 @@ closed_bound : (c : goal.After-without) → bit_or c.mask.result c.mask-2.result
 closed_bound c = or_lt 104 c.mask.result c.mask-2.result c.mask.ensures.bound c.mask-2.ensures.bound
 
 -- what stays of all fixed bits
-stays : (c : goal.After-without) → AreWidenedBitsWithoutReason c.loop-place.fixed c.loop-place.reasons
+stays : (c : goal.After-without) → AreFixedBitsWithoutReason c.loop-place.fixed c.loop-place.reasons
     c.ilog2-bit.result (bit_or (bit_or c.mask.result c.mask-2.result) c.without.result)
 stays c = without_open c.loop-place.invariant.are (closed_bound c) c.without.ensures
 
@@ -143,12 +143,12 @@ returns c =
     let held = widened_holds given.covers given.exact given.free number region rules index 104
     given.bound in record {
       widened = made ∙ ap (λ n. widening_of n region rules index 104) same;
-      header = subst (λ (w : WordValue). IsTrue (holds w (number_of c.args.h.now))) (sym made)
+      header = subst (λ (w : WordValue). IsTrue (holds w (header_number_of c.args.h.now))) (sym made)
           (subst (λ n. IsTrue (holds (widening_of number region rules index 104) n)) same held);
       independent = subst (λ (w : WordValue). IsIndependentCacheWord region rules index w) (sym made)
           (independent_at given 104);
       widest = λ bit within fixed is. widest given.covers given.meet given.free number region rules
-          index bit within (subst (λ (w : WordValue). IsTrue (is_fixed_of w bit)) made fixed)
+          index bit within (subst (λ (w : WordValue). IsTrue (is_word_bit_fixed w bit)) made fixed)
           (subst (λ (w : WordValue). IsIndependentCacheWord region rules index (ternary_with_bit_freed w bit)) made is);
       word = is_word;
     }

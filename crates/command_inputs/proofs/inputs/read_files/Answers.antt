@@ -1,10 +1,10 @@
 use Rattle.std.proofs.Common.{[], ◌++◌, ◌+◌, ◌==◌, ◌∙◌, ◌∷◌, ◌≡◌, ◌≤◌, All, Bool, Err, Global, IsSome, IsTrue, List, Ok, Vec, ap, arith, drop, get_or, length, length-append, subst, sym, ℕ}
 use Rattle.base.proofs.Exports.{All-push, ForSome, length-map}
-use Rattle.policy_file.specs.Exports.{policy_file_length, policy_names_only_ports}
-use Rattle.policy_rules.specs.Exports.{PolicyFileRowsAre, IsPolicyRulesOrAmendment}
+use Rattle.policy_file.specs.Exports.{policy_file_length, action_names_only_ports}
+use Rattle.policy_rules.specs.Exports.{PolicyFileRowsAre, IsSoundPolicyFile}
 use Rattle.update_machine.specs.Exports.{PolicyFile}
 use Rattle.command_line.specs.Exports.{argument_names_seen}
-use Rattle.world.specs.Exports.{first_policy}
+use Rattle.world.specs.Exports.{world_first_file_policy}
 use Rattle.command_inputs.specs.Exports.{CommandInputReadEnds, CommandStatusNamesOneOf, read_file, command_status_of}
 use Rattle.command_inputs.specs.declared.status.Stop.TheVariants as stop
 use Rattle.command_inputs.proofs.InputCalmReads.{stops_behind, stops_with}
@@ -68,7 +68,7 @@ loop-name-preserved g c =
     let before = c.loop-name.read.items in
     let file = c.in_ok-file.file in
     let pushed : c.push.new.self.items ≡ before ++ file ∷ [] = c.in_ok-push.ensures.items in
-    let HasOwn : PolicyFile → Type 0 = PolicyFileRowsAre (λ row. IsTrue (policy_names_only_ports c.args.ports row.action)) in
+    let HasOwn : PolicyFile → Type 0 = PolicyFileRowsAre (λ row. IsTrue (action_names_only_ports c.args.ports row.action)) in
     let IsShort : PolicyFile → Type 0 = λ (file : PolicyFile). policy_file_length file ≤ 2000 in
     let name = get_or (argument_names_seen names) c.loop-name.name-index [] in
     let is_first : c.is_empty.result ≡ is_none before =
@@ -90,14 +90,14 @@ loop-name-preserved g c =
         length-append before (file ∷ []),
         c.loop-name.invariant.many,
       );
-      first = λ some. subst (λ (own : List PolicyFile). IsSome (first_policy own)) (sym pushed)
+      first = λ some. subst (λ (own : List PolicyFile). IsSome (world_first_file_policy own)) (sym pushed)
           (first_behind before file c.loop-name.name-index c.is_empty.result
           c.loop-name.invariant.many is_first c.loop-name.invariant.first
           c.in_ok-file.ensures.whole);
       own_ports = subst (All HasOwn) (sym pushed) (All-push HasOwn before file
           c.loop-name.invariant.own_ports c.in_ok-file.ensures.own_ports);
-      sound = subst (All IsPolicyRulesOrAmendment) (sym pushed)
-          (All-push IsPolicyRulesOrAmendment before file c.loop-name.invariant.sound c.in_ok-file.ensures.sound);
+      sound = subst (All IsSoundPolicyFile) (sym pushed)
+          (All-push IsSoundPolicyFile before file c.loop-name.invariant.sound c.in_ok-file.ensures.sound);
       few = subst (All IsShort) (sym pushed)
           (All-push IsShort before file c.loop-name.invariant.few c.in_ok-file.ensures.few);
       calm = c.in_ok-file.ensures.shelf.calm ∙ c.loop-name.invariant.calm;

@@ -3,7 +3,7 @@ use Rattle.base.proofs.Exports.{ForSome, common_steps, length-map}
 use Rattle.std.proofs.Common.{[], ◌+◌, ◌∙◌, ◌∷◌, ◌≡◌, Some, ap, arith, option_to_list, refl}
 use Rattle.shelf.specs.Exports.{IsShelfAfterReads}
 use Rattle.command_line.specs.Exports.{Replay, replay_arguments_named}
-use Rattle.command_inputs.specs.Exports.{command_replay_inputs, command_most_reads, command_net_reads}
+use Rattle.command_inputs.specs.Exports.{command_replay_inputs, command_input_most_reads, command_input_net_reads}
 use Rattle.command_inputs.proofs.InputBegunNetwork.{all_are_events, as_many, asked_for, ends_in_check, few_named, inputs_are, inputs_then, plan_accounts, planned_inputs}
 use Rattle.command_inputs.proofs.InputCalmReads.{stops_behind, stops_with}
 use Rattle.command_inputs.proofs.InputRefusedNames.{among_behind, among_front, among_last, first_check}
@@ -18,7 +18,7 @@ returns-in_err-net-clause-shelf g c =
     let net = c.in_err-net.ensures.shelf in
     stops_with (option_to_list args.net) _ _ _ _ c.in_err-net.field-0.0 c.from_residual.result
     c.from_residual.ensures.1 (among_front (option_to_list args.net) (args.schedule ∷ args.policies))
-    (fewer_reads (command_net_reads args.net) _ _ _ (net_read _ args) net.after) net.calm net.stops
+    (fewer_reads (command_input_net_reads args.net) _ _ _ (net_read _ args) net.after) net.calm net.stops
 
 pub returns-in_err-events-clause-shelf : goal.returns-in_err-events-clause-shelf
 returns-in_err-events-clause-shelf g c =
@@ -29,7 +29,7 @@ returns-in_err-events-clause-shelf g c =
     stops_behind (args.schedule ∷ []) _ _ _ _ _ c.in_err-events.field-0.0
     c.from_residual-in_err-events.result c.from_residual-in_err-events.ensures.1
     (among_behind (option_to_list args.net) args.schedule args.policies)
-    (reads_then (command_net_reads args.net) 1 _ _ _ _ most net.after events.after)
+    (reads_then (command_input_net_reads args.net) 1 _ _ _ _ most net.after events.after)
     net.after net.calm events.after events.calm events.stops
 
 pub returns-in_err-files-clause-shelf : goal.returns-in_err-files-clause-shelf
@@ -44,12 +44,12 @@ returns-in_err-files-clause-shelf g c =
     (all_reads args c.in_ok-net.net c.in_ok-events.events.items _ _ _ _ _ _
     (as_many _ _ c.deref-names.ensures.value) c.port_mask.ensures c.in_ok-net.ensures.read
     c.in_ok-events.ensures.read net.after events.after files.after)
-    (reads_then (command_net_reads args.net) 1 (command_net_reads args.net + 1) _ _ _ (omega arith) net.after
+    (reads_then (command_input_net_reads args.net) 1 (command_input_net_reads args.net + 1) _ _ _ (omega arith) net.after
     events.after) (events.calm ∙ net.calm) files.after files.calm files.stops
 
 -- the network, the schedule and the policies are all that is read
 policies_read : (g : Over) (c : In_ok-files g)
-    → IsShelfAfterReads (command_most_reads (g.F.Shelf.state c.args.shelf.now).files
+    → IsShelfAfterReads (command_input_most_reads (g.F.Shelf.state c.args.shelf.now).files
     (Some (Replay (replay_arguments_named c.args.args.now))))
     (g.F.Shelf.state c.args.shelf.now) (g.F.Shelf.state c.read_files.new.shelf)
 policies_read g c = all_reads (replay_arguments_named c.args.args.now) c.in_ok-net.net

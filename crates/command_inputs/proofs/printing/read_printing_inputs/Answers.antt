@@ -1,6 +1,6 @@
 use Rattle.std.proofs.Common.{[], ◌∙◌, ◌∷◌, option_to_list}
 use Rattle.command_line.specs.Exports.{print_arguments_named}
-use Rattle.command_inputs.specs.Exports.{command_net_reads}
+use Rattle.command_inputs.specs.Exports.{command_input_net_reads}
 use Rattle.command_inputs.proofs.InputCalmReads.{stops_behind, stops_with}
 use Rattle.command_inputs.proofs.InputRefusedNames.{among_behind, among_front, among_last}
 use Rattle.command_inputs.proofs.InputShelfReads.{both_reads, fewer_reads, net_asked_read}
@@ -13,7 +13,7 @@ returns-in_err-net-clause-shelf g c =
     stops_with (option_to_list args.net) _ _ _ _ c.in_err-net.field-0.0 c.from_residual.result
     c.from_residual.ensures.1
     (among_front (option_to_list args.net) (args.policy ∷ option_to_list args.switch))
-    (fewer_reads (command_net_reads args.net) _ _ _ (net_asked_read _ args) net.after) net.calm net.stops
+    (fewer_reads (command_input_net_reads args.net) _ _ _ (net_asked_read _ args) net.after) net.calm net.stops
 
 pub returns-in_err-switch-clause-shelf : goal.returns-in_err-switch-clause-shelf
 returns-in_err-switch-clause-shelf g c =
@@ -22,7 +22,7 @@ returns-in_err-switch-clause-shelf g c =
     stops_with (option_to_list args.switch) _ _ _ _ c.in_err-switch.field-0.0
     c.from_residual-in_err-switch.result c.from_residual-in_err-switch.ensures.1
     (among_last (option_to_list args.net) args.policy (option_to_list args.switch))
-    (fewer_reads (command_net_reads args.net) _ _ _ (net_asked_read _ args) net.after)
+    (fewer_reads (command_input_net_reads args.net) _ _ _ (net_asked_read _ args) net.after)
     (λ may. net.calm) c.in_err-switch.ensures.stops
 
 pub returns-in_err-policy-clause-shelf : goal.returns-in_err-policy-clause-shelf

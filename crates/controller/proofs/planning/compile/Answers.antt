@@ -1,7 +1,7 @@
 use Rattle.std.proofs.Common.{◌∙◌, ap}
 use Rattle.base.proofs.Exports.{err_from_is_err_and}
-use Rattle.cut_tree.specs.Exports.{shape_of}
-use Rattle.partition.specs.Plan.{sizes_of}
+use Rattle.cut_tree.specs.Exports.{cut_tree_shape_of}
+use Rattle.partition.specs.Plan.{partition_sizes_of}
 use Rattle.controller.proofs.ControllerCompiledPlans.{IsReady, placement_refused, plan_leads, plan_sound, planned_at, rules_refused, tree_refused}
 use Rattle.controller.proofs.planning.compile.Goals as goal
 use Rattle.controller.proofs.planning.compile.Goals.{After-place}
@@ -23,14 +23,14 @@ returns-in_err-tree-clause-refused c =
 
 -- what is ready when targets are chosen
 ready_to_host : (c : After-place) → IsReady c.args.policy.now c.args.net.now c.deref.result.now
-    (shape_of c.in_ok-tree.tree) c.deref-3.result.now c.deref-4.result.now
+    (cut_tree_shape_of c.in_ok-tree.tree) c.deref-3.result.now c.deref-4.result.now
 ready_to_host c = record {
   few = c.in_ok-rules.ensures.few;
   rules = c.deref.ensures.value ∙ c.in_ok-rules.ensures.rules;
   tree = c.in_ok-tree.ensures.tree;
   leaves = c.in_ok-tree.ensures.few;
   sizes_are = c.deref-3.ensures.value ∙ c.in_ok-sizes.ensures
-      ∙ ap sizes_of (c.deref-2.ensures.value ∙ c.in_ok-parts.ensures.parts);
+      ∙ ap partition_sizes_of (c.deref-2.ensures.value ∙ c.in_ok-parts.ensures.parts);
   rooms_are = c.deref-4.ensures.value ∙ c.in_ok-rooms.ensures;
 }
 

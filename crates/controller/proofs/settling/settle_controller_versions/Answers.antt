@@ -1,7 +1,7 @@
 use Rattle.std.proofs.Common.{[], ◌++◌, ◌∙◌, ◌∷◌, ◌≡◌, List, ap, length, refl, sym, ℕ}
 use Rattle.ctrl_msg.specs.declared.message.Body.{Body}
 use Rattle.ctrl_msg.specs.declared.message.Body.TheVariants.{Stamp, Collect}
-use Rattle.version_update.specs.Exports.{MarksValue, Settles}
+use Rattle.version_update.specs.Exports.{MarksValue, SettlesVersionMarks}
 use Rattle.ternary.specs.Exports.{WordValue}
 use Rattle.controller.specs.Exports.{controller_kept_plan_touched, controller_posts_to, controller_mark_rising_acts, controller_stamp_acts, controller_switches_in_mask}
 use Rattle.controller.specs.declared.sends.Act.TheVariants.{Current, Retired}
@@ -14,7 +14,7 @@ abbrev touched : After-send_to_switches → List WordValue
 touched c = controller_kept_plan_touched c.drop_old_plans.new.versions.items c.args.marks.now.current
 
 stamps_told : (c : After-send_to_switches) (before : MarksValue)
-    → Settles before c.args.marks.now c.args.settled.now → c.match-settled.acts.items
+    → SettlesVersionMarks before c.args.marks.now c.args.settled.now → c.match-settled.acts.items
     ≡ c.args.acts.now.items ++ controller_stamp_acts (touched c) before c.args.marks.now
 stamps_told c before is =
     let after = c.args.marks.now in

@@ -1,5 +1,5 @@
 use Rattle.std.proofs.Common.{◌++◌, ◌∙◌, ◌≡◌, List, Option, Some, ap, arith, sym}
-use Rattle.ternary.specs.Exports.{WordValue, word_fix_of, meet_of}
+use Rattle.ternary.specs.Exports.{WordValue, word_fix_of, word_meet_of}
 use Rattle.policy_rules.specs.declared.rules.Rule.{Rule}
 use Rattle.cut_tree.proofs.CutHalves.{lies_at}
 use Rattle.cut_tree.proofs.CutNarrowing.{keeps_all, keeps_last, keeps_next, narrow_past}
@@ -17,7 +17,7 @@ loop-rule-preserved-in_default c =
 
 -- the next rule meets the half
 meets_half : (c : After-mask-in-loop-rule) → ◌≡◌ {A = Option WordValue}
-    (meet_of c.rule-item.result.word (word_fix_of c.args.region.now c.args.bit c.args.one))
+    (word_meet_of c.rule-item.result.word (word_fix_of c.args.region.now c.args.bit c.args.one))
     (Some c.in-Some.word)
 meets_half c =
     let region = c.args.region.now in

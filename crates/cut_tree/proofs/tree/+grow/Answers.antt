@@ -1,6 +1,6 @@
 use Rattle.std.proofs.Common.{◌+◌, ◌∙◌, ◌≡◌, ap, arith, false, sym, true, ℕ}
 use Rattle.base.proofs.Exports.{err_from_is_err_and}
-use Rattle.cut_tree.specs.Exports.{Node, leaf_count, cut_tree_at}
+use Rattle.cut_tree.specs.Exports.{Node, cut_leaf_count, cut_tree_at}
 use Rattle.cut_tree.proofs.CutTreeLemmas.{tree_leaf, cut_at, defined_at, half_smaller, exceeds_low, exceeds_high}
 use Rattle.cut_tree.proofs.tree.+grow.Goals as goal
 use Rattle.cut_tree.proofs.tree.+grow.Goals.{After-grow}
@@ -51,7 +51,7 @@ returns-in_err-high-2-clause-refused t c =
     let p = err_from_is_err_and c.from_residual-in_err-high-2.result
     c.from_residual-in_err-high-2.ensures.1 in
     rw (p.1, p.2) (exceeds_high _ _ _ _ _ _ _ is
-    (c.in_ok-low-2.ensures.room ∙ ap (λ s. c.grow.new.room + leaf_count s)
+    (c.in_ok-low-2.ensures.room ∙ ap (λ s. c.grow.new.room + cut_leaf_count s)
     c.in_ok-low-2.ensures.tree) c.in_err-high-2.ensures.refused)
 
 pub returns-clause-tree : goal.returns-clause-tree

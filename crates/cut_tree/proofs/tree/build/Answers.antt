@@ -1,4 +1,4 @@
-use Rattle.cut_tree.specs.Exports.{tree_of}
+use Rattle.cut_tree.specs.Exports.{cut_tree_of}
 use Rattle.cut_tree.proofs.CutTreeLemmas.{root_node}
 use Rattle.cut_tree.proofs.tree.build.Goals as goal
 
@@ -9,11 +9,11 @@ invariant_of-root c = rw (c.in_ok-from_slice.ensures.items, c.any.ensures.pair) 
 })
 
 pub returns-clause-tree : goal.returns-clause-tree
-unfolding tree_of
+unfolding cut_tree_of
 returns-clause-tree c = rw (c.in_ok-from_slice.ensures.items, c.any.ensures.pair) at
     c.grow.ensures.tree
 
 pub returns-clause-refused : goal.returns-clause-refused
-unfolding tree_of
+unfolding cut_tree_of
 returns-clause-refused c = rw (c.in_ok-from_slice.ensures.items, c.any.ensures.pair) at
     c.grow.ensures.refused

@@ -1,8 +1,8 @@
 use Rattle.std.proofs.Common.{◌++◌, ◌∙◌, List, ap, map, subst, ℕ}
 use Rattle.base.proofs.Exports.{err_from_is_err_and}
 use Rattle.journal_text.specs.Lines.{journal_text}
-use Rattle.shelf.specs.Exports.{IsAfterWrite}
-use Rattle.difane_cli.specs.Exports.{command_last_lines}
+use Rattle.shelf.specs.Exports.{IsSinkAfterWrite}
+use Rattle.difane_cli.specs.Exports.{program_last_lines}
 use Rattle.difane_cli.proofs.ProgramMeterLines.{cut_short, none_left, none_right, none_of_text, text_whole}
 use Rattle.shelf.proofs.SinkGains.{both_written}
 use Rattle.difane_cli.proofs.playing.write_played.Goals as goal
@@ -11,14 +11,14 @@ pub returns-in-None-clause-after : goal.returns-in-None-clause-after
 returns-in-None-clause-after g c =
     let net = c.args.net.now in
     let journal = c.args.played.now.journal in
-    let lines = command_last_lines (map g.M.Meter.seen c.deref.result.now) c.args.answer in
+    let lines = program_last_lines (map g.M.Meter.seen c.deref.result.now) c.args.answer in
     let before = g.K.Sink.state c.args.out.now in
     let middle = g.K.Sink.state c.write_text.new.sink in
     let now = g.K.Sink.state c.write_program_last_lines.new.out in
     subst (λ (bytes : List ℕ).
-    IsAfterWrite bytes g.K.Sink.takes_memory before now c.write_program_last_lines.result)
+    IsSinkAfterWrite bytes g.K.Sink.takes_memory before now c.write_program_last_lines.result)
     (ap (λ (meters : List g.row.M.Denot). journal_text net journal
-    ++ command_last_lines (map g.M.Meter.seen meters) c.args.answer) c.deref.ensures.value
+    ++ program_last_lines (map g.M.Meter.seen meters) c.args.answer) c.deref.ensures.value
     ∙ text_whole net journal c.args.played.now.full _ c.args.answer c.in-None.is)
     (both_written before middle now (journal_text net journal) lines g.K.Sink.takes_memory
     c.write_program_last_lines.result c.in_ok-write_text.ensures.after.whole
@@ -27,9 +27,9 @@ returns-in-None-clause-after g c =
 pub returns-in-None-clause-no_lines : goal.returns-in-None-clause-no_lines
 returns-in-None-clause-no_lines g c = λ none. let net = c.args.net.now in
     let journal = c.args.played.now.journal in
-    let lines = command_last_lines (map g.M.Meter.seen c.deref.result.now) c.args.answer in
+    let lines = program_last_lines (map g.M.Meter.seen c.deref.result.now) c.args.answer in
     let both = ap (λ (meters : List g.row.M.Denot). journal_text net journal
-    ++ command_last_lines (map g.M.Meter.seen meters) c.args.answer) c.deref.ensures.value
+    ++ program_last_lines (map g.M.Meter.seen meters) c.args.answer) c.deref.ensures.value
     ∙ text_whole net journal c.args.played.now.full _ c.args.answer c.in-None.is ∙ none in
     c.write_program_last_lines.ensures.no_lines (none_right (journal_text net journal) lines both)
     ∙ c.in_ok-write_text.ensures.no_text (none_left (journal_text net journal) lines both)

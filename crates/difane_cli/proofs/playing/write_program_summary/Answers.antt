@@ -1,6 +1,6 @@
 use Rattle.std.proofs.Common.{◌∙◌, List, ap, subst, true, ℕ}
 use Rattle.journal_reports.specs.Exports.{summary_text}
-use Rattle.difane_cli.specs.Exports.{IsAfterCommandText}
+use Rattle.difane_cli.specs.Exports.{IsAfterProgramText}
 use Rattle.difane_cli.proofs.ProgramAfterTexts.{text_written}
 use Rattle.difane_cli.proofs.playing.write_program_summary.Goals as goal
 
@@ -11,7 +11,7 @@ returns-in-Ok g c =
     let is = c.deref.ensures.value ∙ c.in-Ok.ensures
     ∙ ap (λ s. summary_text s) c.summarize.ensures in
     rw c.in-None.is
-    (subst (λ (text : List ℕ). IsAfterCommandText text true g.K.Sink.takes_memory before now
+    (subst (λ (text : List ℕ). IsAfterProgramText text true g.K.Sink.takes_memory before now
     c.write_whole.result) is (text_written c.deref.result.now true g.K.Sink.takes_memory before now
     c.write_whole.result c.write_whole.ensures.after
     (λ none. ap (λ k. g.K.Sink.state k) (c.write_whole.ensures.no_bytes none).1)))

@@ -2,7 +2,7 @@ use Rattle.std.proofs.Common.{◌∙◌, List, inl, subst, ℕ}
 use Rattle.command_inputs.specs.Exports.{print_inputs_stated}
 use Rattle.difane_cli.specs.Exports.{IsAfterProgramOutput}
 use Rattle.difane_cli.proofs.ProgramPrintedTexts.{printed}
-use Rattle.difane_cli.proofs.ProgramStatus.{output_ends, output_memory}
+use Rattle.difane_cli.proofs.ProgramStatus.{output_ends, output_memory, output_statuses}
 use Rattle.difane_cli.proofs.printing.print.Goals as goal
 
 pub returns-in-Ok-clause-outcome : goal.returns-in-Ok-clause-outcome
@@ -18,3 +18,6 @@ returns-in-Ok-clause-no_memory g c = λ is. inl (output_memory c.write_output.en
 
 pub returns-in-Ok-clause-ended : goal.returns-in-Ok-clause-ended
 returns-in-Ok-clause-ended g c = output_ends c.write_output.ensures
+
+pub returns-in-Ok-clause-statuses : goal.returns-in-Ok-clause-statuses
+returns-in-Ok-clause-statuses g c = output_statuses c.write_output.ensures

@@ -1,12 +1,12 @@
 -- The plan that a play leaves is the one whose placement is proposed.
 use Rattle.std.proofs.Common.{◌∙◌, ◌≡◌, List, Ok, Option, Some, ap, subst, sym}
 use Rattle.base.proofs.Exports.{ForSome}
-use Rattle.shelf.specs.Exports.{Files}
+use Rattle.shelf.specs.Exports.{ShelfFiles}
 use Rattle.command_line.specs.Exports.{ReplayArguments}
 use Rattle.update_machine.specs.Exports.{Event, IsMachinePlay, Net}
 use Rattle.command_line.specs.Commands as grammar
 use Rattle.partition.specs.Plan.{IsPartitionPlan}
-use Rattle.difane_cli.specs.Exports.{CommandProposalOutcome, IsAfterCommandProposing, IsCommandAnswer}
+use Rattle.difane_cli.specs.Exports.{ProgramProposalOutcome, IsAfterProgramProposing, IsProgramAnswer}
 use Rattle.command_inputs.specs.Exports.{AreCommandPlayInputs, Play, command_status_after, known_command_input_task, task_inputs_stated}
 use Rattle.difane_cli.proofs.ProgramPlayOutcomes.{played}
 use Rattle.difane_cli.proofs.ProposalOutcomes.{out_of_proposing, proposing_ends, whole_told}
@@ -20,11 +20,11 @@ write_program_proposal-requires-clause-plan g c = let plan = c.in-Ok.played.plan
     c.in-Ok.ensures.plan.parts
 
 -- what the proposal comes to, by what became of its text
-outcome_of : (g : Over) (c : After-write_program_proposal g) (command : ReplayArguments) (files : Option Files)
+outcome_of : (g : Over) (c : After-write_program_proposal g) (command : ReplayArguments) (files : Option ShelfFiles)
     → AreCommandPlayInputs (grammar.Replay command) (task_inputs_stated c.args.inputs)
     → ForSome (known_command_input_task files (Some (grammar.Replay command)))
     (λ read. read ≡ Ok (Play (task_inputs_stated c.args.inputs)))
-    → CommandProposalOutcome (IsCommandAnswer (grammar.Replay command) files) g.K.Sink.takes_memory
+    → ProgramProposalOutcome (IsProgramAnswer (grammar.Replay command) files) g.K.Sink.takes_memory
     (command_status_after c.write_program_proposal.result c.in-Ok.played.full) c.in-Ok.played.journal
     (g.K.Sink.state c.args.out.now) (g.K.Sink.state c.write_program_proposal.new.out)
 outcome_of g c command files own read = let inputs = task_inputs_stated c.args.inputs in
@@ -39,7 +39,7 @@ outcome_of g c command files own read = let inputs = task_inputs_stated c.args.i
     c.deref.ensures.value c.in-Ok.ensures.play in
     let answer = played c.program_answer_laws.ensures (grammar.Replay command) files inputs journal full own
     read c.requires.sound play c.in-Ok.ensures.held in
-    let after = subst (λ (net : Net). IsAfterCommandProposing full plan.policy plan.hosted net journal
+    let after = subst (λ (net : Net). IsAfterProgramProposing full plan.policy plan.hosted net journal
     takes_memory before now written) (sym c.requires.net) c.write_program_proposal.ensures in
     whole_told command files inputs journal full plan takes_memory before now written answer
     c.in-Ok.ensures.plan after
@@ -47,7 +47,7 @@ outcome_of g c command files own read = let inputs = task_inputs_stated c.args.i
 pub returns-clause-outcome : goal.returns-clause-outcome
 returns-clause-outcome g c = λ command files own read. let ended : c.match-write_program_proposal.status
     ≡ command_status_after c.write_program_proposal.result c.in-Ok.played.full = elim c.match-write_program_proposal.branch [
-      | in-Ok-write_program_proposal w ↦ w.status-is ∙ w.after-status.ensures
+      | in-Ok-write_program_proposal w ↦ w.status-is ∙ w.written-status.ensures
           ∙ ap (λ result. command_status_after result c.in-Ok.played.full) (sym w.in-Ok-write_program_proposal.is)
       | in-Err-write_program_proposal w ↦ w.status-is ∙ w.from-status.ensures
           ∙ ap (λ result. command_status_after result c.in-Ok.played.full) (sym w.in-Err-write_program_proposal.is)
@@ -57,7 +57,7 @@ returns-clause-outcome g c = λ command files own read. let ended : c.match-writ
 pub returns-clause-no_memory : goal.returns-clause-no_memory
 returns-clause-no_memory g c = λ is. let ended : c.match-write_program_proposal.status
     ≡ command_status_after c.write_program_proposal.result c.in-Ok.played.full = elim c.match-write_program_proposal.branch [
-      | in-Ok-write_program_proposal w ↦ w.status-is ∙ w.after-status.ensures
+      | in-Ok-write_program_proposal w ↦ w.status-is ∙ w.written-status.ensures
           ∙ ap (λ result. command_status_after result c.in-Ok.played.full) (sym w.in-Ok-write_program_proposal.is)
       | in-Err-write_program_proposal w ↦ w.status-is ∙ w.from-status.ensures
           ∙ ap (λ result. command_status_after result c.in-Ok.played.full) (sym w.in-Err-write_program_proposal.is)
@@ -68,7 +68,7 @@ returns-clause-no_memory g c = λ is. let ended : c.match-write_program_proposal
 pub returns-clause-ended : goal.returns-clause-ended
 returns-clause-ended g c = let ended : c.match-write_program_proposal.status
     ≡ command_status_after c.write_program_proposal.result c.in-Ok.played.full = elim c.match-write_program_proposal.branch [
-      | in-Ok-write_program_proposal w ↦ w.status-is ∙ w.after-status.ensures
+      | in-Ok-write_program_proposal w ↦ w.status-is ∙ w.written-status.ensures
           ∙ ap (λ result. command_status_after result c.in-Ok.played.full) (sym w.in-Ok-write_program_proposal.is)
       | in-Err-write_program_proposal w ↦ w.status-is ∙ w.from-status.ensures
           ∙ ap (λ result. command_status_after result c.in-Ok.played.full) (sym w.in-Err-write_program_proposal.is)

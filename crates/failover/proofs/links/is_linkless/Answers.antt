@@ -1,5 +1,5 @@
 use Rattle.std.proofs.Common.{◌==◌, ◌∙◌, ap}
-use Rattle.failover.specs.Exports.{is_route_link, route_links_at}
+use Rattle.failover.specs.Exports.{is_known_route_link, route_links_at}
 use Rattle.base.proofs.Exports.{mask_of_lt}
 use Rattle.failover.proofs.FailoverKnownLinks.{no_row_past}
 use Rattle.failover.proofs.RouteRowLoop.{and_all}
@@ -11,4 +11,4 @@ returns-then-one-ge-MAX_SWITCHES c = no_row_past _ _ _ c.told-neighbours c.if-on
 pub returns-else-one-ge-MAX_SWITCHES : goal.returns-else-one-ge-MAX_SWITCHES
 returns-else-one-ge-MAX_SWITCHES c = ap (λ row. row == 0) (c.links_within.ensures
     ∙ and_all (route_links_at c.args.neighbours.now c.args.down.now c.args.one)
-    (mask_of_lt (is_route_link c.args.neighbours.now c.args.down.now c.args.one)))
+    (mask_of_lt (is_known_route_link c.args.neighbours.now c.args.down.now c.args.one)))

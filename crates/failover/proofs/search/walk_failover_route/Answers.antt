@@ -1,5 +1,5 @@
 use Rattle.std.proofs.Common.{◌++◌, ◌+◌, ◌-◌, ◌∙◌, ◌∷◌, ◌≡◌, List, ap, arith, bit_and, get_or, length, replicate, sym, take, ℕ}
-use Rattle.failover.specs.Exports.{least_neighbour_in, advertised_links_of_each, path_by_balls}
+use Rattle.failover.specs.Exports.{least_route_neighbour_in, advertised_links_of_each, route_path_by_balls}
 use Rattle.base.specs.Exports.{least_in_number_set}
 use Rattle.failover.proofs.FailoverKnownLinks.{row_of}
 use Rattle.failover.proofs.RouteWriting.{length-along, left_at, below_in, along-next, written_more, written_route}
@@ -22,10 +22,10 @@ pub bounds-switches-step : goal.bounds-switches-step
 bounds-switches-step c = omega (arith, length-along, c.requires.few)
 
 pub loop-step-preserved : goal.loop-step-preserved
-unfolding least_neighbour_in least_in_number_set
+unfolding least_route_neighbour_in least_in_number_set
 loop-step-preserved c =
     let links = advertised_links_of_each c.args.neighbours.now c.args.down.now in
-    let route = c.args.from ∷ path_by_balls links c.args.balls.now c.args.distance c.args.from in
+    let route = c.args.from ∷ route_path_by_balls links c.args.balls.now c.args.distance c.args.from in
     let long = length-along links c.args.balls.now c.args.distance c.args.from in
     let fits = below_in _ c.loop-step.step _ _ c.requires c.loop-step.invariant.left in
     let here = left_at route c.loop-step.step _ _ c.loop-step.invariant.left in
@@ -37,9 +37,9 @@ loop-step-preserved c =
     let there = left_at route (c.loop-step.step + 1) _ _ next in record {
       written = written_more route c.loop-step.switches c.loop-step.step _ c.requires.few there.0
           (nearest ∙ sym there.1) c.loop-step.invariant.written;
-      left = next ∙ ap (λ (m : ℕ). least_neighbour_in links ball c.loop-step.at
-          ∷ path_by_balls links c.args.balls.now m (least_neighbour_in links ball c.loop-step.at))
-          (omega arith) ∙ ap (λ (x : ℕ). x ∷ path_by_balls links c.args.balls.now
+      left = next ∙ ap (λ (m : ℕ). least_route_neighbour_in links ball c.loop-step.at
+          ∷ route_path_by_balls links c.args.balls.now m (least_route_neighbour_in links ball c.loop-step.at))
+          (omega arith) ∙ ap (λ (x : ℕ). x ∷ route_path_by_balls links c.args.balls.now
           (c.args.distance - (c.loop-step.step + 1)) x) (sym nearest);
     }
 
@@ -52,14 +52,14 @@ whole_of route switches distance step long last written = written_route route sw
 pub new-requires-clause-list : goal.new-requires-clause-list
 new-requires-clause-list c =
     let long = length-along (advertised_links_of_each c.args.neighbours.now c.args.down.now) c.args.balls.now c.args.distance c.args.from in
-    rw (whole_of (c.args.from ∷ path_by_balls (advertised_links_of_each c.args.neighbours.now c.args.down.now)
+    rw (whole_of (c.args.from ∷ route_path_by_balls (advertised_links_of_each c.args.neighbours.now c.args.down.now)
     c.args.balls.now c.args.distance c.args.from) c.loop-step.switches c.args.distance
     c.loop-step.step (omega arith) (omega arith) c.loop-step.invariant.written) c.requires
 
 pub returns : goal.returns
 returns c =
     let long = length-along (advertised_links_of_each c.args.neighbours.now c.args.down.now) c.args.balls.now c.args.distance c.args.from in
-    c.new.ensures ∙ whole_of (c.args.from ∷ path_by_balls
+    c.new.ensures ∙ whole_of (c.args.from ∷ route_path_by_balls
     (advertised_links_of_each c.args.neighbours.now c.args.down.now) c.args.balls.now c.args.distance
     c.args.from) c.loop-step.switches c.args.distance c.loop-step.step (omega arith)
     (omega arith) c.loop-step.invariant.written

@@ -1,7 +1,7 @@
 use Rattle.std.proofs.Common.{◌<◌, ◌^◌, ◌∙◌, ap, arith, bit_and, bit_xor, subst, sym, w64, ℕ}
 use Rattle.base.proofs.Exports.{bit_not, least_lt, mask_of_lt}
 use Rattle.base.specs.Exports.{least_in_number_set}
-use Rattle.failover.specs.Exports.{is_route_link, advertised_links_of_each}
+use Rattle.failover.specs.Exports.{is_known_route_link, advertised_links_of_each}
 use Rattle.failover.proofs.RouteRowLoop.{fewer_left, first_left, or_others}
 use Rattle.failover.proofs.FailoverKnownLinks.{length-link_rows, row_of, row_turned}
 use Rattle.failover.proofs.RouteWiderLoop.{IsWideSoFar, wide_begins, wide_ends, wide_goes_on}
@@ -20,7 +20,7 @@ loop-rest-preserved c =
     let at = least_in_number_set c.loop-rest.rest in
     let fits = least_lt c.loop-rest.rest (omega arith) c.loop-rest.invariant.rest_fits in
     let here = row_of neighbours down at fits in
-    let row_fits = subst (λ (m : ℕ). m < 2 ^ 64) (sym here) (mask_of_lt (is_route_link neighbours down at)) in
+    let row_fits = subst (λ (m : ℕ). m < 2 ^ 64) (sym here) (mask_of_lt (is_known_route_link neighbours down at)) in
     subst (λ (m : ℕ). IsWideSoFar (advertised_links_of_each neighbours down) c.args.ball m
     (bit_xor c.loop-rest.rest c.only_if-rest.result))
     (sym (or_others c.loop-rest.wide _ c.links_within-wide.result c.loop-rest.invariant.wide_fits

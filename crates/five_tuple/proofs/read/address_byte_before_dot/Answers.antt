@@ -22,8 +22,8 @@ returns-then-not-is_ascii_digit c = simp take_rest (byte_before c.args.text.now 
     c.loop-place.number (omega arith) c.loop-place.invariant.digits (search rules) (search rules)
     c.loop-place.invariant.value c.loop-place.invariant.small)
 
-pub returns-then-not-are_tuple_field_digits : goal.returns-then-not-are_tuple_field_digits
-returns-then-not-are_tuple_field_digits c = lacks_plain c.args.text.now c.loop-place.place (omega arith)
+pub returns-then-not-is_unpadded_tuple_field : goal.returns-then-not-is_unpadded_tuple_field
+returns-then-not-is_unpadded_tuple_field c = lacks_plain c.args.text.now c.loop-place.place (omega arith)
     c.loop-place.invariant.digits (search rules) (search rules)
 
 pub returns-then-byte-ne46 : goal.returns-then-byte-ne46

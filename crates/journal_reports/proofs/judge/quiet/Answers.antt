@@ -1,7 +1,7 @@
 use Rattle.std.proofs.Common.{[], ◌-◌, ◌∙◌, ◌≡◌, Bool, List, ap, arith, drop, length, not, subst, sym, true≢false, ℕ}
 use Rattle.std.specs.List.{list_all}
-use Rattle.update_machine.specs.Exports.{IsQuietMachineJournal, Net, SwitchRow, was_delivered}
-use Rattle.journal_reports.specs.Exports.{report_has_mark, is_missed}
+use Rattle.update_machine.specs.Exports.{IsQuietMachineJournal, Net, SwitchRow, was_delivered_in_journal}
+use Rattle.journal_reports.specs.Exports.{report_has_mark, is_missed_in_report}
 use Rattle.journal_reports.specs.declared.traffic.Traffic.{Traffic}
 use Rattle.journal_reports.proofs.QuietReportJudge.{marks_at_end, marks_before, missed_answer, read_next, received_at_end, received_before, rows_at_end, rows_before, switches_found, waiting_answer}
 use Rattle.journal_reports.proofs.judge.quiet.Goals as goal
@@ -12,7 +12,7 @@ returns-then-not-report_misses_no_switch c = λ setting net. let rows = c.in_ok-
     ∙ sym (ap (λ (rows : List SwitchRow). length rows) c.items.ensures)
     ∙ sym c.in_ok-rows.ensures.count in
     let some = sym (c.report_misses_no_switch.ensures ∙ ap (λ (rows : List Traffic). list_all
-    (λ row. not (is_missed row.status)) rows) c.deref.ensures.value)
+    (λ row. not (is_missed_in_report row.status)) rows) c.deref.ensures.value)
     ∙ c.if-not-report_misses_no_switch.true in (
       λ answer. absurd (true≢false (sym answer)),
       λ quiet. absurd (missed_answer setting c.args.journal.now rows
@@ -24,7 +24,7 @@ loop-place-init c =
     let items = c.items-items.result.now in
     let rows = c.in_ok-rows.rows.items in
     let none = sym (c.report_misses_no_switch.ensures ∙ ap (λ (rows : List Traffic). list_all
-    (λ row. not (is_missed row.status)) rows) c.deref.ensures.value)
+    (λ row. not (is_missed_in_report row.status)) rows) c.deref.ensures.value)
     ∙ c.if-not-report_misses_no_switch.false in record {
       within = omega arith;
       marks = λ n. marks_at_end items (length items) n c.new-delivered.result.items (omega arith)
@@ -43,7 +43,7 @@ returns-then-not-branch c = λ setting net. let items = c.items-items.result.now
     let next = c.index-items-place.result in
     let rows = c.loop-place.rows.items in
     let marks = c.deref-in-loop-place.result.now in
-    let right : (n : ℕ) → report_has_mark marks n ≡ was_delivered (drop place items) n = λ n.
+    let right : (n : ℕ) → report_has_mark marks n ≡ was_delivered_in_journal (drop place items) n = λ n.
     ap (λ (marks : List Bool). report_has_mark marks n) c.deref-in-loop-place.ensures.value
     ∙ marks_before items place from n next c.loop-place.delivered.items
     c.mark_delivery_for_report.new.marks.items (omega arith) (omega arith) c.index-items-place.is
@@ -72,10 +72,10 @@ loop-place-preserved c =
     let now = c.take_report_item.new.rows.items in
     let marks = c.deref-in-loop-place.result.now in
     let own : (n : ℕ) → report_has_mark c.mark_delivery_for_report.new.marks.items n
-    ≡ was_delivered (drop place items) n = λ n. marks_before items place from n next
+    ≡ was_delivered_in_journal (drop place items) n = λ n. marks_before items place from n next
     c.loop-place.delivered.items c.mark_delivery_for_report.new.marks.items (omega arith) (omega arith)
     c.index-items-place.is (c.loop-place.invariant.marks n) (c.in_ok-mark_delivery_for_report.ensures n) in
-    let right : (n : ℕ) → report_has_mark marks n ≡ was_delivered (drop place items) n = λ n.
+    let right : (n : ℕ) → report_has_mark marks n ≡ was_delivered_in_journal (drop place items) n = λ n.
     ap (λ (marks : List Bool). report_has_mark marks n) c.deref-in-loop-place.ensures.value ∙ own n in
     let read = read_next items place from next marks rows now c.in_ok-take_report_item.field-0 (omega arith)
     (omega arith) c.index-items-place.is right c.loop-place.invariant.rows

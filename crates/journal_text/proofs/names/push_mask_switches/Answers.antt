@@ -1,7 +1,7 @@
 use Rattle.std.proofs.Common.{◌++◌, ◌^◌, ◌∙◌, List, ap, arith, bit_xor, codes, filter, refl, sym, ℕ}
 use Rattle.base.specs.Exports.{has, least_in_number_set, switches}
 use Rattle.failover.proofs.RouteRowLoop.{fewer_left}
-use Rattle.net_file.specs.Exports.{switch_name_of, net_switch_names_text}
+use Rattle.net_file.specs.Exports.{net_switch_name_of, net_switch_names_text}
 use Rattle.lines.proofs.LinesCallerLemmas.{pushed_append}
 use Rattle.lines.specs.Pushes.{line_with}
 use Rattle.journal_text.proofs.JournalLineMasks.{least_first}
@@ -14,7 +14,7 @@ loop-rest-preserved c =
     let rest = c.loop-rest.rest in
     let line = c.loop-rest.line in
     let is = c.loop-rest.invariant in
-    let own : List ℕ = codes " " ++ switch_name_of net (least_in_number_set rest) in
+    let own : List ℕ = codes " " ++ net_switch_name_of net (least_in_number_set rest) in
     let left : List ℕ = net_switch_names_text net (filter (has (bit_xor rest (2 ^ least_in_number_set rest))) switches) in
     let fewer = fewer_left rest (2 ^ least_in_number_set rest) is.fits c.loop-rest-test.true refl in record {
       fits = omega (arith, ap (bit_xor rest) c.only_if-rest.ensures, fewer, is.fits);

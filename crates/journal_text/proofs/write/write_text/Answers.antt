@@ -1,6 +1,6 @@
 use Rattle.std.proofs.Common.{[], ◌++◌, ◌∙◌, ◌∷◌, ◌≡◌, refl, take}
 use Rattle.base.proofs.Exports.{err_from_is_err_and}
-use Rattle.journal_text.specs.Lines.{item_line, journal_text}
+use Rattle.journal_text.specs.Lines.{journal_item_line, journal_text}
 use Rattle.journal_text.proofs.JournalLineGains.{IsHeld, gathers_no_more, held_first, held_more, held_nothing, lines_more, some_items}
 use Rattle.journal_text.proofs.write.write_text.Goals.{then-bytes-gt-ROOMY_BYTES+in_ok-push, else-bytes-gt-ROOMY_BYTES}
 use Rattle.journal_text.proofs.write.write_text.Goals as goal
@@ -60,7 +60,7 @@ loop-item-preserved g c =
       held = rw (
         c.push_journal_line.ensures.text,
         lines_more net items c.loop-item.item-index item c.loop-item-test.true c.item-item.is,
-      ) (held_more text (item_line net item ++ 10 ∷ []) first.bytes now.bytes
+      ) (held_more text (journal_item_line net item ++ 10 ∷ []) first.bytes now.bytes
           c.if-bytes-gt-ROOMY_BYTES.block c.if-bytes-gt-ROOMY_BYTES.line kept.0);
       texts = c.push_journal_line.ensures.texts;
       faults = kept.1;

@@ -1,10 +1,10 @@
 use Rattle.std.proofs.Common.{append_assoc, refl}
-use Rattle.five_tuple.specs.Exports.{fields_text}
+use Rattle.five_tuple.specs.Exports.{header_fields_text}
 use Rattle.lines.proofs.LinesCallerLemmas.{pushed_append}
 use Rattle.lines.proofs.fields.push_line_fields.Goals as goal
 
 pub returns : goal.returns
-unfolding fields_text
+unfolding header_fields_text
 returns c = simp (
   c.push_line_protocol.ensures,
   c.push-4.ensures,

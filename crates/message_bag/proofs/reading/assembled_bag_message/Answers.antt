@@ -1,6 +1,6 @@
 use Rattle.std.proofs.Common.{◌∙◌, IfSome, ap, arith, is_some, refl, subst, sym}
 use Rattle.base.proofs.Exports.{false_not_true}
-use Rattle.wire.specs.Exports.{AreFrames}
+use Rattle.wire.specs.Exports.{AreWireFrames}
 use Rattle.message_bag.proofs.BagMessagesOut.{begins, comes_out, goes_on, never_past, never_short, not_refused}
 use Rattle.message_bag.proofs.reading.assembled_bag_message.Goals as goal
 
@@ -20,7 +20,7 @@ returns-in-Some c = let i = c.loop-place.invariant in
     comes_out c.args.first.now c.args.frames.now c.loop-place.assembler c.feed.new.assembler
     c.loop-place.frame.now c.loop-place.place i.0 c.in-Some.message i.1 c.in_ok-message.ensures.held
     (c.in_ok-message.ensures.some.0 (ap is_some c.in-Some.is))
-    (subst (λ o. IfSome o (λ m. AreFrames m c.feed.new.assembler)) c.in-Some.is c.in_ok-message.ensures.message)
+    (subst (λ o. IfSome o (λ m. AreWireFrames m c.feed.new.assembler)) c.in-Some.is c.in_ok-message.ensures.message)
 
 pub unreachable-requires : goal.unreachable-requires
 unreachable-requires c = let i = c.loop-place.invariant in

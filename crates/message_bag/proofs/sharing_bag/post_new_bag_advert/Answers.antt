@@ -3,7 +3,7 @@ use Rattle.base.proofs.Exports.{common_steps}
 use Rattle.ctrl_msg.specs.declared.message.Message.{Message}
 use Rattle.message_bag.proofs.BagNumberedPosts.{last_numbered}
 use Rattle.message_bag.proofs.BagRepeatedMessages.{adverts_posted, likened, one_set}
-use Rattle.message_bag.specs.Exports.{AreAdvertsPostedInBag, posted_frames}
+use Rattle.message_bag.specs.Exports.{AreAdvertsPostedInBag, bag_posted_frames}
 use Rattle.message_bag.proofs.sharing_bag.post_new_bag_advert.Goals as goal
 
 pub post_like-requires-clause-like : goal.post_like-requires-clause-like
@@ -25,4 +25,4 @@ returns-clause-adverts c = let bag = c.args.bag.now in
     one_set c.post.new.self c.args.adverts.now.items c.args.origin _
     (adverts_posted _ _ bag c.post.new.self c.args.adverts.now.items c.in_ok-number.ensures.posted c.requires.adverts)
     (last_numbered _ bag c.post.new.self c.in_ok-number.number c.in_ok-number.ensures.posted
-    ∙ ap (λ m. Some (posted_frames m)) (grind (arith, common_steps)))
+    ∙ ap (λ m. Some (bag_posted_frames m)) (grind (arith, common_steps)))

@@ -1,6 +1,6 @@
 use Rattle.std.proofs.Common.{[], ◌++◌, ◌∙◌, List, ap, get_or, length, subst, ℕ}
 use Rattle.base.proofs.Exports.{get_or_read}
-use Rattle.wire.specs.Exports.{frame, spelled_front}
+use Rattle.wire.specs.Exports.{frame, wire_spelled_front}
 use Rattle.switch_table.specs.declared.tables.Tables.{Tables}
 use Rattle.message_bag.specs.Exports.{BagFramesCarryTables}
 use Rattle.message_bag.proofs.BagPostedMessages.{tables_are, tables_fit}
@@ -22,7 +22,7 @@ returns-clause-own c =
     tables_are c.args.message.now kept number c.args.boot c.args.tables.now c.put_first.new.out.items
     c.requires.carries (its c)
     (c.in_ok-put_first.ensures.put
-    ∙ ap (λ (b : List ℕ). b ++ frame 0 (length c.index.result.now) (spelled_front c.args.message.now.to c.args.boot))
+    ∙ ap (λ (b : List ℕ). b ++ frame 0 (length c.index.result.now) (wire_spelled_front c.args.message.now.to c.args.boot))
     c.clear.ensures.items
-    ∙ ap (λ (own : List (List ℕ)). frame 0 (length own) (spelled_front c.args.message.now.to c.args.boot))
+    ∙ ap (λ (own : List (List ℕ)). frame 0 (length own) (wire_spelled_front c.args.message.now.to c.args.boot))
     (get_or_read kept number c.index.result.now c.in_ok-number.ensures.there c.index.ensures []))

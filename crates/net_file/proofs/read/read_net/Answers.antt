@@ -2,7 +2,7 @@ use Rattle.std.proofs.Common.{ok_or}
 use Rattle.base.proofs.Exports.{IfOk-weaker, err_from_is_err_and}
 use Rattle.toml.specs.View.{table_view}
 use Rattle.net_file.specs.Exports.{IsNet, toml_document_of, net_of, net_read}
-use Rattle.base.specs.Exports.{in_row}
+use Rattle.base.specs.Exports.{refusal_in_row}
 use Rattle.net_file.specs.declared.error.NetRefusal.TheVariants.{Toml}
 use Rattle.net_file.proofs.NetFileSoundness.{net_of_document, sound_net}
 use Rattle.net_file.proofs.NetFileRowRefusals.{refused_with}
@@ -12,7 +12,7 @@ pub returns-in_err-read_document-clause-refused : goal.returns-in_err-read_docum
 unfolding net_of
 returns-in_err-read_document-clause-refused c =
     let p = err_from_is_err_and c.from_residual.result c.from_residual.ensures.1 in
-    rw (p.1, p.2) (refused_with (in_row 0 (ok_or (toml_document_of c.args.bytes.now) Toml)) net_read
+    rw (p.1, p.2) (refused_with (refusal_in_row 0 (ok_or (toml_document_of c.args.bytes.now) Toml)) net_read
     c.in_err-read_document.field-0.0 c.in_err-read_document.ensures.refused)
 
 pub returns-clause-net : goal.returns-clause-net

@@ -1,7 +1,7 @@
 use Rattle.std.proofs.Common.{[], ◌++◌, ◌+◌, ◌||◌, ◌∙◌, ◌∷◌, ◌≡◌, ap, arith, drop, length-append, map, refl}
 use Rattle.base.proofs.Exports.{err_from_is_err_and}
 use Rattle.toml.specs.View.{view}
-use Rattle.net_file.specs.Exports.{has_port, net_rows_read, net_switch_read}
+use Rattle.net_file.specs.Exports.{net_switch_has_port, net_rows_read, net_switch_read}
 use Rattle.net_file.proofs.NetFilePortMasks.{in_mask_or}
 use Rattle.net_file.proofs.NetFileFreshPorts.{have_port_push}
 use Rattle.net_file.proofs.NetFileRowRefusals.{next_row, refused_row, refused_same}
@@ -36,5 +36,5 @@ loop-value-preserved c =
       count = rw (items, length-append, inv.count) refl;
       row = rw inv.row refl;
       taken = λ k. rw (items, have_port_push)
-          (in_mask_or c.loop-value.taken row.ports k ∙ ap (λ b. b || has_port k row) (inv.taken k));
+          (in_mask_or c.loop-value.taken row.ports k ∙ ap (λ b. b || net_switch_has_port k row) (inv.taken k));
     }

@@ -1,7 +1,7 @@
 use Rattle.std.proofs.Common.{[], ◌++◌, ◌+◌, ◌<◌, ◌∙◌, ◌∷◌, ◌≡◌, All, ap, arith, drop, length, length-append, subst, sym, take}
 use Rattle.base.proofs.Exports.{All-push}
 use Rattle.csv.specs.Records.{fields_of}
-use Rattle.policy_file.specs.Exports.{PolicyRecordsStateEach}
+use Rattle.policy_file.specs.Exports.{PolicyFileRecordsStateEach}
 use Rattle.policy_file.proofs.PolicyFileRows.{ended, next_of, refused_row, state_push, too_many}
 use Rattle.policy_file.proofs.file_rows.read_policy_row_records.Goals as goal
 
@@ -43,12 +43,12 @@ loop-records-preserved g c =
     let items : c.push.new.self.items ≡ rows ++ row ∷ [] = c.in_ok-push-in-Ok.ensures.items in
     let len : length c.push.new.self.items ≡ length rows + 1 =
     omega (arith, ap length items, length-append rows (row ∷ [])) in
-    let pushed : PolicyRecordsStateEach format (take (length rows + 1) records) (rows ++ row ∷ []) =
-    subst (λ xs. PolicyRecordsStateEach format xs (rows ++ row ∷ [])) (sym next.more) (state_push format
+    let pushed : PolicyFileRecordsStateEach format (take (length rows + 1) records) (rows ++ row ∷ []) =
+    subst (λ xs. PolicyFileRecordsStateEach format xs (rows ++ row ∷ [])) (sym next.more) (state_push format
     (take (length rows) records) rows fields row known.stated (sym c.in-Ok.ensures.row)) in
-    let stated : PolicyRecordsStateEach format (take (length rows + 1) records) c.push.new.self.items =
-    subst (PolicyRecordsStateEach format (take (length rows + 1) records)) (sym items) pushed in record {
-      stated = subst (λ k. PolicyRecordsStateEach format (take k records) c.push.new.self.items) (sym len) stated;
+    let stated : PolicyFileRecordsStateEach format (take (length rows + 1) records) c.push.new.self.items =
+    subst (PolicyFileRecordsStateEach format (take (length rows + 1) records)) (sym items) pushed in record {
+      stated = subst (λ k. PolicyFileRecordsStateEach format (take k records) c.push.new.self.items) (sym len) stated;
       left = sym next.rest ∙ ap (λ k. drop k records) (sym len);
       within = omega (arith, len, next.within);
       few = omega (arith, len, room);

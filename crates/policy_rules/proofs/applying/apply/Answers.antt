@@ -1,6 +1,6 @@
 use Rattle.std.proofs.Common.{◌+◌, ◌<◌, ◌∙◌, ◌≡◌, ◌≤◌, Err, List, Ok, ap, arith, false, le-ltb, length, lt-ltb, ltb, nat_cmp, subst, sym, rules}
 use Rattle.base.proofs.Exports.{contains, list_any}
-use Rattle.policy_rules.specs.Exports.{IsPolicy, adds_taken, amended_rows, removals, removes_absent, rows_after_removal}
+use Rattle.policy_rules.specs.Exports.{IsPolicy, policy_change_adds_taken, amended_policy_rows, policy_removals, policy_change_removes_absent, policy_rows_after_removal}
 use Rattle.policy_rules.specs.declared.applying.Inapplicable.TheVariants.{TooManyRows}
 use Rattle.policy_rules.specs.declared.amendment.Edit.{Edit}
 use Rattle.policy_rules.specs.declared.policy.Row.{Row}
@@ -11,16 +11,16 @@ use Rattle.policy_rules.proofs.applying.apply.Goals.{In_ok-amended, In_ok-new, I
 -- ---- the rows that stay
 
 staying_is : (c : In_ok-amended) → c.in_ok-amended.amended.items
-    ≡ rows_after_removal c.args.policy.now c.args.change.now
+    ≡ policy_rows_after_removal c.args.policy.now c.args.change.now
 staying_is c = search rules
 
-absent_is : (c : In_ok-amended) → removes_absent c.args.policy.now c.args.change.now
+absent_is : (c : In_ok-amended) → policy_change_removes_absent c.args.policy.now c.args.change.now
     ≡ ltb (length c.rows-rows.result.now)
     (length c.in_ok-amended.amended.items + length c.removed-removed.result.now)
 absent_is c =
     let rows = c.args.policy.now in
     let change = c.args.change.now in
-    let two : length c.removed-removed.result.now ≡ length (removals change) =
+    let two : length c.removed-removed.result.now ≡ length (policy_removals change) =
     ap length c.removed-removed.ensures in
     let three : length c.rows-rows.result.now ≡ length rows = ap length c.rows-rows.ensures.rows in
     absent_by rows change c.rows-rows.ensures.policy.distinct
@@ -35,35 +35,35 @@ returns-then-rows-len-clause-refused c =
 
 -- ---- the rows that are added
 
-taken_is : (c : In_ok-new) → adds_taken c.args.policy.now c.args.change.now
+taken_is : (c : In_ok-new) → policy_change_adds_taken c.args.policy.now c.args.change.now
     ≡ list_any (λ (row : Row). contains nat_cmp c.in_ok-new.new row.priority)
-    (rows_after_removal c.args.policy.now c.args.change.now)
+    (policy_rows_after_removal c.args.policy.now c.args.change.now)
 taken_is c = let new = contains nat_cmp c.in_ok-new.new in
     taken_by new c.args.policy.now c.args.change.now
     (rw c.added-added.ensures.rows at c.in_ok-new.ensures)
 
-pub returns-then-policy_rows_meet_priorities-clause-refused : goal.returns-then-policy_rows_meet_priorities-clause-refused
-returns-then-policy_rows_meet_priorities-clause-refused c =
-    let before = (goal.at.returns-then-policy_rows_meet_priorities-clause-refused c).In_ok-amended in
+pub returns-then-some_policy_row_has_priority-clause-refused : goal.returns-then-some_policy_row_has_priority-clause-refused
+returns-then-some_policy_row_has_priority-clause-refused c =
+    let before = (goal.at.returns-then-some_policy_row_has_priority-clause-refused c).In_ok-amended in
     is_taken c.args.policy.now c.args.change.now
     (absent_is before ∙ le-ltb _ _ (omega arith))
-    (taken_is (goal.at.returns-then-policy_rows_meet_priorities-clause-refused c).In_ok-new
+    (taken_is (goal.at.returns-then-some_policy_row_has_priority-clause-refused c).In_ok-new
     ∙ ap (list_any (λ (row : Row). contains nat_cmp c.in_ok-new.new row.priority))
-    (sym (c.deref.ensures.value ∙ staying_is before)) ∙ sym c.policy_rows_meet_priorities.ensures ∙ c.if-policy_rows_meet_priorities.true)
+    (sym (c.deref.ensures.value ∙ staying_is before)) ∙ sym c.some_policy_row_has_priority.ensures ∙ c.if-some_policy_row_has_priority.true)
 
 -- ---- where nothing is absent or taken
 
 record Applies (rows : List Row) (change : List Edit) (amended : List Row) : Type 0 where
-  there : removes_absent rows change ≡ false
-  free : adds_taken rows change ≡ false
-  is : amended_rows rows change ≡ amended
+  there : policy_change_removes_absent rows change ≡ false
+  free : policy_change_adds_taken rows change ≡ false
+  is : amended_policy_rows rows change ≡ amended
 
 applies : (c : In_ok-extend_from_slice)
-    → c.in_ok-amended.amended.items ≡ rows_after_removal c.args.policy.now c.args.change.now
-    → removes_absent c.args.policy.now c.args.change.now ≡ ltb (length c.rows-rows.result.now)
+    → c.in_ok-amended.amended.items ≡ policy_rows_after_removal c.args.policy.now c.args.change.now
+    → policy_change_removes_absent c.args.policy.now c.args.change.now ≡ ltb (length c.rows-rows.result.now)
     (length c.in_ok-amended.amended.items + length c.removed-removed.result.now)
-    → adds_taken c.args.policy.now c.args.change.now ≡ list_any (λ (row : Row). contains nat_cmp
-    c.in_ok-new.new row.priority) (rows_after_removal c.args.policy.now c.args.change.now)
+    → policy_change_adds_taken c.args.policy.now c.args.change.now ≡ list_any (λ (row : Row). contains nat_cmp
+    c.in_ok-new.new row.priority) (policy_rows_after_removal c.args.policy.now c.args.change.now)
     → Applies c.args.policy.now c.args.change.now c.extend_from_slice.new.self.items
 applies c staying absent taken = search (rules, le-ltb)
 

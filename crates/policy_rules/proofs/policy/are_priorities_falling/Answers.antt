@@ -1,5 +1,5 @@
 use Rattle.std.proofs.Common.{◌∙◌, ◌≡◌, ap, arith, cond, false, nat_eq, ne_eqb, sym, take, true}
-use Rattle.policy_rules.specs.Exports.{has_priority}
+use Rattle.policy_rules.specs.Exports.{policy_has_priority}
 use Rattle.policy_rules.proofs.PolicyDistinctRows.{seen_more, so_far_all, so_far_more}
 use Rattle.policy_rules.proofs.policy.are_priorities_falling.Goals as goal
 
@@ -12,7 +12,7 @@ loop-row-preserved c =
       fresh = λ q lower.
           let other : nat_eq row.priority q ≡ false = ne_eqb row.priority q (λ same. omega arith) in
           sym (seen_more rows i row q c.loop-row-test.true c.row-item.is)
-          ∙ ap (λ b. cond b true (has_priority (take i rows) q)) other ∙ fresh q (omega arith);
+          ∙ ap (λ b. cond b true (policy_has_priority (take i rows) q)) other ∙ fresh q (omega arith);
       so_far = so_far_more rows i row c.loop-row-test.true c.row-item.is c.loop-row.invariant.so_far
           c.row_is_sound.ensures (fresh row.priority (omega arith));
     }

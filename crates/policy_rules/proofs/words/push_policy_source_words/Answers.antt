@@ -1,6 +1,6 @@
 use Rattle.std.proofs.Common.{[], ◌++◌, ◌∙◌, ◌∷◌, ap, append-nil, append_assoc, map, sym, rules}
 use Rattle.base.proofs.Exports.{map-append}
-use Rattle.policy_rules.specs.Exports.{word_of_row}
+use Rattle.policy_rules.specs.Exports.{word_of_policy_row}
 use Rattle.policy_rules.proofs.PolicyBlockLoops.{IsAtBlock, at_block}
 use Rattle.policy_rules.proofs.words.push_policy_source_words.Goals as goal
 use Rattle.policy_rules.proofs.words.push_policy_source_words.Goals.{After-next}
@@ -20,7 +20,7 @@ word_of_row-requires-clause-destination c =
 pub loop-destination-preserved : goal.loop-destination-preserved
 loop-destination-preserved c =
     let done = c.loop-destination.yielded in
-    let g = word_of_row c.args.row.now c.args.source in
+    let g = word_of_policy_row c.args.row.now c.args.source in
     c.in_ok-push.ensures.items
     ∙ ap (λ word. c.loop-destination.words.items ++ word ∷ []) c.word_of_row.ensures
     ∙ ap (λ these. these ++ g c.in-Some.destination ∷ []) c.loop-destination.invariant

@@ -1,10 +1,10 @@
 -- What the lists that were made say, and so what the proposal is.
 use Rattle.std.proofs.Common.{◌<◌, ◌^◌, ◌∙◌, ◌≡◌, List, ap, arith, length, map}
 use Rattle.base.proofs.Exports.{All-map}
-use Rattle.partition.specs.Plan.{Hosted, sizes_of}
-use Rattle.switch_table.specs.Exports.{part_of}
+use Rattle.partition.specs.Plan.{HostedPolicyPartition, partition_sizes_of}
+use Rattle.switch_table.specs.Exports.{switch_table_part_of}
 use Rattle.update_machine.specs.Exports.{Partition}
-use Rattle.rebalance.specs.Loads.{weights_of}
+use Rattle.rebalance.specs.Loads.{rebalance_weights_of}
 use Rattle.rebalance.specs.Spread.{IsRebalanceProposal}
 use Rattle.rebalance.specs.Proposals.{rebalance_partition_targets}
 use Rattle.rebalance.proofs.ProposedPlans.{AreMeasured, as_many_asked, as_many_sizes, as_many_targets, few_rooms, found_for, proposal_number, sizes_are}
@@ -15,9 +15,9 @@ measured : (c : In_ok-old)
     → AreMeasured c.args.plan.now.hosted c.args.net.now c.args.journal.now c.in_ok-sizes.sizes.items
     c.in_ok-weights.weights.items c.in_ok-rooms.rooms.items c.in_ok-old.old.items
 measured c = record {
-  sizes_are = c.in_ok-sizes.ensures ∙ ap sizes_of (c.deref.ensures.value ∙ c.in_ok-parts.ensures
-      ∙ ap (map part_of) c.hosted-hosted.ensures.hosted) ∙ sizes_are c.args.plan.now.hosted;
-  weights_are = c.in_ok-weights.ensures.weights ∙ ap (λ (hosts : List Hosted). weights_of
+  sizes_are = c.in_ok-sizes.ensures ∙ ap partition_sizes_of (c.deref.ensures.value ∙ c.in_ok-parts.ensures
+      ∙ ap (map switch_table_part_of) c.hosted-hosted.ensures.hosted) ∙ sizes_are c.args.plan.now.hosted;
+  weights_are = c.in_ok-weights.ensures.weights ∙ ap (λ (hosts : List HostedPolicyPartition). rebalance_weights_of
       c.args.journal.now (length hosts)) c.hosted-hosted.ensures.hosted;
   rooms_are = c.in_ok-rooms.ensures;
   old_is = c.in_ok-old.ensures ∙ ap rebalance_partition_targets c.hosted-hosted.ensures.hosted;
@@ -38,7 +38,7 @@ new_number c each = proposal_number c.in_ok-sizes.sizes.items c.in_ok-weights.we
 pub sizes_of-requires : goal.sizes_of-requires
 sizes_of-requires c =
     rw (c.deref.ensures.value, c.in_ok-parts.ensures, c.hosted-hosted.ensures.hosted)
-    (All-map (λ (part : Partition). length part.rules < 2 ^ 32) part_of c.args.plan.now.hosted
+    (All-map (λ (part : Partition). length part.rules < 2 ^ 32) switch_table_part_of c.args.plan.now.hosted
     c.hosted-hosted.ensures.sound.few_rules)
 
 pub peak-old_peak-requires-clause-each : goal.peak-old_peak-requires-clause-each

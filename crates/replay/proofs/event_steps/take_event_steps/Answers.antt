@@ -1,7 +1,7 @@
 use Rattle.std.proofs.Common.{◌-◌, ◌∙◌, Err, ap, arith, drop, length, refl, subst, sym, take, true, true≢false}
 use Rattle.base.proofs.Exports.{on_err_holds, same_error}
-use Rattle.meters.specs.Exports.{seen_board}
-use Rattle.steps.specs.Exports.{IsEvent}
+use Rattle.meters.specs.Exports.{seen_meter_board}
+use Rattle.steps.specs.Exports.{IsEventOfSteps}
 use Rattle.update_machine.specs.Exports.{Setting}
 use Rattle.world.specs.Exports.{WorldValue, no_world_step, world_setting_at}
 use Rattle.replay.specs.Leavings.{ReplayMetersKeepUp}
@@ -20,7 +20,7 @@ loop-next-init g c = record {
   able = c.requires.able;
   packets = omega (arith, none_yet c.args.event.now);
   took = took_none (world_setting_at c.args.world.now) c.args.row c.args.event.now c.args.world.now.journal;
-  kept = keep_up_none c.args.world.now.journal (seen_board g.M.Meter.seen c.args.board.now);
+  kept = keep_up_none c.args.world.now.journal (seen_meter_board g.M.Meter.seen c.args.board.now);
 }
 
 -- what is true of the step that is asked for next
@@ -43,7 +43,7 @@ step-requires-clause-may g c =
     let refines = tie_of c.loop-next.world (c.refines.ensures so_far.able) in
     let next = next_asked g (goal.at.step-requires-clause-may g c).After-refines in
     next.may
-    (subst (λ (s : Setting). IsEvent s.net (length s.files) c.args.event.now)
+    (subst (λ (s : Setting). IsEventOfSteps s.net (length s.files) c.args.event.now)
     (sym so_far.setting) c.requires.may)
     (omega (arith, refines.counted, so_far.packets, next.none, c.requires.few))
 
@@ -123,7 +123,7 @@ pub returns-in_err-step-clause-kept_full : goal.returns-in_err-step-clause-kept_
 returns-in_err-step-clause-kept_full g c = λ is.
     let full = ap Err (same_error c.from_residual.result _ no_world_step c.from_residual.ensures.1 is) in
     subst (λ (world : WorldValue). ReplayMetersKeepUp c.args.world.now.journal world.journal
-    (seen_board g.M.Meter.seen c.args.board.now) (seen_board g.M.Meter.seen c.loop-next.board))
+    (seen_meter_board g.M.Meter.seen c.args.board.now) (seen_meter_board g.M.Meter.seen c.loop-next.board))
     (sym (c.in_err-step.ensures.unchanged full)) c.loop-next.invariant.kept
 
 pub returns-in_err-replay_note_left_packets-clause-part : goal.returns-in_err-replay_note_left_packets-clause-part

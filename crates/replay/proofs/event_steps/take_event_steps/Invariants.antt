@@ -1,6 +1,6 @@
 use Rattle.world.specs.Exports.{world_setting_at}
 use Rattle.std.proofs.Common.{◌+◌, ◌≡◌, false}
-use Rattle.meters.specs.Exports.{seen_board}
+use Rattle.meters.specs.Exports.{seen_meter_board}
 use Rattle.replay.specs.Leavings.{ReplayMetersKeepUp}
 use Rattle.replay.proofs.ReplayAskedStep.{brought_so_far, steps_left}
 use Rattle.replay.proofs.ReplayEventStepping.{Took}
@@ -12,8 +12,8 @@ invariant-loop-next g l = record {
   able : l.world.is_spent ≡ false;
   packets : l.world.packets ≡ l.fn.world.packets + brought_so_far l.event l.is_begun;
   took : Took (world_setting_at l.fn.world) l.row l.event l.is_begun l.fn.world.journal l.world.journal;
-  kept : ReplayMetersKeepUp l.fn.world.journal l.world.journal (seen_board g.M.Meter.seen l.fn.board)
-      (seen_board g.M.Meter.seen l.board);
+  kept : ReplayMetersKeepUp l.fn.world.journal l.world.journal (seen_meter_board g.M.Meter.seen l.fn.board)
+      (seen_meter_board g.M.Meter.seen l.board);
 }
 
 abbrev pub decreases-loop-next : goal.decreases-loop-next

@@ -1,6 +1,6 @@
 use Rattle.std.proofs.Common.{◌∙◌, Some, ap, subst, sym}
 use Rattle.control_laws.specs.Exports.{ControlMarksAreBounded, ControlVersionsArePlanned}
-use Rattle.controller.specs.Exports.{current_plan}
+use Rattle.controller.specs.Exports.{controller_current_plan}
 use Rattle.world.specs.Exports.{world_setting_at}
 use Rattle.replay.proofs.ReplayPlanInForce.{kept_in_force}
 use Rattle.replay.proofs.ReplayedWorld.{tie_of}
@@ -19,5 +19,5 @@ returns c =
     (c.versions_are_planned.ensures.behind.ends.stepped setting tie.reached.steps) in
     kept_in_force setting world.journal world.controller c.in_ok-plan.plan tie.sound tie.controller
     bounds planned
-    (ap current_plan (sym c.controller.ensures) ∙ c.current_plan.ensures
+    (ap controller_current_plan (sym c.controller.ensures) ∙ c.current_plan.ensures
     ∙ ap Some (sym c.in_ok-plan.ensures.cases))

@@ -2,9 +2,9 @@ use Rattle.world.specs.Exports.{world_setting_at}
 use Rattle.std.proofs.Common.{[], ◌+◌, ◌∙◌, ◌≡◌, Err, List, None, Some, ap, arith, map, refl, subst, sym}
 use Rattle.base.proofs.Exports.{drop_all}
 use Rattle.update_machine.specs.Exports.{Item, journal_next_packet}
-use Rattle.meters.specs.Exports.{BoardValue, Seen, board_after, seen_board}
+use Rattle.meters.specs.Exports.{MeterBoardValue, SeenMeter, meter_board_after, seen_meter_board}
 use Rattle.update_machine.proofs.Exports.{start_laws}
-use Rattle.replay.specs.Leavings.{left_in}
+use Rattle.replay.specs.Leavings.{replay_left_in}
 use Rattle.replay.proofs.ReplayAskedStep.{brought_few}
 use Rattle.replay.proofs.ReplayEventPlays.{PlaysOn, plays_from_start, plays_no_more, plays_on_by, stops_by}
 use Rattle.replay.specs.InForce.{IsReplayPlanInForce}
@@ -13,7 +13,7 @@ use Rattle.replay.proofs.ReplayedWorld.{tie_of}
 use Rattle.replay.proofs.playing.play.Goals as goal
 use Rattle.replay.proofs.playing.play.Given.{Over}
 
-board_is : (one other : BoardValue Seen) → one.meters ≡ other.meters → one.gone ≡ other.gone
+board_is : (one other : MeterBoardValue SeenMeter) → one.meters ≡ other.meters → one.gone ≡ other.gone
     → one ≡ other
 board_is one other meters gone = λ i. record { meters = meters i; gone = gone i }
 
@@ -33,10 +33,10 @@ loop-event-init g c =
       plays_on = λ whole stop rest.
           subst (λ journal. PlaysOn (world_setting_at world) journal 1 c.args.events.now whole stop)
           begun.silent rest;
-      board = board_is (seen_board g.M.Meter.seen c.new-board.result)
-          (board_after c.args.ports [] (map g.M.Meter.seen c.args.meters.items))
+      board = board_is (seen_meter_board g.M.Meter.seen c.new-board.result)
+          (meter_board_after c.args.ports [] (map g.M.Meter.seen c.args.meters.items))
           c.new-board.ensures.kept c.new-board.ensures.gone
-          ∙ ap (λ (journal : List Item). board_after c.args.ports (left_in journal)
+          ∙ ap (λ (journal : List Item). meter_board_after c.args.ports (replay_left_in journal)
           (map g.M.Meter.seen c.args.meters.items)) (sym begun.silent);
     }
 
@@ -80,27 +80,27 @@ returns-clause-play g c =
 
 -- a full journal's board is the one that it says
 full_board : (g : Over) (c : goal.After-ended g)
-    → seen_board g.M.Meter.seen c.take_event_steps.new.board ≡ board_after c.args.ports
-    (left_in c.take_event_steps.new.world.journal) (map g.M.Meter.seen c.args.meters.items)
+    → seen_meter_board g.M.Meter.seen c.take_event_steps.new.board ≡ meter_board_after c.args.ports
+    (replay_left_in c.take_event_steps.new.world.journal) (map g.M.Meter.seen c.args.meters.items)
 full_board g c = kept_up _ _ _ _ c.args.ports (map g.M.Meter.seen c.args.meters.items)
     (c.in-Err-Refused.ensures.kept_full (ap Err c.in-Err-Refused.field-0-is))
     c.loop-event.invariant.board
 
 pub returns-in-Err-Refused-clause-kept : goal.returns-in-Err-Refused-clause-kept
 returns-in-Err-Refused-clause-kept g c = rw (c.ended.ensures.journal, c.ended.ensures.meters)
-    (ap (λ (board : BoardValue Seen). board.meters) (full_board g c))
+    (ap (λ (board : MeterBoardValue SeenMeter). board.meters) (full_board g c))
 
 pub returns-in-Err-Refused-clause-gone : goal.returns-in-Err-Refused-clause-gone
 returns-in-Err-Refused-clause-gone g c = rw (c.ended.ensures.journal, c.ended.ensures.gone)
-    (ap (λ (board : BoardValue Seen). board.gone) (full_board g c))
+    (ap (λ (board : MeterBoardValue SeenMeter). board.gone) (full_board g c))
 
 pub returns-clause-kept : goal.returns-clause-kept
 returns-clause-kept g c = rw (c.ended-2.ensures.journal, c.ended-2.ensures.meters)
-    (ap (λ (board : BoardValue Seen). board.meters) c.loop-event.invariant.board)
+    (ap (λ (board : MeterBoardValue SeenMeter). board.meters) c.loop-event.invariant.board)
 
 pub returns-clause-gone : goal.returns-clause-gone
 returns-clause-gone g c = rw (c.ended-2.ensures.journal, c.ended-2.ensures.gone)
-    (ap (λ (board : BoardValue Seen). board.gone) c.loop-event.invariant.board)
+    (ap (λ (board : MeterBoardValue SeenMeter). board.gone) c.loop-event.invariant.board)
 
 pub returns-in-Err-Refused-clause-held : goal.returns-in-Err-Refused-clause-held
 returns-in-Err-Refused-clause-held g c = c.packet_plays_held_on_way.ensures (world_setting_at c.args.world)

@@ -1,8 +1,8 @@
 use Rattle.world.specs.Exports.{world_setting_at}
 use Rattle.std.proofs.Common.{[], ◌+◌, ◌≡◌, ◌≤◌, List, Option, drop, false, map, ℕ}
 use Rattle.update_machine.specs.Exports.{Item}
-use Rattle.meters.specs.Exports.{board_after, seen_board}
-use Rattle.replay.specs.Leavings.{left_in}
+use Rattle.meters.specs.Exports.{meter_board_after, seen_meter_board}
+use Rattle.replay.specs.Leavings.{replay_left_in}
 use Rattle.replay.proofs.ReplayEventPlays.{PlaysOn}
 use Rattle.replay.proofs.playing.play.Given as goal
 
@@ -15,6 +15,6 @@ invariant-loop-event g l = record {
   plays_on : (whole : List Item) (stop : Option ℕ)
       → PlaysOn (world_setting_at l.fn.world) l.world.journal (l.row + 1) (drop l.event-index l.events) whole
       stop → PlaysOn (world_setting_at l.fn.world) [] 1 l.events whole stop;
-  board : seen_board g.M.Meter.seen l.board
-      ≡ board_after l.fn.ports (left_in l.world.journal) (map g.M.Meter.seen l.fn.meters.items);
+  board : seen_meter_board g.M.Meter.seen l.board
+      ≡ meter_board_after l.fn.ports (replay_left_in l.world.journal) (map g.M.Meter.seen l.fn.meters.items);
 }

@@ -1,7 +1,7 @@
 use Rattle.std.proofs.Common.{◌++◌, ◌≡◌, flat_map, take}
-use Rattle.show_text.specs.Text.{own_part_lines}
+use Rattle.show_text.specs.Text.{shown_own_part_lines}
 use Rattle.show_text.proofs.text.show_own_parts.Given as goal
 
 abbrev pub invariant-loop-part : goal.invariant-loop-part
-invariant-loop-part l = l.text.items ≡ l.initial.text.items ++ flat_map own_part_lines
+invariant-loop-part l = l.text.items ≡ l.initial.text.items ++ flat_map shown_own_part_lines
     (take l.part-index l.parts)

@@ -1,6 +1,6 @@
 use Rattle.std.proofs.Common.{◌<◌, ◌∙◌, ap, drop, map, subst, sym, ℕ}
 use Rattle.base.proofs.Exports.{drop-map, values_of}
-use Rattle.switch_table.specs.Exports.{IsNthLiveCacheFlag, cache_live_count_set, cache_live_flags_of, is_live}
+use Rattle.switch_table.specs.Exports.{IsNthLiveCacheFlag, cache_live_count_set, cache_live_flags_of, is_live_cache_slot}
 use Rattle.switch_table.proofs.CacheSlotRemovals.{IsStart, flag_of, flags_values, nth_behind, starts_block, starts_first}
 use Rattle.switch_table.proofs.slots.live_cache_slot_place.Goals as goal
 use Rattle.switch_table.proofs.slots.live_cache_slot_place.Goals.{then-before-eq0, else-before-eq0}
@@ -20,7 +20,7 @@ returns c =
     ] in
     let behind = ap (map flag_of) (c.as_slice.ensures ∙ c.values.ensures.rest ∙ ap values_of
     (c.split_at-rest.ensures.back ∙ ap (drop start.0) c.as_slice-slots.ensures.entries))
-    ∙ flags_values (drop start.0 slots) ∙ sym (drop-map is_live start.0 slots) in
+    ∙ flags_values (drop start.0 slots) ∙ sym (drop-map is_live_cache_slot start.0 slots) in
     let found = subst (λ fs. start.1 < cache_live_count_set fs → IsNthLiveCacheFlag start.1 c.nth_live_cache_slot.result fs) behind
     c.nth_live_cache_slot.ensures.found in
     nth_behind start.0 start.1 before c.nth_live_cache_slot.result flags begins (found begins.some)

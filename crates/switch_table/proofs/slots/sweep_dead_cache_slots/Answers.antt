@@ -1,11 +1,11 @@
 use Rattle.std.proofs.Common.{◌∙◌, ◌≡◌, ap, filter, length, replicate, rules, subst, sym, true}
 use Rattle.indexmap.proofs.CallerLemmas.{filter-RetainsPairs}
-use Rattle.switch_table.specs.Exports.{AreCacheLiveCounts, cache_live_flags_of, is_live}
+use Rattle.switch_table.specs.Exports.{AreCacheLiveCounts, cache_live_flags_of, is_live_cache_slot}
 use Rattle.switch_table.proofs.CacheSlotPushes.{swept_flags}
 use Rattle.switch_table.proofs.slots.sweep_dead_cache_slots.Goals as goal
 use Rattle.switch_table.proofs.slots.sweep_dead_cache_slots.Goals.{After-retain}
 
-kept : (c : After-retain) → c.retain.new.self.entries ≡ filter is_live c.args.map.now.entries
+kept : (c : After-retain) → c.retain.new.self.entries ≡ filter is_live_cache_slot c.args.map.now.entries
 kept c = search (rules, filter-RetainsPairs)
 
 pub returns-clause-slots : goal.returns-clause-slots

@@ -2,7 +2,7 @@ use Rattle.std.proofs.Common.{◌+◌, ◌-◌, ◌<◌, ◌^◌, ◌∙◌, ◌
 use Rattle.base.proofs.Exports.{length-map, same_Some, slice_get_within}
 use Rattle.indexmap.proofs.CallerLemmas.{insert_entry-new}
 use Rattle.indexmap.specs.IndexMap.{Updates, get}
-use Rattle.switch_table.specs.Exports.{AreCacheSlotsNamed, SlotPair, equal_cache_keys, cache_live_flags_of, is_live, live_cache_pairs}
+use Rattle.switch_table.specs.Exports.{AreCacheSlotsNamed, SlotPair, equal_cache_keys, cache_live_flags_of, is_live_cache_slot, live_cache_pairs}
 use Rattle.switch_table.proofs.CacheSlotPushes.{IsRekeyed, rekeyed, rekeyed_flags, rekeyed_pairs}
 use Rattle.switch_table.specs.declared.key.CacheKey.{CacheKey}
 use Rattle.switch_table.proofs.CacheSlotKeys.{named_absent, named_set}
@@ -15,7 +15,7 @@ at_place at place here = omega (arith, here)
 -- there is a slot at the place
 within : (c : After-swap_remove_index) → c.args.place < 2 ^ 63
 within c =
-    omega (arith, slice_get_within, length-map c.args.map.now.entries is_live, c.requires.few)
+    omega (arith, slice_get_within, length-map c.args.map.now.entries is_live_cache_slot, c.requires.few)
 
 -- the key of the place
 new_key : (c : After-swap_remove_index) → CacheKey

@@ -1,5 +1,5 @@
 use Rattle.std.proofs.Common.{[], ◌∙◌, ap, arith, length, subst, sym}
-use Rattle.trace_audit.specs.Exports.{IsTraceAuditVerdict, IsTraceLineRead, Open, Whole, lines_of, trace_state_seen}
+use Rattle.trace_audit.specs.Exports.{IsTraceAuditVerdict, IsTraceLineRead, Open, Whole, audit_lines_of, trace_state_seen}
 use Rattle.trace_audit.specs.declared.trace.Verdict.TheVariants.{No, Yes}
 use Rattle.trace_audit.proofs.AuditKnownPackets.{verdict_justified}
 use Rattle.trace_audit.proofs.AuditTraceLines.{lines_next, lines_nil, lines_open}
@@ -10,7 +10,7 @@ use Rattle.trace_audit.proofs.trace.audit.Goals as goal
 pub returns-in-None : goal.returns-in-None
 returns-in-None c =
     let rest = c.loop-rest.rest.now in
-    let lines = lines_of c.args.trace.now in
+    let lines = audit_lines_of c.args.trace.now in
     let verdict = No c.saturating_add-line.result in
     let is : IsTraceAuditVerdict c.args.files.now lines verdict =
     bad_here c.args.files.now c.args.trace.now rest c.loop-rest.line (trace_state_seen c.loop-rest.auditor)
@@ -26,11 +26,11 @@ returns-in-None c =
 pub returns-then-not-good : goal.returns-then-not-good
 returns-then-not-good c =
     let rest = c.loop-rest.rest.now in
-    let lines = lines_of c.args.trace.now in
+    let lines = audit_lines_of c.args.trace.now in
     let verdict = No c.saturating_add-line.result in
     let is : IsTraceAuditVerdict c.args.files.now lines verdict = bad_here c.args.files.now
     c.args.trace.now rest c.loop-rest.line (trace_state_seen c.loop-rest.auditor)
-    (Whole c.in-Some.text.now) (lines_of c.in-Some.next.now) c.trace_audit_files_sound.ensures
+    (Whole c.in-Some.text.now) (audit_lines_of c.in-Some.next.now) c.trace_audit_files_sound.ensures
     c.loop-rest.invariant (lines_next rest c.in-Some.text.now c.in-Some.next.now c.in-Some.ensures)
     (subst (λ good. IsTraceLineRead c.args.files.now (trace_state_seen c.loop-rest.auditor)
     (Whole c.in-Some.text.now) (trace_state_seen c.take_trace_line.new.auditor) good) c.if-not-good.true
@@ -59,7 +59,7 @@ loop-rest-preserved c = let rest = c.loop-rest.rest.now in
 pub returns : goal.returns
 returns c =
     let rest = c.loop-rest.rest.now in
-    let lines = lines_of c.args.trace.now in
+    let lines = audit_lines_of c.args.trace.now in
     let is : IsTraceAuditVerdict c.args.files.now lines Yes = all_good c.args.files.now c.args.trace.now
     c.loop-rest.line (trace_state_seen c.loop-rest.auditor) lines_nil (subst (λ left. IsSoFar
     c.args.files.now c.args.trace.now left c.loop-rest.line (trace_state_seen c.loop-rest.auditor))

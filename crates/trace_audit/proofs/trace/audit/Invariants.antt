@@ -1,5 +1,5 @@
 use Rattle.std.proofs.Common.{length}
-use Rattle.trace_audit.specs.Exports.{lines_of, trace_state_seen}
+use Rattle.trace_audit.specs.Exports.{audit_lines_of, trace_state_seen}
 use Rattle.trace_audit.proofs.AuditVerdicts.{IsSoFar}
 use Rattle.trace_audit.proofs.trace.audit.Given as goal
 
@@ -7,4 +7,4 @@ abbrev pub invariant-loop-rest : goal.invariant-loop-rest
 invariant-loop-rest l = IsSoFar l.fn.files l.fn.trace l.rest l.line (trace_state_seen l.auditor)
 
 abbrev pub decreases-loop-rest : goal.decreases-loop-rest
-decreases-loop-rest l = length (lines_of l.rest)
+decreases-loop-rest l = length (audit_lines_of l.rest)

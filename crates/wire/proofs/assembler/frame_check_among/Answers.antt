@@ -1,15 +1,15 @@
 use Rattle.std.proofs.Common.{◌∙◌, ◌≡◌, List, Option, ap, arith, refl, sym, ℕ}
 use Rattle.base.proofs.Exports.{false_not_true}
-use Rattle.wire.specs.Exports.{another_frame, frame_held_at, place_in_frame}
+use Rattle.wire.specs.Exports.{another_frame, wire_frame_held_at, place_in_wire_frame}
 use Rattle.wire.proofs.WireFormatLaws.{AreBytes}
 use Rattle.wire.proofs.WireFramesHeld.{index_of, check_held, check_new}
 use Rattle.wire.proofs.assembler.frame_check_among.Goals as goal
 
 -- what is held at the place that was read is held at the frame's place
 at_place : (frames : List (List ℕ)) (frame : List ℕ) (place : ℕ) (held : Option (List ℕ))
-    → place ≡ place_in_frame frame → held ≡ frame_held_at frames place
-    → frame_held_at frames (place_in_frame frame) ≡ held
-at_place frames frame place held is found = ap (frame_held_at frames) (sym is) ∙ sym found
+    → place ≡ place_in_wire_frame frame → held ≡ wire_frame_held_at frames place
+    → wire_frame_held_at frames (place_in_wire_frame frame) ≡ held
+at_place frames frame place held is found = ap (wire_frame_held_at frames) (sym is) ∙ sym found
 
 pub returns-then-are_same_frame_bytes : goal.returns-then-are_same_frame_bytes
 returns-then-are_same_frame_bytes c = check_held c.args.frames.now c.args.frame.now c.in-Some.held.now

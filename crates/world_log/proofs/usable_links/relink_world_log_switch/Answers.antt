@@ -1,14 +1,14 @@
 use Rattle.std.proofs.Common.{◌&&◌, ◌++◌, ◌==◌, ◌∙◌, ◌≡◌, ap, arith, ne_eqb, not, sym, true}
 use Rattle.switch_core.specs.Exports.{near_changed, switch_next_advert}
 use Rattle.world_log.proofs.LogRelinking.{told_all, told_below}
-use Rattle.world_log.specs.Exports.{links_change}
+use Rattle.world_log.specs.Exports.{log_links_change}
 use Rattle.world_log.proofs.usable_links.relink_world_log_switch.Goals as goal
 
 pub returns-clause-told : goal.returns-clause-told
 returns-clause-told c =
     let old = c.args.switch.now in
     let near = c.args.near in
-    let changed : links_change c.args.had near old ≡ true =
+    let changed : log_links_change c.args.had near old ≡ true =
     ap (λ b. b && not (c.args.had == near)) (sym c.if-not-is_up.ensures)
     ∙ ap not (ne_eqb c.args.had near c.if-had-near.false) in
     c.loop-other.invariant

@@ -1,13 +1,13 @@
 use Rattle.std.proofs.Common.{[], ◌++◌, ◌+◌, ◌∙◌, ◌∷◌, ◌≡◌, ap, map, not, refl, ℕ}
-use Rattle.version_update.specs.Exports.{is_over, with_version}
-use Rattle.controller.specs.Exports.{ControllerValue, KeptPlan, ControllerStaysSound, ControllerSubmitsPlan, controller_recorded_boot, current_plan_touched, controller_install_act, kept_plans_from, controller_settling_acts, controller_submit_acts, controller_switches_by_record}
+use Rattle.version_update.specs.Exports.{is_over, version_marks_with_version}
+use Rattle.controller.specs.Exports.{ControllerValue, ControllerKeptPlan, ControllerStaysSound, ControllerSubmitsPlan, controller_recorded_boot, controller_current_plan_touched, controller_install_act, controller_kept_plans_from, controller_settling_acts, controller_submit_acts, controller_switches_by_record}
 use Rattle.controller.proofs.ControllerNewestPolicy.{newest_added}
 use Rattle.controller.proofs.ControllerKeptVersions.{IsWhole, whole_more, stays_more}
 use Rattle.controller.proofs.controller.Controller.add.Goals as goal
 use Rattle.controller.proofs.controller.Controller.add.Goals.{After-settle_controller_versions}
 
 -- the version that comes next
-abbrev Next : After-settle_controller_versions → ℕ → KeptPlan
+abbrev Next : After-settle_controller_versions → ℕ → ControllerKeptPlan
 Next c count = record { version = count + 1; plan = c.args.plan; touched = c.args.touched }
 
 next_is : (c : After-settle_controller_versions) → c.in_ok-version.version ≡ Next c c.self.inside.marks.count
@@ -49,7 +49,7 @@ returns-clause-newest c =
     let at = (goal.at.returns-clause-newest c).After-settle_controller_versions in
     let submits : ControllerSubmitsPlan old (Next at c.self.inside.marks.count) new = record {
       marks = (_, c.add_version-settled.ensures.settled);
-      plans = c.settle_controller_versions.ensures.versions ∙ ap (kept_plans_from marks.current) (pushed at);
+      plans = c.settle_controller_versions.ensures.versions ∙ ap (controller_kept_plans_from marks.current) (pushed at);
     } in
     newest_added old new (Next at c.self.inside.marks.count) c.self.invariant (whole at) refl submits
 
@@ -62,8 +62,8 @@ returns-clause-sends c =
       plans = c.settle_controller_versions.new.versions.items;
     } in
     c.from_items.ensures ∙ c.in_ok-settle_controller_versions.ensures.acts _ c.add_version-settled.ensures.settled
-    ∙ ap (λ l. l ++ controller_settling_acts (current_plan_touched new) (with_version old) new.marks)
-    (c.in_ok-acts.ensures ∙ ap (λ (version : KeptPlan). map (λ s. controller_install_act s (controller_recorded_boot old
+    ∙ ap (λ l. l ++ controller_settling_acts (controller_current_plan_touched new) (version_marks_with_version old) new.marks)
+    (c.in_ok-acts.ensures ∙ ap (λ (version : ControllerKeptPlan). map (λ s. controller_install_act s (controller_recorded_boot old
     s) version) (controller_switches_by_record (λ known. not (is_over known.phase)) old.switches)) (next_is at))
     ∙ ap (λ (value : ControllerValue). controller_submit_acts value.marks (Next at value.marks.count) new)
     c.self.view_is

@@ -2,7 +2,7 @@
 use Rattle.std.proofs.Common.{◌-◌, ◌∙◌, ◌≡◌, ◌≤◌, Some, ap, arith, get_or, subst, sym}
 use Rattle.base.proofs.Exports.{IfOk-weaker}
 use Rattle.switch_table.specs.Exports.{AreSoundSwitchTables}
-use Rattle.controller.specs.Exports.{ControllerValue, KeptPlan, kept_plan_tables}
+use Rattle.controller.specs.Exports.{ControllerValue, ControllerKeptPlan, controller_kept_plan_tables}
 use Rattle.controller.proofs.ControllerKeptPlans.{kept_sound, kept_tables_are, kept_there}
 use Rattle.controller.proofs.controller.Controller.tables.Goals as goal
 use Rattle.controller.proofs.controller.Controller.tables.Goals.{After-tables}
@@ -36,7 +36,7 @@ returns-clause-tables c =
     let own : ControllerValue =
     record { marks = c.self.inside.marks; plans = c.self.inside.versions.items } in
     IfOk-weaker c.tables.result _ _
-    (λ tables is. ap (λ w. kept_plan_tables w c.args.version c.args.s) (sym c.self.view_is)
+    (λ tables is. ap (λ w. controller_kept_plan_tables w c.args.version c.args.s) (sym c.self.view_is)
     ∙ (kept_tables_are own c.self.invariant c.args.version (first c) (last c) c.index.result.now
     c.args.s (kept_is c)) ∙ ap Some (sym is)) c.tables.ensures
 
@@ -44,7 +44,7 @@ pub returns-clause-sound : goal.returns-clause-sound
 returns-clause-sound c =
     let own : ControllerValue =
     record { marks = c.self.inside.marks; plans = c.self.inside.versions.items } in
-    let kept : KeptPlan = c.index.result.now in
+    let kept : ControllerKeptPlan = c.index.result.now in
     let is = kept_sound own c.self.invariant c.args.version (first c) (last c) kept (kept_is c) in
     IfOk-weaker c.tables.result _ _ (λ tables same. subst AreSoundSwitchTables (sym same)
     (c.tables_laws.ensures.sound kept.plan.policy kept.plan.hosted kept.version c.args.s is.sound

@@ -1,5 +1,5 @@
 use Rattle.std.proofs.Common.{◌∙◌, ap, map, zip}
-use Rattle.switch_table.specs.Exports.{part_of}
+use Rattle.switch_table.specs.Exports.{switch_table_part_of}
 use Rattle.controller.proofs.ControllerCompiledPlans.{retargeted_leads, retargeted_sound}
 use Rattle.controller.proofs.plan.Plan.with_targets.Goals as goal
 
@@ -16,8 +16,8 @@ new-requires-clause-sound c = rw (
 
 pub returns-clause-hosted : goal.returns-clause-hosted
 returns-clause-hosted c = c.in_ok-plan.ensures.hosted ∙ ap (λ parts. zip parts c.deref.result.now)
-    (c.in_ok-parts.ensures ∙ ap (map part_of) c.hosted.ensures.hosted)
-    ∙ ap (zip (map part_of c.args.self.hosted)) c.deref.ensures.value
+    (c.in_ok-parts.ensures ∙ ap (map switch_table_part_of) c.hosted.ensures.hosted)
+    ∙ ap (zip (map switch_table_part_of c.args.self.hosted)) c.deref.ensures.value
 
 pub returns-clause-leads : goal.returns-clause-leads
 returns-clause-leads c = λ some. rw (returns-clause-hosted c) (retargeted_leads c.args.self.policy

@@ -1,5 +1,5 @@
 use Rattle.std.proofs.Common.{◌-◌, arith, drop}
-use Rattle.cut_tree.specs.Exports.{count_by}
+use Rattle.cut_tree.specs.Exports.{cut_count_by}
 use Rattle.cut_tree.proofs.CutLeastCounts.{chosen_at, least_fewer, least_same, least_start}
 use Rattle.cut_tree.proofs.counters.CutCounters.least.Goals as goal
 
@@ -19,8 +19,8 @@ loop-place-preserved-then-fewer-ne0 c =
       within = omega arith;
       some = c.if-fewer-ne0.true;
       least = least_fewer c.args.bits c.loop-place.least _
-          (count_by (drop next own) (drop next others) c.args.which)
-          (count_by (drop (next - 1) own) (drop (next - 1) others) c.args.which)
+          (cut_count_by (drop next own) (drop next others) c.args.which)
+          (cut_count_by (drop (next - 1) own) (drop (next - 1) others) c.args.which)
           (λ bit. chosen_at own others (next - 1) next c.args.which bit (omega arith) (omega arith)
           (omega arith)) c.loop-place.invariant.least (omega (arith, c.loop-place.auto.least-fits))
           c.if-fewer-ne0.true;
@@ -34,8 +34,8 @@ loop-place-preserved c =
       within = omega arith;
       some = c.loop-place.invariant.some;
       least = least_same c.args.bits c.loop-place.least _
-          (count_by (drop next own) (drop next others) c.args.which)
-          (count_by (drop (next - 1) own) (drop (next - 1) others) c.args.which)
+          (cut_count_by (drop next own) (drop next others) c.args.which)
+          (cut_count_by (drop (next - 1) own) (drop (next - 1) others) c.args.which)
           (λ bit. chosen_at own others (next - 1) next c.args.which bit (omega arith) (omega arith)
           (omega arith)) c.loop-place.invariant.least c.if-fewer-ne0.false;
     }

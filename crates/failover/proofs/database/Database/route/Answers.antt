@@ -1,11 +1,11 @@
 use Rattle.std.proofs.Common.{◌∙◌, ap}
-use Rattle.failover.specs.Exports.{first_route, known_links, advertised_links_of_each, route_of}
+use Rattle.failover.specs.Exports.{first_route, failover_known_links, advertised_links_of_each, route_of}
 use Rattle.failover.proofs.FailoverKnownLinks.{named_links_held}
 use Rattle.failover.proofs.RouteSearch.{known_route_is_route, route_is_list}
 use Rattle.failover.proofs.database.Database.route.Goals as goal
 
 pub returns-clause-value : goal.returns-clause-value
-unfolding route_of known_links advertised_links_of_each
+unfolding route_of failover_known_links advertised_links_of_each
 returns-clause-value c = c.first_route.ensures ∙ ap (λ targets. first_route
     (advertised_links_of_each c.set_own_link_state.new.neighbours c.args.down.now) c.args.from targets)
     c.items.ensures.list ∙ ap (λ neighbours. first_route (advertised_links_of_each neighbours c.args.down.now)

@@ -1,4 +1,4 @@
-use Rattle.failover.proofs.FailoverLinkSets.{with_link_is_link_set, with_link-rows, has_route_link-with_link}
+use Rattle.failover.proofs.FailoverLinkSets.{with_link_is_link_set, with_link-rows, link_set_has-with_link}
 use Rattle.failover.proofs.down_set.DownSet.add.Goals as goal
 
 pub invariant_of-self : goal.invariant_of-self
@@ -12,5 +12,5 @@ returns-clause-value c = rw (← c.self.view_is) (with_link-rows _ c.args.one c.
 
 pub returns-clause-links : goal.returns-clause-links
 returns-clause-links c = rw (returns-clause-value c)
-    (rw (← c.self.view_is) (λ x y. has_route_link-with_link _ c.args.one c.args.two x y c.self.invariant
+    (rw (← c.self.view_is) (λ x y. link_set_has-with_link _ c.args.one c.args.two x y c.self.invariant
     c.requires.first c.requires.second))

@@ -2,7 +2,7 @@ use Rattle.std.proofs.Common.{◌∙◌, Some, ap, arith}
 use Rattle.base.proofs.Exports.{common_steps}
 use Rattle.message_bag.proofs.BagNumberedPosts.{last_numbered}
 use Rattle.message_bag.proofs.BagRepeatedMessages.{all_same, one_set}
-use Rattle.message_bag.specs.Exports.{posted_frames}
+use Rattle.message_bag.specs.Exports.{bag_posted_frames}
 use Rattle.message_bag.proofs.sharing_bag.SharingBag.post_advert.Goals as goal
 
 pub post_new_bag_advert-requires-clause-adverts : goal.post_new_bag_advert-requires-clause-adverts
@@ -16,4 +16,4 @@ pub invariant_of-self-2 : goal.invariant_of-self-2
 invariant_of-self-2 c =
     one_set c.post_new_bag_advert.new.bag c.post_new_bag_advert.new.adverts.items c.args.place _ c.post_new_bag_advert.ensures.adverts
     (last_numbered _ c.self.inside.bag _ c.in_ok-number.number c.in_ok-number.ensures.posted
-    ∙ ap (λ m. Some (posted_frames m)) (grind (arith, common_steps)))
+    ∙ ap (λ m. Some (bag_posted_frames m)) (grind (arith, common_steps)))

@@ -4,7 +4,7 @@ use Rattle.switch_table.specs.declared.tables.Tables.{Tables}
 use Rattle.message_bag.specs.Exports.{AreBagFramesOfMessage, bag_table_frames}
 use Rattle.message_bag.proofs.BagMessagesOut.{rest_is}
 use Rattle.message_bag.proofs.BagInstallationFrames.{again_installed, has_front, long_installed}
-use Rattle.wire.specs.Exports.{AreFrames}
+use Rattle.wire.specs.Exports.{AreWireFrames}
 use Rattle.message_bag.proofs.tables.BagTableFrames.message.Goals as goal
 use Rattle.message_bag.proofs.tables.BagTableFrames.message.Goals.{In_ok-tables}
 
@@ -32,11 +32,11 @@ returns c =
     let start = (goal.at.returns c).In_ok-tables in
     let first = c.args.first.now in
     let t = c.self.inside.said in
-    subst (λ (frames : List (List ℕ)). AreFrames (record {
+    subst (λ (frames : List (List ℕ)). AreWireFrames (record {
       to = c.in_ok-to.to;
       body = Install c.in_ok-to.boot c.in_ok-tables.tables;
     }) (first ∷ frames)) (sym (others start))
-    (subst (λ (u : Tables). AreFrames (record {
+    (subst (λ (u : Tables). AreWireFrames (record {
       to = c.in_ok-to.to;
       body = Install c.in_ok-to.boot u;
     }) (first ∷ bag_table_frames t)) (sym c.in_ok-tables.ensures.cases)

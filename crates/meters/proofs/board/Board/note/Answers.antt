@@ -1,5 +1,5 @@
 use Rattle.std.proofs.Common.{[], ◌++◌, ◌<◌, ◌∙◌, ◌∷◌, ◌≡◌, ap, append-nil, drop, flat_map, get_or-set_same, length, map, rules, sym}
-use Rattle.meters.specs.Exports.{meter_flow_records_of, leaving_records, meters_after}
+use Rattle.meters.specs.Exports.{meter_flow_records_of, meter_leaving_records, meters_after}
 use Rattle.meters.proofs.MetersKept.{after_stay, after_leave, after_all}
 use Rattle.meters.proofs.MeterRecords.{board_on, told_all, told_leave, told_stay}
 use Rattle.meters.proofs.board.Board.note.Goals as goal
@@ -18,7 +18,7 @@ loop-at-preserved-in-Stay g c = record {
 
 -- the records of the meter that leaves
 its_records : (g : Over) (c : goal.After-drop-meter-in-Leave g)
-    → leaving_records (c.args.port, c.args.leaving.now) (g.M.Meter.seen c.index_mut.result.now)
+    → meter_leaving_records (c.args.port, c.args.leaving.now) (g.M.Meter.seen c.index_mut.result.now)
     ≡ c.in_ok-records-in-Leave.field-0
 its_records g c =
     let within : c.loop-at.at < length c.loop-at.self-inside.meters.items = search rules in
@@ -38,7 +38,7 @@ loop-at-preserved g c = record {
       c.loop-at.self-inside.gone c.in_ok-records-in-Leave.field-0 c.loop-at.self-inside.meters.items
       c.remove-meter.new.self.items c.loop-at.at c.index_mut.result.now c.offer_leaving.new.meter
       (search rules) (sym c.index_mut.ensures.value) (its_records g c) c.remove-meter.ensures.items
-      ∙ ap (λ gone. gone ++ flat_map (leaving_records (c.args.port, c.args.leaving.now))
+      ∙ ap (λ gone. gone ++ flat_map (meter_leaving_records (c.args.port, c.args.leaving.now))
       (map g.M.Meter.seen (drop c.loop-at.at c.remove-meter.new.self.items)))
       (sym c.in_ok-append-in-Leave.ensures);
 }
@@ -53,7 +53,7 @@ noted g c =
 
 -- and those that left have told
 told : (g : Over) (c : goal.After-loop-at g) → c.loop-at.self-inside.gone
-    ≡ c.args.self.now.gone ++ flat_map (leaving_records (c.args.port, c.args.leaving.now))
+    ≡ c.args.self.now.gone ++ flat_map (meter_leaving_records (c.args.port, c.args.leaving.now))
     (map g.M.Meter.seen c.args.self.now.meters)
 told g c = sym (c.loop-at.invariant.told ∙ told_all g.M.Meter.seen (c.args.port, c.args.leaving.now)
     c.loop-at.self-inside.gone c.loop-at.self-inside.meters.items c.loop-at.at (search rules))

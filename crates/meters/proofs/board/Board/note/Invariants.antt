@@ -1,5 +1,5 @@
 use Rattle.std.proofs.Common.{[], ◌++◌, ◌-◌, ◌∷◌, ◌≡◌, drop, flat_map, length, map, take}
-use Rattle.meters.specs.Exports.{leaving_records, meters_after}
+use Rattle.meters.specs.Exports.{meter_leaving_records, meters_after}
 use Rattle.meters.proofs.board.Board.note.Given as goal
 
 abbrev pub invariant-loop-at : goal.invariant-loop-at
@@ -8,8 +8,8 @@ invariant-loop-at g l = record {
       ≡ map g.M.Meter.seen (take l.at l.self-inside.meters.items) ++ meters_after
       ((l.port, l.leaving) ∷ []) (map g.M.Meter.seen (drop l.at l.self-inside.meters.items));
   told : l.fn.self.gone
-      ++ flat_map (leaving_records (l.port, l.leaving)) (map g.M.Meter.seen l.fn.self.meters)
-      ≡ l.self-inside.gone ++ flat_map (leaving_records (l.port, l.leaving))
+      ++ flat_map (meter_leaving_records (l.port, l.leaving)) (map g.M.Meter.seen l.fn.self.meters)
+      ≡ l.self-inside.gone ++ flat_map (meter_leaving_records (l.port, l.leaving))
       (map g.M.Meter.seen (drop l.at l.self-inside.meters.items));
 }
 

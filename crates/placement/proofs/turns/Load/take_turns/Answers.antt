@@ -1,6 +1,6 @@
 use Rattle.std.proofs.Common.{[], ◌+◌, ◌<◌, ◌∙◌, ◌∷◌, ◌≡◌, All, AllPairs, List, ap, arith, cond, drop, eqb, get_or, get_or-take, length, length-take, refl, rules, subst, sym, take, ℕ}
 use Rattle.base.proofs.Exports.{drop_all, drop_more, list_any, take_more}
-use Rattle.placement.specs.Placement.{AreLightestSwitches, placement_loaded_by, placement_turn_rule}
+use Rattle.placement.specs.Placement.{AreLightestPlacementSwitches, placement_loaded_by, placement_turn_rule}
 use Rattle.placement.specs.declared.turns.Load.{Load}
 use Rattle.placement.specs.declared.turns.Load.TheVariants as load
 use Rattle.placement.proofs.PlacementFirsts.{fewer_in_order, first_distinct, first_of_order, first_room, first_there, none_of, order_along}
@@ -63,7 +63,7 @@ returns-in_default-clause-refused c =
 -- the targets of this turn
 first_of : (c : After-items) → let held : ℕ → ℕ = λ s. get_or c.loop-partition.held.items s 0 in
     let load : ℕ → ℕ = λ s. get_or c.loop-partition.loads.items s 0 in
-    AreLightestSwitches held load c.args.rooms.now c.placement_number_at-size.result (1 + c.args.backups)
+    AreLightestPlacementSwitches held load c.args.rooms.now c.placement_number_at-size.result (1 + c.args.backups)
     c.in-Some.targets
 first_of c = first_of_order _ _ c.args.rooms.now c.placement_number_at-size.result
     (1 + c.args.backups) c.deref-in-loop-partition-2.result.now c.in-Some.targets (order_along _ _ _
@@ -144,9 +144,9 @@ loop-partition-preserved c =
     let sizes = c.args.sizes.now in
     let keys = c.args.keys.now in
     let p = get_or order k 0 in
-    let first : AreLightestSwitches (λ s. get_or held s 0) (λ s. get_or loads s 0) c.args.rooms.now
+    let first : AreLightestPlacementSwitches (λ s. get_or held s 0) (λ s. get_or loads s 0) c.args.rooms.now
     (get_or sizes p 0) (1 + c.args.backups) c.in-Some.targets =
-    subst (λ size. AreLightestSwitches (λ s. get_or held s 0) (λ s. get_or loads s 0) c.args.rooms.now size
+    subst (λ size. AreLightestPlacementSwitches (λ s. get_or held s 0) (λ s. get_or loads s 0) c.args.rooms.now size
     (1 + c.args.backups) c.in-Some.targets) c.placement_number_at-size.ensures
     (first_of (goal.at.loop-partition-preserved c).After-items) in
     let added : (s : ℕ) → get_or c.add_switch_load.new.loads s 0 ≡ get_or held s 0 + cond

@@ -1,5 +1,5 @@
 use Rattle.std.proofs.Common.{◌∙◌, ap, sym}
-use Rattle.failover.specs.Exports.{no_links}
+use Rattle.failover.specs.Exports.{no_failover_links}
 use Rattle.switch_core.specs.Exports.{SwitchValue, switch_incoming_packet}
 use Rattle.switch_core.proofs.SwitchAdmissions.{not_admitted, was_admitted}
 use Rattle.switch_core.proofs.SwitchLookupAnswers.{entry_uncached}
@@ -18,7 +18,7 @@ pub returns-clause-answer : goal.returns-clause-answer
 returns-clause-answer c = λ site number. was_admitted c.args.self.now c.count-2.new.self site number
     c.args.h.now c.look_up-forwarding.result c.self.inside.number c.count-2.ensures
     (sym c.serves.ensures ∙ c.if-not-serves.false) (ap (λ (s : SwitchValue). s.number)
-    c.self.view_is) (c.look_up-forwarding.ensures site number no_links)
+    c.self.view_is) (c.look_up-forwarding.ensures site number no_failover_links)
 
 pub returns-clause-uncached : goal.returns-clause-uncached
 returns-clause-uncached c = λ site number. entry_uncached c.args.self.now site number c.args.h.now

@@ -1,5 +1,5 @@
 use Rattle.std.proofs.Common.{◌∙◌, ◌≡◌, ap, rules}
-use Rattle.switch_core.specs.Exports.{Moved, switch_hop_answer, switch_rerouted_here}
+use Rattle.switch_core.specs.Exports.{SwitchPacketMoved, switch_hop_answer, switch_rerouted_here}
 use Rattle.tunnel.specs.Exports.{tunnel_marked_down}
 use Rattle.switch_core.proofs.SwitchOnwardHops.{hop_down, is_down}
 use Rattle.switch_core.proofs.switch.Switch.hop.Goals as goal
@@ -10,7 +10,7 @@ rerouted : (c : After-reroute) → switch_rerouted_here c.pass.new.self c.args.n
 rerouted c = search (rules, is_down, hop_down)
 
 pub returns-in-LinkDown-clause-end : goal.returns-in-LinkDown-clause-end
-returns-in-LinkDown-clause-end c = c.reroute.ensures.end ∙ ap (λ (m : Moved). m.end) (rerouted c)
+returns-in-LinkDown-clause-end c = c.reroute.ensures.end ∙ ap (λ (m : SwitchPacketMoved). m.end) (rerouted c)
 
 pub returns-in-LinkDown-clause-tunnel : goal.returns-in-LinkDown-clause-tunnel
 returns-in-LinkDown-clause-tunnel c = cc (c.reroute.ensures.tunnel, rerouted c)

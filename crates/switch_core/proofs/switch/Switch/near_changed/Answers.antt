@@ -1,5 +1,5 @@
 use Rattle.std.proofs.Common.{◌+◌, ◌≡◌, true}
-use Rattle.failover.specs.Exports.{is_news}
+use Rattle.failover.specs.Exports.{is_advert_news}
 use Rattle.failover.proofs.FailoverHeldAdverts.{after_news}
 use Rattle.switch_core.specs.Exports.{own_advert}
 use Rattle.switch_core.proofs.SwitchOwnAdverts.{next_is_news, own_next}
@@ -9,7 +9,7 @@ pub invariant_of-self : goal.invariant_of-self
 invariant_of-self c =
     let s = c.self.inside in
     let advert = own_advert s.number s.boot (s.seq + 1) c.args.near in
-    let news : is_news s.database advert ≡ true = next_is_news s.database s.number s.boot s.seq
+    let news : is_advert_news s.database advert ≡ true = next_is_news s.database s.number s.boot s.seq
     c.args.near c.self.invariant.number c.self.invariant.own in record {
       number = c.self.invariant.number;
       sound = c.self.invariant.sound;
@@ -21,6 +21,6 @@ pub returns-clause-after : goal.returns-clause-after
 returns-clause-after c =
     let s = c.self.inside in
     let advert = own_advert s.number s.boot (s.seq + 1) c.args.near in
-    let news : is_news s.database advert ≡ true = next_is_news s.database s.number s.boot s.seq
+    let news : is_advert_news s.database advert ≡ true = next_is_news s.database s.number s.boot s.seq
     c.args.near c.self.invariant.number c.self.invariant.own in
     rw (← c.self.view_is, c.hear.ensures.after, after_news s.database advert news)

@@ -1,5 +1,5 @@
 use Rattle.std.proofs.Common.{[], ◌++◌, ◌∙◌, ◌∷◌, ◌≡◌, ap, append_assoc, filter_map, subst, sym}
-use Rattle.switch_table.specs.Exports.{IsCache, cache_after_accept, carried_entry}
+use Rattle.switch_table.specs.Exports.{IsCache, cache_after_accept, carried_cache_entry}
 use Rattle.switch_table.proofs.CacheCarryLemmas.{cache_carried, left_in, left_out}
 use Rattle.switch_table.proofs.cache.Cache.carried.Goals as goal
 use Rattle.switch_table.proofs.cache.Cache.carried.Goals.{After-carried_entry}
@@ -18,7 +18,7 @@ pub loop-entry-preserved-in-Continue-1 : goal.loop-entry-preserved-in-Continue-1
 loop-entry-preserved-in-Continue-1 c =
     let here = (goal.at.loop-entry-preserved-in-Continue-1 c).After-carried_entry in
     let cache = c.args.self.now in
-    let left = carried_entry c.args.version c.args.touched.now cache.entries in
+    let left = carried_cache_entry c.args.version c.args.touched.now cache.entries in
     let is = subst (λ xs. IsCache (record {
       entries = filter_map left xs;
       capacity = cache.capacity;
@@ -33,7 +33,7 @@ loop-entry-preserved-in-Continue-1 c =
 
 pub loop-entry-preserved : goal.loop-entry-preserved
 loop-entry-preserved c =
-    let left = left_out (carried_entry c.args.version c.args.touched.now c.args.self.now.entries)
+    let left = left_out (carried_cache_entry c.args.version c.args.touched.now c.args.self.now.entries)
     c.loop-entry.yielded c.in-Some.entry (sym c.carried_entry.ensures ∙ c.in_default.is) in (
       c.loop-entry.invariant.0
           ∙ (λ i. record { entries = left i; capacity = c.args.self.now.capacity }),

@@ -1,5 +1,5 @@
 use Rattle.std.proofs.Common.{◌-◌, ◌<◌, ◌∙◌, ◌≡◌, ap, arith, filter_map, subst, sym, rules}
-use Rattle.switch_table.specs.Exports.{CacheKeysHaveVersions, HoldsEntries, cache_after_carry, carried_entry, kept_entries}
+use Rattle.switch_table.specs.Exports.{CacheKeysHaveVersions, CacheHoldsEntries, cache_after_carry, carried_cache_entry, kept_cache_entries}
 use Rattle.switch_table.proofs.CacheCarryLemmas.{left_few}
 use Rattle.switch_table.proofs.CacheCarryShift.{below_newest, carried_pairs, masked_carried, pairs_over, up_to_carried, versions_over}
 use Rattle.switch_table.proofs.CachePairs.{holds_of}
@@ -14,9 +14,9 @@ kept c = search rules
 some : (c : After-keep_carried) → 0 < c.self.inside.shift
 some c = omega (arith, c.self.invariant.falls, c.if-self-version.true, c.ranges.version.fits)
 
-gone_over : (c : After-keep_carried) → let entries = kept_entries c.self.inside.shift c.self.inside.slots in
-    kept_entries (c.self.inside.shift - 1) c.keep_carried.new.self
-    ≡ filter_map (carried_entry c.args.version c.args.touched.now entries) entries
+gone_over : (c : After-keep_carried) → let entries = kept_cache_entries c.self.inside.shift c.self.inside.slots in
+    kept_cache_entries (c.self.inside.shift - 1) c.keep_carried.new.self
+    ≡ filter_map (carried_cache_entry c.args.version c.args.touched.now entries) entries
 gone_over c = search (rules, below_newest, carried_pairs)
 
 pub invariant_of-self : goal.invariant_of-self
@@ -25,8 +25,8 @@ invariant_of-self c =
     let shift = c.self.inside.shift in
     let version = c.args.version in
     let touched = c.args.touched.now in
-    let entries = kept_entries shift c.self.inside.slots in
-    subst (λ masks. HoldsEntries masks (shift - 1) version c.self.inside.capacity
+    let entries = kept_cache_entries shift c.self.inside.slots in
+    subst (λ masks. CacheHoldsEntries masks (shift - 1) version c.self.inside.capacity
     c.keep_carried.new.self) (sym c.wait_for.ensures)
     (holds_of c.self.inside.masks (shift - 1) version c.self.inside.capacity c.keep_carried.new.self
     _ (omega (arith, c.self.invariant.fits))

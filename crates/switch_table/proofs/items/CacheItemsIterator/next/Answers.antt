@@ -1,9 +1,9 @@
 use Rattle.std.proofs.Common.{◌+◌, ◌<◌, ◌^◌, ◌≤◌, subst, ℕ}
 use Rattle.base.proofs.Exports.{All-head, All-tail}
-use Rattle.switch_table.specs.Exports.{CacheKeysHaveVersions, Pair}
+use Rattle.switch_table.specs.Exports.{CacheKeysHaveVersions, KeyedCacheEntry}
 use Rattle.switch_table.proofs.items.CacheItemsIterator.next.Goals as goal
 
-abbrev IsVersioned : ℕ → Pair → Type 0
+abbrev IsVersioned : ℕ → KeyedCacheEntry → Type 0
 IsVersioned shift pair = (shift ≤ pair.0.number) × (pair.0.number < shift + 2 ^ 32)
 
 pub of-requires : goal.of-requires

@@ -1,6 +1,6 @@
 use Rattle.std.proofs.Common.{◌∙◌, ap, arith, find, min, sym, take_all}
 use Rattle.base.proofs.Exports.{place_none, position_or_len}
-use Rattle.switch_table.specs.Exports.{Pair, is_cache_key_hit}
+use Rattle.switch_table.specs.Exports.{KeyedCacheEntry, is_cache_key_hit}
 use Rattle.switch_table.proofs.CacheSlotHits.{hit_at, hit_live, hit_more}
 use Rattle.switch_table.proofs.slots.CacheSlots.first_hit.Goals as goal
 
@@ -21,4 +21,4 @@ returns c =
     ∙ hit_at (is_cache_key_hit c.args.number c.args.header masks) slots c.loop-mask.least
     (c.loop-mask.invariant ∙ ap (λ ms. position_or_len (hit_live c.args.number c.args.header ms)
     slots) (take_all c.loop-mask.mask-index masks (omega (arith, c.loop-mask-test.false))))
-    ∙ ap (find (λ (pair : Pair). is_cache_key_hit c.args.number c.args.header masks pair.0)) c.self.view_is
+    ∙ ap (find (λ (pair : KeyedCacheEntry). is_cache_key_hit c.args.number c.args.header masks pair.0)) c.self.view_is

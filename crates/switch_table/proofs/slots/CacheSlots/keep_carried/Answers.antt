@@ -1,6 +1,6 @@
 use Rattle.std.proofs.Common.{◌∙◌, ◌≡◌, ap, filter, rules}
 use Rattle.indexmap.proofs.CallerLemmas.{filter-RetainsPairs}
-use Rattle.switch_table.specs.Exports.{Pair, is_carried_cache_key, live_cache_pairs}
+use Rattle.switch_table.specs.Exports.{KeyedCacheEntry, is_carried_cache_key, live_cache_pairs}
 use Rattle.switch_table.proofs.CacheSlotRemovals.{is_kept, kept_pairs, kept_slots}
 use Rattle.switch_table.proofs.slots.CacheSlots.keep_carried.Goals as goal
 use Rattle.switch_table.proofs.slots.CacheSlots.keep_carried.Goals.{After-retain}
@@ -18,5 +18,5 @@ invariant_of-self c = kept_slots (is_carried_cache_key c.args.number c.args.touc
 pub returns : goal.returns
 returns c = ap live_cache_pairs (kept (goal.at.returns c).After-retain)
     ∙ kept_pairs (is_carried_cache_key c.args.number c.args.touched.now) c.self.inside.map.entries
-    ∙ ap (filter (λ (pair : Pair). is_carried_cache_key c.args.number c.args.touched.now pair.0))
+    ∙ ap (filter (λ (pair : KeyedCacheEntry). is_carried_cache_key c.args.number c.args.touched.now pair.0))
     c.self.view_is

@@ -1,6 +1,6 @@
 use Rattle.std.proofs.Common.{◌∙◌, ◌≡◌, ap, filter, leb, rules}
 use Rattle.indexmap.proofs.CallerLemmas.{filter-RetainsPairs}
-use Rattle.switch_table.specs.Exports.{Pair, live_cache_pairs}
+use Rattle.switch_table.specs.Exports.{KeyedCacheEntry, live_cache_pairs}
 use Rattle.switch_table.specs.declared.key.CacheKey.{CacheKey}
 use Rattle.switch_table.proofs.CacheSlotRemovals.{is_kept, kept_pairs, kept_slots}
 use Rattle.switch_table.proofs.slots.CacheSlots.keep_from.Goals as goal
@@ -19,4 +19,4 @@ invariant_of-self c = kept_slots (λ (key : CacheKey). leb c.args.number key.num
 pub returns : goal.returns
 returns c = ap live_cache_pairs (kept (goal.at.returns c).After-retain)
     ∙ kept_pairs (λ (key : CacheKey). leb c.args.number key.number) c.self.inside.map.entries
-    ∙ ap (filter (λ (pair : Pair). leb c.args.number pair.0.number)) c.self.view_is
+    ∙ ap (filter (λ (pair : KeyedCacheEntry). leb c.args.number pair.0.number)) c.self.view_is

@@ -1,7 +1,7 @@
 use Rattle.std.proofs.Common.{[], ◌++◌, ◌∙◌, ◌∷◌, ◌≡◌, List, ap, length, subst, sym, true, rules}
 use Rattle.base.proofs.Exports.{length-map}
 use Rattle.indexmap.proofs.CallerLemmas.{insert_entry-new}
-use Rattle.switch_table.specs.Exports.{AreCacheSlots, SlotPair, equal_cache_keys, cache_live_flags_of, is_live, live_cache_pairs}
+use Rattle.switch_table.specs.Exports.{AreCacheSlots, SlotPair, equal_cache_keys, cache_live_flags_of, is_live_cache_slot, live_cache_pairs}
 use Rattle.switch_table.proofs.CacheSlotPushes.{pushed_pairs, pushed_slots, with_counts}
 use Rattle.switch_table.proofs.slots.CacheSlots.push.Goals as goal
 use Rattle.switch_table.proofs.slots.CacheSlots.push.Goals.{In_ok-insert}
@@ -34,7 +34,7 @@ invariant_of-self-2 c =
     (sym (added (goal.at.invariant_of-self-2 c).In_ok-insert))
     (pushed_slots _ _ _ _ _ _ are
     (c.add.ensures (cache_live_flags_of slots) (c.in_ok-make_room.ensures.kept (cache_live_flags_of slots) are.counted)
-    (ap length c.in_ok-release_switch_cache_key.ensures.flags ∙ length-map c.self.inside.map.entries is_live
+    (ap length c.in_ok-release_switch_cache_key.ensures.flags ∙ length-map c.self.inside.map.entries is_live_cache_slot
     ∙ sym c.len-place.ensures.len)) c.requires.fits)
 
 pub returns-clause-ok : goal.returns-clause-ok

@@ -1,5 +1,5 @@
 use Rattle.std.proofs.Common.{◌∙◌, ◌≡◌, ap, arith, inl, inr, length, refl, remove, slice_get, subst, sym}
-use Rattle.switch_table.specs.Exports.{AreCacheSlotsNamed, AreCacheSlots, is_live, live_cache_pairs}
+use Rattle.switch_table.specs.Exports.{AreCacheSlotsNamed, AreCacheSlots, is_live_cache_slot, live_cache_pairs}
 use Rattle.switch_table.proofs.CacheSlotKeys.{named_kept}
 use Rattle.switch_table.proofs.CacheSlotPushes.{count_live, swept_pairs, swept_slots}
 use Rattle.switch_table.proofs.CacheSlotRemovals.{all_fit, nth_killed, nth_pair, slots_killed}
@@ -64,7 +64,7 @@ pub invariant_of-self : goal.invariant_of-self
 invariant_of-self c = let are = left (goal.at.invariant_of-self c).After-all in
     swept_slots c.sweep_dead_cache_slots.new.live c.sweep_dead_cache_slots.new.map.entries c.sweep_dead_cache_slots.ensures.counts
     (subst (AreCacheSlotsNamed 0) (sym c.sweep_dead_cache_slots.ensures.slots)
-    (named_kept is_live (λ slot is. is) 0 0 c.if-place-eq0.self-inside.map.entries are.named))
+    (named_kept is_live_cache_slot (λ slot is. is) 0 0 c.if-place-eq0.self-inside.map.entries are.named))
 
 pub invariant_of-self-else-len-all : goal.invariant_of-self-else-len-all
 invariant_of-self-else-len-all c = left (goal.at.invariant_of-self-else-len-all c).After-all

@@ -1,11 +1,11 @@
 use Rattle.std.proofs.Common.{◌<◌, ◌==◌, ◌∙◌, IsSomeAnd, IsTrue, List, ap, find, get_or, length, option_and_then, position, slice_get, subst, sym}
 use Rattle.policy_rules.specs.Exports.{is_in_policy_partition}
 use Rattle.policy_rules.specs.declared.rules.Partition.{Partition}
-use Rattle.switch_table.specs.Exports.{table_lookup}
+use Rattle.switch_table.specs.Exports.{switch_table_lookup}
 use Rattle.switch_table.specs.declared.search.Found.TheVariants.{Authority, Redirect}
 use Rattle.switch_table.specs.declared.tables.PartRow.{PartRow}
 use Rattle.switch_table.specs.declared.tables.Tables.{Tables}
-use Rattle.table_tree.specs.Finding.{FinderValue}
+use Rattle.table_tree.specs.Finding.{TableTreeFinderValue}
 use Rattle.table_tree.proofs.TableTreeFinder.{first_in, none_there, own_decides, own_has, place_is, place_within, row_decides}
 use Rattle.table_tree.proofs.finder.Finder.table_lookup.Goals as goal
 
@@ -18,7 +18,7 @@ first_at-requires c =
     c.end_of-place.ensures in
     let there = sym (c.in-Some.ensures ∙ ap (position (λ (p : Partition). p.number == place))
     (c.items.ensures ∙ ap (λ (t : Tables). t.auth) c.deref-2.ensures)) in
-    subst (λ (v : FinderValue). IsSomeAnd (slice_get v.tables.auth c.in-Some.own)
+    subst (λ (v : TableTreeFinderValue). IsSomeAnd (slice_get v.tables.auth c.in-Some.own)
     (λ (part : Partition). IsTrue (is_in_policy_partition c.args.header.now part))) c.self.view_is
     (own_has tables c.args.header.now place c.in-Some.own c.self.invariant.sound
     c.number.ensures.header at there)
@@ -46,12 +46,12 @@ returns-in-Some c =
     c.end_of-place.ensures in
     let there = sym (c.in-Some.ensures ∙ ap (position (λ (p : Partition). p.number == place))
     (c.items.ensures ∙ ap (λ (t : Tables). t.auth) c.deref-2.ensures)) in
-    let first = c.first_at.ensures.place ∙ sym (ap (λ (v : FinderValue). option_and_then
+    let first = c.first_at.ensures.place ∙ sym (ap (λ (v : TableTreeFinderValue). option_and_then
     (first_in header) (slice_get v.tables.auth c.in-Some.own)) c.self.view_is) in
     ap (Authority place) c.unwrap_or.ensures
     ∙ own_decides tables header place c.in-Some.own c.first_at.result c.self.invariant.sound
     c.number.ensures.header at there first
-    ∙ ap (λ (v : FinderValue). table_lookup v.tables header) c.self.view_is
+    ∙ ap (λ (v : TableTreeFinderValue). switch_table_lookup v.tables header) c.self.view_is
 
 pub returns-in-None : goal.returns-in-None
 returns-in-None c =
@@ -68,4 +68,4 @@ returns-in-None c =
     ap (λ (rows : List PartRow). Redirect place (get_or rows place d).targets)
     (c.items-in-None.ensures ∙ ap (λ (t : Tables). t.parts) c.deref-in-None.ensures)
     ∙ row_decides tables header place d c.self.invariant.sound c.number.ensures.header at none
-    ∙ ap (λ (v : FinderValue). table_lookup v.tables header) c.self.view_is
+    ∙ ap (λ (v : TableTreeFinderValue). switch_table_lookup v.tables header) c.self.view_is

@@ -1,9 +1,9 @@
 use Rattle.std.proofs.Common.{◌∙◌, subst, sym}
-use Rattle.policy_rules.specs.Exports.{IsFirstMatch, IsPolicy}
+use Rattle.policy_rules.specs.Exports.{IsFirstPolicyMatch, IsPolicy}
 use Rattle.trace_audit.proofs.AuditIndexedRows.{best_first}
 use Rattle.trace_audit.proofs.index.IndexedAuditPolicy.first_match.Goals as goal
 
-indexed : (c : goal.After-best) → IsFirstMatch c.args.self.now c.args.header.now c.best.result
+indexed : (c : goal.After-best) → IsFirstPolicyMatch c.args.self.now c.args.header.now c.best.result
 indexed c =
     let header = c.args.header.now in
     let hit = c.best.result in
@@ -23,5 +23,5 @@ pub returns-in-None-clause-only : goal.returns-in-None-clause-only
 returns-in-None-clause-only c = λ hit first.
     let one = c.policy_laws.ensures.one c.args.self.now c.args.header.now in
     let policy = subst IsPolicy c.self.view_is c.rows-rows.ensures.policy in
-    one hit policy first ∙ sym (one c.scan.result policy (subst (λ xs. IsFirstMatch xs
+    one hit policy first ∙ sym (one c.scan.result policy (subst (λ xs. IsFirstPolicyMatch xs
     c.args.header.now c.scan.result) c.self.view_is c.scan.ensures.first_match))

@@ -1,6 +1,6 @@
 use Rattle.std.proofs.Common.{◌<◌, ◌∙◌, ◌≡◌, ◌≤◌, None, ap, arith, get_or-set_other, inl, inr, length, length-set, refl, ℕ}
 use Rattle.base.proofs.Exports.{cases_lt, get_or_past}
-use Rattle.travelling.specs.Travelling.{Flights, stands_at, flight}
+use Rattle.travelling.specs.Travelling.{TravellingFlights, travelling_stands_at, flight}
 use Rattle.travelling.proofs.TravellingMasks.{marked_on, room_on}
 use Rattle.travelling.proofs.travelling.Travelling.put.Goals.{then-self-len, else-self-len}
 use Rattle.travelling.proofs.travelling.Travelling.put.Goals as goal
@@ -25,7 +25,7 @@ invariant_of-self-in_err-make_traveller_slot c = record {
   marked = marked_on c.self.inside.slots.items c.make_traveller_slot.new.slots.items
       c.self.inside.by_switch c.make_bits.new.self c.self.invariant.marked
       c.make_traveller_slot.ensures.same c.make_bits.ensures.same;
-  below = λ i s past. ap (stands_at s) (c.make_traveller_slot.ensures.same i)
+  below = λ i s past. ap (travelling_stands_at s) (c.make_traveller_slot.ensures.same i)
       ∙ c.self.invariant.below i s past;
 }
 
@@ -36,7 +36,7 @@ set_packet_slot-requires-clause-marked c = marked_on c.self.inside.slots.items c
 
 pub set_packet_slot-requires-clause-below : goal.set_packet_slot-requires-clause-below
 set_packet_slot-requires-clause-below c = λ i s past.
-    ap (stands_at s) (c.make_traveller_slot.ensures.same i) ∙ c.self.invariant.below i s past
+    ap (travelling_stands_at s) (c.make_traveller_slot.ensures.same i) ∙ c.self.invariant.below i s past
 
 pub invariant_of-self-2 : goal.invariant_of-self-2
 invariant_of-self-2 c =
@@ -58,7 +58,7 @@ invariant_of-self-2 c =
     c.self.inside.by_switch c.make_bits.new.self c.args.packet c.self.invariant.room
     c.make_traveller_slot.ensures.few c.make_bits.ensures.grown c.in_ok-make_bits.ensures.room in record {
       few = omega (arith, c.make_traveller_slot.ensures.few, c.self.invariant.few, c.ranges.packet.fits);
-      none = λ i below. ap (λ (slots : Flights). flight slots i) c.set_packet_slot.ensures.slots
+      none = λ i below. ap (λ (slots : TravellingFlights). flight slots i) c.set_packet_slot.ensures.slots
           ∙ get_or-set_other c.make_traveller_slot.new.slots.items c.args.packet i _ None
           (λ e. absurd (omega arith)) ∙ c.make_traveller_slot.ensures.same i ∙ before i below;
       room = λ i below. omega (arith, all i (omega (arith, below, long)), c.set_packet_slot.ensures.room);

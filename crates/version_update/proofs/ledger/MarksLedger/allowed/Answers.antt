@@ -1,5 +1,5 @@
 use Rattle.std.proofs.Common.{◌∙◌, ◌≡◌, ◌≤◌, ap, arith, unwrap_or}
-use Rattle.version_update.specs.Exports.{MarksValue, acked_stamps, least_of_marks}
+use Rattle.version_update.specs.Exports.{MarksValue, update_acked_stamps, least_of_marks}
 use Rattle.version_update.proofs.VersionLeastStamp.{least_acked_stamp-version}
 use Rattle.version_update.proofs.ledger.MarksLedger.allowed.Goals as goal
 use Rattle.version_update.proofs.ledger.MarksLedger.allowed.Goals.{After-unwrap_or}
@@ -13,7 +13,7 @@ is_version c =
     let least = least_acked_stamp-version now.count now.current now.switches bounds.first bounds.last
     bounds.records in
     let current = ap (λ (v : MarksValue). v.current) c.self.view_is in
-    let same : c.unwrap_or.result ≡ unwrap_or (least_of_marks (acked_stamps now.switches)) now.current =
+    let same : c.unwrap_or.result ≡ unwrap_or (least_of_marks (update_acked_stamps now.switches)) now.current =
     c.unwrap_or.ensures ∙ cc (c.least_acked_stamp.ensures, c.switches.ensures.switches, current) in
     (omega (arith, least.0, same), omega (arith, least.1, same))
 

@@ -1,13 +1,13 @@
 use Rattle.std.proofs.Common.{◌∙◌, ◌≡◌, ◌≤◌, List, ap, replicate, take, ℕ}
 use Rattle.version_update.specs.declared.record.SwitchRecord.{SwitchRecord}
 use Rattle.base.proofs.Exports.{take-replicate}
-use Rattle.version_update.specs.Exports.{first_record}
+use Rattle.version_update.specs.Exports.{first_update_record}
 use Rattle.version_update.proofs.VersionOpenings.{first-bounded}
 use Rattle.version_update.proofs.ledger.MarksLedger.begin.Goals as goal
 
-firsts : (n : ℕ) (records : List SwitchRecord) → records ≡ replicate 64 first_record → n ≤ 64
-    → take n records ≡ replicate n first_record
-firsts n records all few = ap (take n) all ∙ take-replicate n 64 first_record few
+firsts : (n : ℕ) (records : List SwitchRecord) → records ≡ replicate 64 first_update_record → n ≤ 64
+    → take n records ≡ replicate n first_update_record
+firsts n records all few = ap (take n) all ∙ take-replicate n 64 first_update_record few
 
 pub invariant_of-result : goal.invariant_of-result
 invariant_of-result c = (

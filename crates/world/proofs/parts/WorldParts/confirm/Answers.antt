@@ -1,8 +1,8 @@
 use Rattle.std.proofs.Common.{◌∙◌, List, arith, refl, subst, sym}
-use Rattle.controller.specs.Exports.{ControllerValue, current_plan_touched, controller_settling_acts}
+use Rattle.controller.specs.Exports.{ControllerValue, controller_current_plan_touched, controller_settling_acts}
 use Rattle.controller.specs.declared.sends.Act.{Act}
 use Rattle.journal.specs.declared.item.Item.TheVariants as item
-use Rattle.version_update.specs.Exports.{mark_record_after_over, at_switch}
+use Rattle.version_update.specs.Exports.{mark_record_after_over, version_marks_with_switch_changed}
 use Rattle.world_log.specs.Exports.{LogMayNote}
 use Rattle.world.proofs.WorldStepClauses.{follows, goes_nothing, net_stays, none_in, nothing_goes}
 use Rattle.world.proofs.WorldActingSteps.{goes_acting}
@@ -47,8 +47,8 @@ pub returns : goal.returns
 returns c = λ before row begins. let s = c.args.switch in
     let ready = begins.ready in
     let new : ControllerValue = c.over.new.self in
-    let acts : List Act = controller_settling_acts (current_plan_touched new)
-    (at_switch s mark_record_after_over c.args.self.now.controller.marks) new.marks in
+    let acts : List Act = controller_settling_acts (controller_current_plan_touched new)
+    (version_marks_with_switch_changed s mark_record_after_over c.args.self.now.controller.marks) new.marks in
     let down = sym c.is_up.ensures ∙ c.if-is_up.false in
     let its = c.note_acts.ensures in
     goes_acting (item.OverNow s) acts c.into_items.result.items c.push-2.new.self begins

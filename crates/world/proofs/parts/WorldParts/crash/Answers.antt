@@ -1,14 +1,14 @@
 use Rattle.std.proofs.Common.{◌++◌, ◌+◌, ◌∙◌, ◌∷◌, ◌≡◌, List, ap, append_assoc, arith, length, length-set, map, refl, set, subst, sym, true}
 use Rattle.base.proofs.Exports.{on_err, on_err_weaker, on_ok_failed, on_ok_weaker, three_ok}
-use Rattle.message_bag.specs.Exports.{new_post}
+use Rattle.message_bag.specs.Exports.{new_bag_post}
 use Rattle.update_machine.specs.Exports.{Crash, Message, machine_sent_items_from}
 use Rattle.controller.specs.Exports.{controller_newest_policy}
 use Rattle.journal.specs.declared.item.Item.TheVariants as item
 use Rattle.switch_core.specs.Exports.{SwitchValue}
-use Rattle.world_log.specs.Exports.{IsLogPart, all_adverts_sent, logged_near_all}
+use Rattle.world_log.specs.Exports.{IsLogPart, log_all_adverts_sent, logged_near_all}
 use Rattle.world.specs.Exports.{world_setting_in, world_state_in}
 use Rattle.refinement.specs.Exports.{RefineJournal}
-use Rattle.travelling.specs.Travelling.{TravellingWithoutAt, numbers_at}
+use Rattle.travelling.specs.Travelling.{TravellingWithoutAt, travelling_numbers_at}
 use Rattle.refinement.proofs.RefinedCrashes.{crash_may, crash_next, crash_piece, crash_refines, same_switch, stays_down}
 use Rattle.world.proofs.WorldStepClauses.{follows, goes, goes_nothing, net_stays, nothing_goes}
 use Rattle.world.proofs.WorldActingSteps.{relinked_refines}
@@ -51,9 +51,9 @@ returns-in_err-lose_at c = λ before row begins. let self = c.args.self.now in
     let changed = c.crash.new.self in
     let within = switch_in s c.requires begins.ready.may in
     let others = set self.switches.items s changed in
-    let messages : List Message = all_adverts_sent self.near (logged_near_all self.links others) others in
+    let messages : List Message = log_all_adverts_sent self.near (logged_near_all self.links others) others in
     let sends = machine_sent_items_from (length self.log.bag + 1) messages in
-    let losses = map item.Lost (numbers_at self.log.travelling s) in
+    let losses = map item.Lost (travelling_numbers_at self.log.travelling s) in
     let r = c.from_residual-in_err-lose_at.result in
     let failed = c.from_residual-in_err-lose_at.ensures.0 in
     goes begins (follows begins refl refl refl) (item.Down s ∷ losses ++ sends)
@@ -98,9 +98,9 @@ returns c = λ before row begins. let self = c.args.self.now in
     let within = switch_in s c.requires ready.may in
     let is_up = was_up (goal.at.returns c).After-index_mut in
     let others = set self.switches.items s changed in
-    let messages : List Message = all_adverts_sent self.near (logged_near_all self.links others) others in
+    let messages : List Message = log_all_adverts_sent self.near (logged_near_all self.links others) others in
     let sends = machine_sent_items_from (length self.log.bag + 1) messages in
-    let losses = map item.Lost (numbers_at self.log.travelling s) in
+    let losses = map item.Lost (travelling_numbers_at self.log.travelling s) in
     let rest = c.change_links.ensures.rest in
     let down = c.push-2.new.self in
     let behind = c.lose_at.new.self in
@@ -120,11 +120,11 @@ returns c = λ before row begins. let self = c.args.self.now in
     part_of_rest down behind.journal losses sends new.log.journal c.in_ok-lose_at.ensures.written
     (subst (λ bag. IsLogPart behind.journal (machine_sent_items_from (length bag + 1) messages) new.log.journal)
     c.lose_at.ensures.unsent part)) c.change_links.ensures.part))
-    (three_ok r (λ near_is are posts_are. let posts = self.log.bag ++ map new_post messages in
+    (three_ok r (λ near_is are posts_are. let posts = self.log.bag ++ map new_bag_post messages in
     subst (λ bag. RefineJournal (world_setting_in self)
     (before ++ (item.Row row (Crash s) ∷ item.Down s ∷ losses ++ sends)) (record (world_state_in new)
     { posts = bag }))
-    (sym (posts_are ∙ ap (λ bag. bag ++ map new_post messages) c.lose_at.ensures.unsent))
+    (sym (posts_are ∙ ap (λ bag. bag ++ map new_bag_post messages) c.lose_at.ensures.unsent))
     (relinked_refines rest near_is (crash_refines ready.refines row s own changed ready.may within
     c.index_mut.ensures.value c.crash.ensures is_up new.switches.items new.log.travelling are
     (subst (TravellingWithoutAt self.log.travelling s) (sym rest.travelling) c.in_ok-lose_at.ensures.lost))))

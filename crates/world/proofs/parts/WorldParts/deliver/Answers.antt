@@ -1,12 +1,12 @@
 use Rattle.std.proofs.Common.{◌+◌, ◌<◌, ◌∙◌, ◌∷◌, List, ap, arith, get_or, is_some, length, length-set, map, refl, set, subst, sym}
-use Rattle.message_bag.specs.Exports.{bag_delivered_status, new_post, posts_with_delivered, post_with_status}
+use Rattle.message_bag.specs.Exports.{bag_delivered_status, new_bag_post, bag_posts_with_delivered, bag_post_with_status}
 use Rattle.base.proofs.Exports.{both_ok, on_ok_weaker}
 use Rattle.message_bag.proofs.BagNumberedPosts.{length_changed}
 use Rattle.controller.specs.Exports.{ControllerValue, controller_hear_acts, controller_newest_policy}
 use Rattle.update_machine.specs.Exports.{Message, machine_sent_items_from}
 use Rattle.journal.specs.declared.item.Item.TheVariants as item
 use Rattle.switch_core.specs.Exports.{IsSoundSwitchBody, replies}
-use Rattle.world_log.specs.Exports.{LogMayNote, LogMaySend, log_act_items, log_act_posts, all_adverts_sent, logged_near_all}
+use Rattle.world_log.specs.Exports.{LogMayNote, LogMaySend, log_act_items, log_act_posts, log_all_adverts_sent, logged_near_all}
 use Rattle.refinement.proofs.RefinedBagDeliveries.{found_there, hear_ready, usable_here}
 use Rattle.world.proofs.WorldActingSteps.{first_goes, goes_told, relinked_refines}
 use Rattle.refinement.proofs.RefinedDeliveries.{control_may, control_piece, control_refines, first_piece, names_known, shut_may, shut_piece, shut_refines, undelivered}
@@ -59,14 +59,14 @@ returns-in-Controller c = λ before row begins. let self = c.args.self.now in
     let ready = begins.ready in
     goes_told (item.Delivered n)
     (λ k. log_act_items k acts) c.push-2.new.self (length c.deliver.new.self)
-    (posts_with_delivered self.log.bag n) (log_act_posts acts) begins
+    (bag_posts_with_delivered self.log.bag n) (log_act_posts acts) begins
     (follows begins refl refl c.deliver_to_controller.ensures.newest) (record {
       piece_is = control_piece ready.refines row n message new ready.may there c.in-Controller.is
           c.deliver_to_controller.ensures.after;
       counted = none_in _;
       pushed = c.in_ok-push.ensures.pushed;
       number_is = ap length c.deliver.ensures
-          ∙ length_changed (post_with_status bag_delivered_status) self.log.bag n;
+          ∙ length_changed (bag_post_with_status bag_delivered_status) self.log.bag n;
       travelling = c.deliver_to_controller.ensures.travelling;
       written = c.deliver_to_controller.ensures.written;
       part = c.deliver_to_controller.ensures.part;
@@ -133,14 +133,14 @@ returns-in-None-opened c = λ before row begins. let self = c.args.self.now in
     let are = c.into_items.ensures ∙ c.in_ok-heard.ensures.replies in
     goes_told (item.Delivered n)
     (λ k. machine_sent_items_from k messages) c.push-2.new.self (length c.deliver.new.self)
-    (posts_with_delivered self.log.bag n) (map new_post messages) begins
+    (bag_posts_with_delivered self.log.bag n) (map new_bag_post messages) begins
     (follows begins refl refl refl) (record {
       piece_is = shut_piece ready.refines row n s message own c.hear.new.self near ready.may there
           c.in-Switch.is within.0 c.index_mut.ensures.value usable c.in_ok-heard.ensures.after shut;
       counted = none_in _;
       pushed = c.in_ok-push.ensures.pushed;
       number_is = ap length c.deliver.ensures
-          ∙ length_changed (post_with_status bag_delivered_status) self.log.bag n;
+          ∙ length_changed (bag_post_with_status bag_delivered_status) self.log.bag n;
       travelling = c.send_all.ensures.travelling;
       written = rw are at c.send_all.ensures.written;
       part = rw are at c.send_all.ensures.part;
@@ -199,19 +199,19 @@ returns c = λ before row begins. let self = c.args.self.now in
     let within = hears (goal.at.returns c).In-Switch in
     let opens = sym c.in_ok-heard.ensures.opened ∙ c.in-Some-opened.is in
     let others = set self.switches.items s c.hear.new.self in
-    let messages : List Message = all_adverts_sent self.near (logged_near_all self.links others) others in
+    let messages : List Message = log_all_adverts_sent self.near (logged_near_all self.links others) others in
     let rest = c.change_links.ensures.rest in
     let behind = c.push-in-Some-opened.new.self in
     let sends = machine_sent_items_from (length c.deliver.new.self + 1) messages in
     goes_told (item.Delivered n) (λ k. item.Opened s stamp ∷ machine_sent_items_from k messages) c.push-2.new.self
-    (length c.deliver.new.self) (posts_with_delivered self.log.bag n) (map new_post messages) begins
+    (length c.deliver.new.self) (bag_posts_with_delivered self.log.bag n) (map new_bag_post messages) begins
     (follows begins rest.files rest.ports (ap controller_newest_policy rest.controller)) (record {
       piece_is = opening_piece ready.refines row n s stamp message own c.hear.new.self ready.may
           there c.in-Switch.is within.0 c.index_mut.ensures.value c.in_ok-heard.ensures.after opens;
       counted = omega (arith, rest.packets);
       pushed = c.in_ok-push.ensures.pushed;
       number_is = ap length c.deliver.ensures
-          ∙ length_changed (post_with_status bag_delivered_status) self.log.bag n;
+          ∙ length_changed (bag_post_with_status bag_delivered_status) self.log.bag n;
       travelling = rest.travelling;
       written = step_written c.change_links.result c.push-2.new.self behind new.log.journal sends
           (item.Opened s stamp ∷ sends) (item.Opened s stamp) refl

@@ -1,6 +1,6 @@
 use Rattle.std.proofs.Common.{◌++◌, ◌+◌, ◌==◌, ◌∙◌, ◌∷◌, ◌≡◌, Bool, List, arith, false, get_or, length, map, refl, subst, sym, true}
 use Rattle.base.proofs.Exports.{on_ok_weaker}
-use Rattle.controller.specs.Exports.{resend_acts}
+use Rattle.controller.specs.Exports.{controller_resend_acts}
 use Rattle.controller.specs.declared.sends.Act.{Act}
 use Rattle.controller.specs.declared.sends.Act.TheVariants.{Post}
 use Rattle.journal.specs.declared.item.Item.TheVariants as item
@@ -40,7 +40,7 @@ said : (c : After-world_sends_are_none)
     → map Post c.in_ok-messages.messages.items ++ c.into_items-acts.result.items
     ≡ map Post (world_log_adverts_again c.args.switch (length c.args.self.now.switches.items)
     (get_or c.args.self.now.near c.args.switch 0) c.index.result.now)
-    ++ resend_acts c.args.self.now.controller c.args.switch
+    ++ controller_resend_acts c.args.self.now.controller c.args.switch
 said c = let self = c.args.self.now in
     acts_same self.controller c.args.switch c.len-count.result (length self.switches.items)
     (get_or self.near c.args.switch 0) _ c.index.result.now c.in_ok-messages.messages.items
@@ -51,7 +51,7 @@ said c = let self = c.args.self.now in
 none_said : (c : After-world_sends_are_none) (b : Bool) → c.world_sends_are_none.result ≡ b
     → (length (map Post (world_log_adverts_again c.args.switch (length c.args.self.now.switches.items)
     (get_or c.args.self.now.near c.args.switch 0) c.index.result.now)
-    ++ resend_acts c.args.self.now.controller c.args.switch) == 0) ≡ b
+    ++ controller_resend_acts c.args.self.now.controller c.args.switch) == 0) ≡ b
 none_said c b is =
     cc (c.as_slice.ensures.value, c.as_slice-2.ensures.value, said c, c.world_sends_are_none.ensures, is)
 
@@ -85,7 +85,7 @@ returns c = λ before row begins. let self = c.args.self.now in
     let sent = (goal.at.returns c).After-world_sends_are_none in
     let some = none_said sent false c.if-world_sends_are_none.false in
     let acts : List Act = map Post (world_log_adverts_again s (length self.switches.items)
-    (get_or self.near s 0) c.index.result.now) ++ resend_acts self.controller s in
+    (get_or self.near s 0) c.index.result.now) ++ controller_resend_acts self.controller s in
     let r = c.send_and_note.result in
     let noted = as_noted r self.log.journal (length self.log.bag) self.log.bag
     c.send_and_note.new.self _ acts (said sent) c.send_and_note.ensures.written

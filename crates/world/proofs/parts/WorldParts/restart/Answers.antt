@@ -1,8 +1,8 @@
 use Rattle.std.proofs.Common.{[], ◌++◌, ◌+◌, ◌<◌, ◌∙◌, ◌∷◌, ◌≡◌, OnOk, ap, arith, false, length, refl, subst, sym}
 use Rattle.base.proofs.Exports.{get_or_default, on_err_weaker, on_ok_weaker}
-use Rattle.message_bag.specs.Exports.{new_post}
+use Rattle.message_bag.specs.Exports.{new_bag_post}
 use Rattle.update_machine.specs.Exports.{Hello}
-use Rattle.ctrl_msg.specs.Exports.{to_controller}
+use Rattle.ctrl_msg.specs.Exports.{message_to_controller}
 use Rattle.journal.specs.declared.item.Item.TheVariants as item
 use Rattle.switch_core.specs.Exports.{SwitchValue}
 use Rattle.refinement.proofs.RefinedActs.{hello_spelled}
@@ -69,15 +69,15 @@ returns c = λ before row begins. let self = c.args.self.now in
     let own = c.index_mut.result.now in
     let down = is_down (goal.at.returns c).After-index_mut in
     let boot = own.boot + 1 in
-    let hello = to_controller (Hello s boot) in
+    let hello = message_to_controller (Hello s boot) in
     let begun = c.push-2.new.self in
     let told : c.restart-boot.result ≡ boot = c.restart-boot.ensures.boot in
-    let said = c.hello.ensures ∙ ap (λ b. to_controller (Hello s b)) told in
+    let said = c.hello.ensures ∙ ap (λ b. message_to_controller (Hello s b)) told in
     let written = subst (λ message. OnOk c.send.result
     (c.send.new.self.journal ≡ begun ++ item.Sent (length self.log.bag + 1) message ∷ [])) said
     c.send.ensures.written in
     goes_told (item.Booted s boot)
-    (λ k. item.Sent k hello ∷ []) begun (length self.log.bag) self.log.bag (new_post hello ∷ [])
+    (λ k. item.Sent k hello ∷ []) begun (length self.log.bag) self.log.bag (new_bag_post hello ∷ [])
     begins (follows begins refl refl refl) (record {
       piece_is = boot_piece ready.refines row s own ready.may c.index_mut.ensures.value down;
       counted = none_in _;

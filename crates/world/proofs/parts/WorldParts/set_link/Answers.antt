@@ -1,12 +1,12 @@
 use Rattle.std.proofs.Common.{[], ◌+◌, ◌<◌, ◌∙◌, ◌≡◌, Bool, List, ap, arith, false, length, map, max, min, refl, sym, true, ℕ}
 use Rattle.base.proofs.Exports.{beq, both_ok}
-use Rattle.message_bag.specs.Exports.{new_post}
+use Rattle.message_bag.specs.Exports.{new_bag_post}
 use Rattle.update_machine.specs.Exports.{Item, Message, machine_sent_items_from}
 use Rattle.controller.specs.Exports.{controller_newest_policy}
 use Rattle.journal.specs.declared.item.Item.TheVariants as item
-use Rattle.refinement.specs.Exports.{link_step}
-use Rattle.world_log.specs.Exports.{all_adverts_sent, logged_near_all}
-use Rattle.world.specs.Exports.{WorldStepHasBegun, comes_in}
+use Rattle.refinement.specs.Exports.{refined_link_step}
+use Rattle.world_log.specs.Exports.{log_all_adverts_sent, logged_near_all}
+use Rattle.world.specs.Exports.{WorldStepHasBegun, world_packets_coming_in}
 use Rattle.world.specs.declared.parts.WorldParts.{WorldParts}
 use Rattle.world.proofs.WorldStepClauses.{follows, goes_nothing, net_stays, nothing_goes}
 use Rattle.world.proofs.WorldActingSteps.{goes_told, relinked_refines}
@@ -16,12 +16,12 @@ use Rattle.refinement.proofs.RefinedLinkSteps.{ends_below, same_refines, set_may
 use Rattle.world.proofs.parts.WorldParts.set_link.Goals as goal
 
 -- no packet enters
-none_come : (one two : ℕ) (up : Bool) → comes_in (link_step up one two) ≡ 0
+none_come : (one two : ℕ) (up : Bool) → world_packets_coming_in (refined_link_step up one two) ≡ 0
 none_come one two true = refl
 none_come one two false = refl
 
 -- both ends are switches
-ends : (self : WorldParts) (one two : ℕ) (up : Bool) (begun : WorldStepHasBegun (link_step up one two) self)
+ends : (self : WorldParts) (one two : ℕ) (up : Bool) (begun : WorldStepHasBegun (refined_link_step up one two) self)
     → (one < 64) × (two < 64)
 ends self one two up begun = ends_below begun.begins.ready.refines begun.row one two up
     begun.begins.ready.may
@@ -81,11 +81,11 @@ returns c = λ before row begins. let self = c.args.self.now in
     let links = c.set_world_log_link.new.links in
     let other = ap (λ b. beq b up) (sym c.has.ensures.has) ∙ c.if-has-up.false in
     let near = logged_near_all links self.switches.items in
-    let messages : List Message = all_adverts_sent self.near near self.switches.items in
+    let messages : List Message = log_all_adverts_sent self.near near self.switches.items in
     let told : Item = item.LinkIs (min one two) (max one two) up in
     let rest = c.change_links.ensures.rest in
     goes_told told (λ k. machine_sent_items_from k messages) c.push-2.new.self (length self.log.bag) self.log.bag
-    (map new_post messages) begins
+    (map new_bag_post messages) begins
     (follows begins rest.files rest.ports (ap controller_newest_policy rest.controller)) (record {
       piece_is = set_piece ready.refines row one two up ready.may links other c.set_world_log_link.ensures.set
           c.set_world_log_link.ensures.fits;

@@ -1,12 +1,12 @@
 use Rattle.std.proofs.Common.{[], ◌++◌, ◌+◌, ◌-◌, ◌∙◌, ◌∷◌, ◌≡◌, ◌≢◌, ◌≤◌, Err, List, OnErr, OnOk, Result, Some, ap, arith, inl, inr, length, refl, rules, slice_get, subst, sym, ℕ}
 use Rattle.refinement.specs.Exports.{IsNextPlanRefined}
-use Rattle.update_machine.specs.Exports.{Inapplicable, Item, Refused, Row, Update, made_by, piece, touched_of, machine_update_code}
+use Rattle.update_machine.specs.Exports.{Inapplicable, Item, Refused, Row, Update, machine_policy_made_by, piece, machine_touched_of, machine_update_code}
 use Rattle.base.proofs.Exports.{ok_is_not_err}
-use Rattle.controller.specs.Exports.{ControllerValue, PlanValue, next_kept_plan, controller_submit_acts}
+use Rattle.controller.specs.Exports.{ControllerValue, ControllerPlanValue, controller_next_kept_plan, controller_submit_acts}
 use Rattle.controller.specs.declared.sends.Act.{Act}
 use Rattle.journal.specs.declared.item.Item.TheVariants as item
 use Rattle.version_update.specs.declared.marks.SubmitError.TheVariants.{TooManyLive, TooManyVersions}
-use Rattle.world.specs.Exports.{WorldBeginsStep, FilesValue, WorldStepGoes, IsWorldFileCompiled, WorldPartsKeepNet, Making, world_file_made_at, world_setting_in}
+use Rattle.world.specs.Exports.{WorldBeginsStep, WorldFilesValue, WorldStepGoes, IsWorldFileCompiled, WorldPartsKeepNet, WorldFileMaking, world_file_made_at, world_setting_in}
 use Rattle.world.specs.declared.parts.WorldParts.{WorldParts}
 use Rattle.world_log.specs.Exports.{LogMayNote}
 use Rattle.world.proofs.WorldKeptFiles.{file_there}
@@ -20,18 +20,18 @@ use Rattle.world.proofs.parts.WorldParts.update.Goals.{In-Planned, in-Err-Refuse
 abbrev made_of : WorldParts → ℕ → Result (List Row) Inapplicable
 made_of self file = (world_file_made_at self.files.files self.files.newest (file - 1)).0
 
-abbrev making_of : WorldParts → ℕ → Making
+abbrev making_of : WorldParts → ℕ → WorldFileMaking
 making_of self file = world_file_made_at self.files.files self.files.newest (file - 1)
 
 -- as that of a file which is there
 made_there : (self : WorldParts) (file : ℕ) → 1 ≤ file → file ≤ length self.files.files
-    → made_by (slice_get self.files.files (file - 1)) (Some self.files.newest) ≡ made_of self file
-made_there self file first last = ap (λ o. made_by o (Some self.files.newest))
+    → machine_policy_made_by (slice_get self.files.files (file - 1)) (Some self.files.newest) ≡ made_of self file
+made_there self file first last = ap (λ o. machine_policy_made_by o (Some self.files.newest))
     (file_there self.files.files (file - 1) (omega (arith, first, last)))
 
 -- the update is refused by this code
 refused : {T E : Type 0} {r : Result T E} {before : List Item} {row file : ℕ} (code : ℕ)
-    {self : WorldParts} {files : FilesValue} {controller : ControllerValue} {journal : List Item}
+    {self : WorldParts} {files : WorldFilesValue} {controller : ControllerValue} {journal : List Item}
     → WorldBeginsStep before row (Update file) self → files ≡ self.files → controller ≡ self.controller
     → piece (world_setting_in self) before row (Update file)
     ≡ item.Row row (Update file) ∷ item.Refused file code ∷ []
@@ -77,12 +77,12 @@ returns-in-Refused c = λ before row begins. let self = c.args.self.now in
 -- ---- it is submitted
 
 -- the network and the files stay
-changed_net : (self new : WorldParts) (files : FilesValue) (rows : List Row)
+changed_net : (self new : WorldParts) (files : WorldFilesValue) (rows : List Row)
     → new.files ≡ record files { newest = rows } → files ≡ self.files → new.ports ≡ self.ports
     → WorldPartsKeepNet self new
 changed_net self new files rows changed same ports = record {
-  same_net = ap (λ (f : FilesValue). f.net) changed ∙ ap (λ (f : FilesValue). f.net) same;
-  same_files = ap (λ (f : FilesValue). f.files) changed ∙ ap (λ (f : FilesValue). f.files) same;
+  same_net = ap (λ (f : WorldFilesValue). f.net) changed ∙ ap (λ (f : WorldFilesValue). f.net) same;
+  same_files = ap (λ (f : WorldFilesValue). f.files) changed ∙ ap (λ (f : WorldFilesValue). f.files) same;
   same_ports = ports;
 }
 
@@ -100,7 +100,7 @@ planned c before row begins =
     planned_next self.files.net self.files.files before file self.files.newest c.in-Planned.plan
     c.in-Planned.touched ready.may.0 own.0
     (made_there self file ready.may.0 ready.may.1 ∙ made.policy) made.planned
-    (made.told_is ∙ ap (λ o. touched_of o (Some self.files.newest))
+    (made.told_is ∙ ap (λ o. machine_touched_of o (Some self.files.newest))
     (sym (file_there self.files.files (file - 1) (omega (arith, ready.may.0, ready.may.1)))))
 
 pub returns-in_err-newest : goal.returns-in_err-newest
@@ -137,14 +137,14 @@ returns-in-Ok c = λ before row begins. let self = c.args.self.now in
     λ e. ok_is_not_err _ _ (c.in-Ok.ensures.versions.1 (live, e)) in
     let new : ControllerValue = c.submit.new.self in
     let acts : List Act = controller_submit_acts self.controller.marks
-    (next_kept_plan self.controller c.in-Planned.plan c.in-Planned.touched) new in
+    (controller_next_kept_plan self.controller c.in-Planned.plan c.in-Planned.touched) new in
     let one = item.Submitted file (self.controller.marks.count + 1) in
     let its = c.note_acts.ensures in
     goes_acting one acts c.into_items.result.items c.push-in-Ok.new.self begins (record {
       net = changed_net _ _ _ _ c.set_newest.ensures c.in_ok-code.ensures.same refl;
       newest = c.in-Ok.ensures.newest
-          ∙ ap Some (sym (ap (λ (f : FilesValue). f.newest) c.set_newest.ensures
-          ∙ ap (λ (plan : PlanValue). plan.policy) c.in_ok-newest.ensures.cases));
+          ∙ ap Some (sym (ap (λ (f : WorldFilesValue). f.newest) c.set_newest.ensures
+          ∙ ap (λ (plan : ControllerPlanValue). plan.policy) c.in_ok-newest.ensures.cases));
     }) (none_in _)
     (submitted_piece ready.refines row file ready.may c.in-Planned.plan c.in-Planned.touched new
     of_next live versions c.in-Ok.ensures.after)

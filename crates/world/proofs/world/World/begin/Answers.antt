@@ -1,7 +1,7 @@
 use Rattle.std.proofs.Common.{◌∙◌, ◌≡◌, Ok, Some, ap, sym}
-use Rattle.controller.specs.Exports.{PlanValue, controller_newest_policy}
+use Rattle.controller.specs.Exports.{ControllerPlanValue, controller_newest_policy}
 use Rattle.partition.specs.Plan.{partition_plan_of}
-use Rattle.world.specs.Exports.{FilesValue, first_policy}
+use Rattle.world.specs.Exports.{WorldFilesValue, world_first_file_policy}
 use Rattle.world.proofs.BegunWorld.{as_begun, plan_copied, net_begun, owners_begun}
 use Rattle.world.proofs.WorldKeptFiles.{first_whole}
 use Rattle.refinement.proofs.RefinedUpdates.{begun_refines}
@@ -9,7 +9,7 @@ use Rattle.world.proofs.world.World.begin.Goals as goal
 use Rattle.world.proofs.world.World.begin.Goals.{In_ok-plan}
 
 -- the policy of the first file has this plan
-first_is : (c : In_ok-plan) → first_policy c.args.files.items ≡ Some c.in_ok-plan.plan.policy
+first_is : (c : In_ok-plan) → world_first_file_policy c.args.files.items ≡ Some c.in_ok-plan.plan.policy
 first_is c = cc (c.deref.ensures.value, c.world_first_policy.ensures, c.in_ok-plan.ensures.policy)
 
 planned : (c : In_ok-plan)
@@ -18,7 +18,7 @@ planned c = cc (c.in_ok-plan.ensures.policy, c.in_ok-plan.ensures.plan)
 
 pub new-requires-clause-first : goal.new-requires-clause-first
 new-requires-clause-first c = first_is (goal.at.new-requires-clause-first c).In_ok-plan
-    ∙ ap (λ (plan : PlanValue). Some plan.policy) (sym c.in_ok-first.ensures.cases)
+    ∙ ap (λ (plan : ControllerPlanValue). Some plan.policy) (sym c.in_ok-first.ensures.cases)
 
 pub new-requires-clause-planned : goal.new-requires-clause-planned
 new-requires-clause-planned c = plan_copied c.args.net.now c.in_ok-clone.field-0 c.in_ok-plan.plan
@@ -36,11 +36,11 @@ invariant_of-result c =
     let near = c.link_masks-near.result in
     let at = (goal.at.invariant_of-result c).In_ok-plan in
     let of_net : files.net ≡ net =
-    ap (λ (f : FilesValue). f.net) c.in_ok-files.ensures ∙ c.in_ok-clone.ensures.cases in
-    let of_files : files.files ≡ given = ap (λ (f : FilesValue). f.files) c.in_ok-files.ensures in
+    ap (λ (f : WorldFilesValue). f.net) c.in_ok-files.ensures ∙ c.in_ok-clone.ensures.cases in
+    let of_files : files.files ≡ given = ap (λ (f : WorldFilesValue). f.files) c.in_ok-files.ensures in
     let of_plan : files.newest ≡ plan.policy =
-    ap (λ (f : FilesValue). f.newest) c.in_ok-files.ensures
-    ∙ ap (λ (plan : PlanValue). plan.policy) c.in_ok-first.ensures.cases in record {
+    ap (λ (f : WorldFilesValue). f.newest) c.in_ok-files.ensures
+    ∙ ap (λ (plan : ControllerPlanValue). plan.policy) c.in_ok-first.ensures.cases in record {
       sound = record {
         sound = net_begun net files.net of_net c.requires.net;
         owners = owners_begun net files.net c.ports.result of_net c.ports.ensures;

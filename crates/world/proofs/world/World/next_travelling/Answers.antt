@@ -1,5 +1,5 @@
 use Rattle.std.proofs.Common.{◌≡◌}
-use Rattle.update_machine.specs.Exports.{next_travelling, travels}
+use Rattle.update_machine.specs.Exports.{next_travelling, travels_in_journal}
 use Rattle.world.specs.Exports.{IsLeastInWorldFrom, world_value}
 use Rattle.world.proofs.WorldLeastPacket.{least_from_in, least_travels_in}
 use Rattle.world.proofs.WorldViewedParts.{by_view}
@@ -14,5 +14,5 @@ returns-clause-first c = λ able is_one.
 
 pub returns-clause-least : goal.returns-clause-least
 returns-clause-least c = let own = world_value c.self.inside.parts c.self.inside.is_spent in
-    by_view (λ w. IsLeastInWorldFrom (travels w.journal) c.args.from c.next.result) c.self.view_is
+    by_view (λ w. IsLeastInWorldFrom (travels_in_journal w.journal) c.args.from c.next.result) c.self.view_is
     c.self.invariant.refines (λ refines. least_from_in own _ _ refines c.next.ensures)

@@ -1,5 +1,5 @@
 use Rattle.std.proofs.Common.{◌∙◌, ◌≡◌, ◌≤◌, List, ap, arith, length, subst, sym}
-use Rattle.update_machine.specs.Exports.{HasRoom, IsMachineJournalFull, Item, journal_next_packet}
+use Rattle.update_machine.specs.Exports.{MachineJournalHasRoom, IsMachineJournalFull, Item, journal_next_packet}
 use Rattle.steps.specs.Exports.{IsStep}
 use Rattle.world.specs.Exports.{WorldPartsKeepNet, WorldValue, world_setting_at, world_setting_in, world_value}
 use Rattle.world.proofs.WorldJournalRoom.{has_room, is_full, not_full}
@@ -24,7 +24,7 @@ returns-clause-setting c = setting_kept c.self.inside.parts c.play.new.self c.in
 
 pub play-requires : goal.play-requires
 play-requires c =
-    let room = subst (λ (w : WorldValue). HasRoom w.journal) c.self.view_is
+    let room = subst (λ (w : WorldValue). MachineJournalHasRoom w.journal) c.self.view_is
     (has_room (c.self.invariant.refines c.if-self.false)
     (omega (arith, c.sent.ensures, c.if-sent-ge-FULL_AT.false))) in record {
       sound = c.self.invariant.sound;
@@ -47,8 +47,8 @@ returns-in_err-play-clause-full c = λ is.
     absurd (not_full c.from_residual.result c.from_residual.ensures.1 is)
 
 -- there is room for the step, so it may be played
-room : (c : After-play) → HasRoom c.args.self.now.journal
-room c = subst (λ (w : WorldValue). HasRoom w.journal) c.self.view_is
+room : (c : After-play) → MachineJournalHasRoom c.args.self.now.journal
+room c = subst (λ (w : WorldValue). MachineJournalHasRoom w.journal) c.self.view_is
     (has_room (c.self.invariant.refines c.if-self.false)
     (omega (arith, c.sent.ensures, c.if-sent-ge-FULL_AT.false)))
 

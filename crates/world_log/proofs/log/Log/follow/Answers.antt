@@ -3,8 +3,8 @@ use Rattle.std.proofs.Common.{[], ◌+◌, ◌∙◌, ◌≡◌, None, Option, R
 use Rattle.base.proofs.Exports.{on_ok_weaker, slice_get_within}
 use Rattle.journal.specs.declared.item.Item.TheVariants as item
 use Rattle.update_machine.specs.Exports.{Ports}
-use Rattle.switch_core.specs.Exports.{IsSwitchAuthorityForLeg, SwitchStandsAtRoutePlace, SwitchValue, around, switch_move_answer}
-use Rattle.travelling.specs.Travelling.{Flight, Standing, flight_placed_at, traveller_standing_at, traveller_standing_kept}
+use Rattle.switch_core.specs.Exports.{MaySwitchEndLeg, SwitchStandsAtRoutePlace, SwitchValue, switch_site_around, switch_move_answer}
+use Rattle.travelling.specs.Travelling.{TravellingFlight, TravellingStanding, travelling_flight_placed_at, traveller_standing_at, traveller_standing_kept}
 use Rattle.tunnel.specs.Exports.{next}
 use Rattle.world_log.specs.Exports.{LogAfter, log_ended_flight, log_ended_items, log_ended_posts, log_ended_switch, log_followed, log_followed_flight, log_followed_items, log_followed_posts}
 use Rattle.world_log.specs.declared.log.Log.{Log}
@@ -14,7 +14,7 @@ use Rattle.world_log.proofs.log.Log.follow.Goals as goal
 
 -- by the next switch of its route
 module _ {T E : Type 0} (r : Result T E) (number : ℕ) (s : SwitchValue) (near : ℕ) (ports : Ports)
-    (t : Flight) (packet : ℕ) (old new : Log) where
+    (t : TravellingFlight) (packet : ℕ) (old new : Log) where
   by_next : (onward : Option ℕ) → next t.tunnel ≡ onward → (let m = switch_move_answer t.tunnel onward in
       LogAfter r (log_ended_items number s near ports (record t { tunnel = m.tunnel }) m.end)
       (log_ended_posts s near ports (record t { tunnel = m.tunnel }) m.end) packet
@@ -27,7 +27,7 @@ module _ {T E : Type 0} (r : Result T E) (number : ℕ) (s : SwitchValue) (near 
       (log_ended_flight s near ports (record t { tunnel = m.tunnel }) m.end) old new) (sym is) log
 
 -- the switch was asked so often
-asked : (s : SwitchValue) (t : Flight) (onward : Option ℕ) → next t.tunnel ≡ onward
+asked : (s : SwitchValue) (t : TravellingFlight) (onward : Option ℕ) → next t.tunnel ≡ onward
     → log_ended_switch s (switch_move_answer t.tunnel onward).end ≡ log_ended_switch s (log_followed t).end
 asked s t onward is = ap (λ o. log_ended_switch s (switch_move_answer t.tunnel o).end) (sym is)
 
@@ -46,13 +46,13 @@ returns-in_ok-put-in-Some-clause-log c =
     let t = c.args.kept in
     let self = c.args.self.now in
     let now : Log = record self { journal = c.push.new.self; travelling = c.put.new.self } in
-    let moved : c.move_to.new.self ≡ flight_placed_at (t.tunnel.place + 1) t =
-    c.move_to.ensures ∙ ap (λ place. flight_placed_at (place + 1) t) c.place-place.ensures.place in
+    let moved : c.move_to.new.self ≡ travelling_flight_placed_at (t.tunnel.place + 1) t =
+    c.move_to.ensures ∙ ap (λ place. travelling_flight_placed_at (place + 1) t) c.place-place.ensures.place in
     by_next c.push.result (length self.bag + 1) c.args.switch.now c.args.site.near
     c.args.site.ports.now t t.tunnel.packet self now (Some c.in-Some.next)
     (sym c.next.ensures ∙ c.in-Some.is)
     (rw c.packet-packet.ensures at (log_one c.push.result (item.Hopped c.packet-packet.result
-    c.in-Some.next) c.packet-packet.result (Some (flight_placed_at (t.tunnel.place + 1) t)) self now
+    c.in-Some.next) c.packet-packet.result (Some (travelling_flight_placed_at (t.tunnel.place + 1) t)) self now
     c.push.ensures.pushed c.push.ensures.unchanged refl (rw moved at c.in_ok-put-in-Some.ensures)))
 
 pub returns-in_ok-put-in-Some-clause-asked : goal.returns-in_ok-put-in-Some-clause-asked
@@ -77,9 +77,9 @@ pub receive-forwarding-requires-clause-authority : goal.receive-forwarding-requi
 receive-forwarding-requires-clause-authority c =
     let s = c.args.switch.now in
     let at = c.in_ok-at-in-None.at in
-    subst (λ h. IsSwitchAuthorityForLeg s h c.leg-leg.result)
-    (sym (ap (λ (a : Standing). a.header) c.in_ok-at-in-None.ensures.at))
-    (subst (IsSwitchAuthorityForLeg s c.args.kept.tunnel.header) (sym c.leg-leg.ensures)
+    subst (λ h. MaySwitchEndLeg s h c.leg-leg.result)
+    (sym (ap (λ (a : TravellingStanding). a.header) c.in_ok-at-in-None.ensures.at))
+    (subst (MaySwitchEndLeg s c.args.kept.tunnel.header) (sym c.leg-leg.ensures)
     (c.requires.last (sym c.next.ensures ∙ c.in-None.is)).1)
 
 pub returns-in_err-at-in-None-clause-log : goal.returns-in_err-at-in-None-clause-log
@@ -101,8 +101,8 @@ returns-in_ok-at-in-None-clause-log c =
     (sym c.next.ensures ∙ c.in-None.is)
     (arrival_log c.settle.result n s near ports t (traveller_standing_kept at) at.version at.rule
     c.leg-leg.result t.tunnel.packet _ self c.settle.new.self stands says.version says.rule
-    c.leg-leg.ensures (ap (λ (a : Standing). a.packet) stands)
-    (c.receive-forwarding.ensures.answer (around near ports) at.packet (traveller_standing_kept at).down)
+    c.leg-leg.ensures (ap (λ (a : TravellingStanding). a.packet) stands)
+    (c.receive-forwarding.ensures.answer (switch_site_around near ports) at.packet (traveller_standing_kept at).down)
     c.settle.ensures.log)
 
 pub returns-in_ok-at-in-None-clause-asked : goal.returns-in_ok-at-in-None-clause-asked

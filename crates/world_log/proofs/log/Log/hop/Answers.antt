@@ -1,10 +1,10 @@
 -- A packet goes on as it is kept.
 use Rattle.std.proofs.Common.{◌+◌, ◌<◌, ◌∙◌, ◌≡◌, IsErr, IsSomeAnd, None, Option, Result, Some, ap, get_or, length, option_copied, refl, set, slice_get, slice_index, subst, sym, ℕ}
 use Rattle.base.proofs.Exports.{on_ok_failed, slice_get-get_or, slice_get_within}
-use Rattle.switch_core.specs.Exports.{IsSwitchAuthorityForLeg, Moved, SwitchStandsAtRoutePlace, SwitchValue, around, switch_call_counted, switch_hop_onward}
+use Rattle.switch_core.specs.Exports.{MaySwitchEndLeg, SwitchPacketMoved, SwitchStandsAtRoutePlace, SwitchValue, switch_site_around, switch_call_counted, switch_hop_onward}
 use Rattle.switch_core.specs.declared.packet.Onward.{Onward}
 use Rattle.switch_core.proofs.SwitchOnwardHops.{ends, goes, is_down}
-use Rattle.travelling.specs.Travelling.{Flight, FlightHasPlace, Standing, traveller_standing_at, traveller_standing_kept, flight}
+use Rattle.travelling.specs.Travelling.{TravellingFlight, TravellingFlightHasPlace, TravellingStanding, traveller_standing_at, traveller_standing_kept, flight}
 use Rattle.tunnel.specs.Exports.{here, next}
 use Rattle.world_log.specs.Exports.{LogHasHopped, Hops, MayLoggedPacketGoOn, LogMeetsDownLink}
 use Rattle.world_log.specs.declared.log.Log.{Log}
@@ -30,7 +30,7 @@ returns-in-None c =
 -- ---- the packet, its switch, and the usable links of that
 
 module _ (c : After-place-place) where
-  abbrev kept : Flight
+  abbrev kept : TravellingFlight
   kept = c.in-Some.kept.now
 
   abbrev asked : SwitchValue
@@ -39,7 +39,7 @@ module _ (c : After-place-place) where
   abbrev links : ℕ
   links = slice_index c.args.near.now c.here-here.result
 
-  its : ◌≡◌ {A = Option Flight} (Some kept) (flight c.args.self.now.travelling c.args.packet)
+  its : ◌≡◌ {A = Option TravellingFlight} (Some kept) (flight c.args.self.now.travelling c.args.packet)
   its = sym (ap option_copied c.in-Some.is) ∙ c.look.ensures
 
   own : slice_get c.args.switches.now (here kept.tunnel) ≡ Some asked
@@ -100,7 +100,7 @@ move_on-requires c =
     let k = kept before in
     let on = goes (links before) (next k.tunnel) c.in-Next.next
     (sym (passed before c.pass.result c.pass.ensures.onward) ∙ c.in-Next.is) in
-    subst (λ o. IsSomeAnd o (FlightHasPlace (c.place-place.result + 1))) (its before)
+    subst (λ o. IsSomeAnd o (TravellingFlightHasPlace (c.place-place.result + 1))) (its before)
     (subst (λ place. place + 1 < length k.tunnel.route) (sym c.place-place.ensures.place)
     (slice_get_within k.tunnel.route (k.tunnel.place + 1) c.in-Next.next on.0))
 
@@ -133,16 +133,16 @@ receive-forwarding-requires c =
       stamped = (may before).stamped;
       here = stands before;
       last = (ends (links before) _ (sym c.pass.ensures.onward ∙ c.in-AtEnd.is)).0;
-      authority = subst (λ h. IsSwitchAuthorityForLeg (switch_call_counted s) h c.leg-leg.result)
-          (sym (ap (λ (a : Standing). a.header) c.in_ok-at-in-AtEnd.ensures.at))
-          (subst (IsSwitchAuthorityForLeg (switch_call_counted s) k.tunnel.header) (sym c.leg-leg.ensures)
+      authority = subst (λ h. MaySwitchEndLeg (switch_call_counted s) h c.leg-leg.result)
+          (sym (ap (λ (a : TravellingStanding). a.header) c.in_ok-at-in-AtEnd.ensures.at))
+          (subst (MaySwitchEndLeg (switch_call_counted s) k.tunnel.header) (sym c.leg-leg.ensures)
           (authority_counted s k.tunnel.header k.tunnel.leg ((may before).authority (ap
-          (λ (m : Moved). m.end) (free_hop s (links before) c.args.ports.now k None on.1 on.0)))));
+          (λ (m : SwitchPacketMoved). m.end) (free_hop s (links before) c.args.ports.now k None on.1 on.0)))));
     })
 
 pub settle-requires-clause-ingress : goal.settle-requires-clause-ingress
 settle-requires-clause-ingress c =
-    subst (λ n. n < 64) (sym (ap (λ (a : Standing). a.ingress) c.in_ok-at-in-AtEnd.ensures.at))
+    subst (λ n. n < 64) (sym (ap (λ (a : TravellingStanding). a.ingress) c.in_ok-at-in-AtEnd.ensures.at))
     (may (goal.at.settle-requires-clause-ingress c).After-place-place).ingress
 
 pub returns-in_err-at-in-AtEnd : goal.returns-in_err-at-in-AtEnd
@@ -167,8 +167,8 @@ returns-in_ok-at-in-AtEnd c =
     (arrival_log c.settle.result (length self.bag + 1) (switch_call_counted s) near ports k
     (traveller_standing_kept at) at.version at.rule c.leg-leg.result c.args.packet _ self c.settle.new.self
     (says.at ∙ ap (λ n. traveller_standing_at n k) here) says.version says.rule c.leg-leg.ensures
-    (ap (λ (a : Standing). a.packet) says.at ∙ (may before).known) (rw c.pass.ensures.after at
-    (c.receive-forwarding.ensures.answer (around near ports) at.packet (traveller_standing_kept at).down))
+    (ap (λ (a : TravellingStanding). a.packet) says.at ∙ (may before).known) (rw c.pass.ensures.after at
+    (c.receive-forwarding.ensures.answer (switch_site_around near ports) at.packet (traveller_standing_kept at).down))
     c.settle.ensures.log) (c.settle.ensures.same ∙ c.receive-forwarding.ensures.after
     ∙ ap switch_call_counted c.pass.ensures.after))
 
@@ -202,7 +202,7 @@ pub go_around-requires : goal.go_around-requires
 go_around-requires c =
     let at = goal.at.go_around-requires c in
     let before = at.After-place-place in
-    let number = ap (λ (a : Standing). a.switch) c.in_ok-at-in-LinkDown.ensures.at
+    let number = ap (λ (a : TravellingStanding). a.switch) c.in_ok-at-in-LinkDown.ensures.at
     ∙ c.number-in-LinkDown.ensures.number in
     let other = c.pass.ensures.other c.in-LinkDown.other c.in-LinkDown.is in record {
       serving = rw c.pass.ensures.after (may before).serving;
@@ -232,5 +232,5 @@ returns-in_ok-at-in-LinkDown c =
     let is = met before at.In_ok-at-in-LinkDown (may before)
     (passed before c.pass.result c.pass.ensures.onward) c.pass.ensures.after in
     hops before c.go_around.result c.go_around.new.switch c.go_around.new.self
-    (rw (ap (λ (a : Standing). a.packet) is.stands ∙ (may before).known) at
+    (rw (ap (λ (a : TravellingStanding). a.packet) is.stands ∙ (may before).known) at
     (c.go_around.ensures (asked before) (kept before) is))

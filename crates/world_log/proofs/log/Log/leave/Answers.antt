@@ -1,7 +1,7 @@
 -- What was written of a packet that was decided is the way that its decision says.
 use Rattle.std.proofs.Common.{[], ◌∙◌, ◌∷◌, List, Result, eq-eqb, false, ne_eqb, subst, sym, true, ℕ}
 use Rattle.update_machine.specs.Exports.{Cause, Drop, Exit as ExitLeg, Out as OutBy}
-use Rattle.switch_core.specs.Exports.{next_of, set_out, switch_site_of}
+use Rattle.switch_core.specs.Exports.{switch_next_of, switch_set_out, switch_site_of}
 use Rattle.switch_core.specs.declared.deciding.Decision.{Decision}
 use Rattle.travelling.specs.Travelling.{traveller_standing_kept}
 use Rattle.tunnel.specs.Exports.{TunnelValue}
@@ -10,7 +10,7 @@ use Rattle.world_log.proofs.LogForwarding.{by_action, exits, owned, unowned}
 use Rattle.world_log.proofs.log.Log.leave.Goals as goal
 
 pub returns-in-Drop-clause-log : goal.returns-in-Drop-clause-log
-unfolding next_of
+unfolding switch_next_of
 returns-in-Drop-clause-log c = by_action c.end.result (traveller_standing_kept c.args.at) c.args.at.packet
     c.args.self.now c.end.new.self c.args.switch.now (switch_site_of c.args.site) c.args.decision Drop
     c.in-Drop.is c.end.ensures
@@ -45,6 +45,6 @@ returns-else-owner-number-clause-log c =
     (ne_eqb c.in-Some.owner s.number
     (λ same. c.if-owner-number.false (same ∙ sym c.number.ensures.number)))
     (exits c.set_out.result at c.args.at.packet c.args.self.now c.set_out.new.self decision
-    (set_out s site.near (log_packet_standing at) leg to)
-    (subst (λ these. Q (set_out s site.near (log_packet_standing at) leg these))
+    (switch_set_out s site.near (log_packet_standing at) leg to)
+    (subst (λ these. Q (switch_set_out s site.near (log_packet_standing at) leg these))
     (rw c.unwrap-targets.ensures at c.new.ensures.list) c.set_out.ensures.log))

@@ -3,7 +3,7 @@ use Rattle.std.proofs.Common.{[], ◌++◌, ◌+◌, ◌∷◌, ◌≡◌, OnOk,
 use Rattle.update_machine.specs.Exports.{Body, machine_sent_items_from}
 use Rattle.ctrl_msg.specs.declared.message.Place.TheVariants as receiver
 use Rattle.journal.specs.declared.item.Item.TheVariants as item
-use Rattle.message_bag.specs.Exports.{HasShortBagSpelling, new_post}
+use Rattle.message_bag.specs.Exports.{HasShortBagSpelling, new_bag_post}
 use Rattle.switch_core.specs.Exports.{switch_core_cache_rule}
 use Rattle.ternary.specs.Exports.{WordValue}
 use Rattle.world_log.specs.Exports.{log_cache_message, log_message_list}
@@ -36,10 +36,10 @@ returns-in-Some-clause-written c =
 pub returns-in-Some-clause-posted : goal.returns-in-Some-clause-posted
 returns-in-Some-clause-posted c =
     let P : Option WordValue → Type 0 =
-    λ word. OnOk c.send.result (c.send.new.self.bag ≡ c.args.self.now.bag ++ map new_post
+    λ word. OnOk c.send.result (c.send.new.self.bag ≡ c.args.self.now.bag ++ map new_bag_post
     (log_message_list (log_cache_message c.args.ingress (switch_core_cache_rule c.args.decision.now word)))) in
     let Q : Body → Type 0 = λ body. OnOk c.send.result (c.send.new.self.bag
-    ≡ c.args.self.now.bag ++ new_post (record {
+    ≡ c.args.self.now.bag ++ new_bag_post (record {
       to = receiver.Switch c.args.ingress;
       body = body;
     }) ∷ []) in
@@ -56,6 +56,6 @@ returns-in-None-clause-written c =
 pub returns-in-None-clause-posted : goal.returns-in-None-clause-posted
 returns-in-None-clause-posted c =
     let P : Option WordValue → Type 0 = λ word. c.args.self.now.bag ≡ c.args.self.now.bag
-    ++ map new_post (log_message_list (log_cache_message c.args.ingress
+    ++ map new_bag_post (log_message_list (log_cache_message c.args.ingress
     (switch_core_cache_rule c.args.decision.now word))) in
     subst P (sym c.in-None.is) (sym (append-nil c.args.self.now.bag))

@@ -1,11 +1,11 @@
 -- A packet sets out by the route that its switch finds, or is stuck.
 use Rattle.std.proofs.Common.{[], ◌∙◌, ◌∷◌, ◌≡◌, List, None, Result, Some, ap, option_copied, refl, subst, unwrap_or, ℕ}
 use Rattle.base.specs.Exports.{IfRefused}
-use Rattle.failover.specs.Exports.{no_links, route_of}
+use Rattle.failover.specs.Exports.{no_failover_links, route_of}
 use Rattle.update_machine.specs.Exports.{Cause, machine_takes_route}
 use Rattle.switch_core.specs.Exports.{switch_stuck_cause}
 use Rattle.world_log.specs.declared.log.Log.{Log}
-use Rattle.travelling.specs.Travelling.{Flight, flight_begun_at, traveller_standing_kept, travels_by}
+use Rattle.travelling.specs.Travelling.{TravellingFlight, travelling_flight_begun_at, traveller_standing_kept, travels_by}
 use Rattle.tunnel.specs.Exports.{TunnelValue}
 use Rattle.world_log.specs.Exports.{LogAfter, log_packet_standing, log_set_flight, log_set_item}
 use Rattle.world_log.proofs.LogForwarding.{none_known, route_known}
@@ -16,7 +16,7 @@ pub returns-in-Err-Refused-clause-log : goal.returns-in-Err-Refused-clause-log
 returns-in-Err-Refused-clause-log c =
     let at = traveller_standing_kept c.args.at in
     let s = c.args.switch.now in
-    let links : List ℕ = unwrap_or (option_copied c.links.result) no_links in
+    let links : List ℕ = unwrap_or (option_copied c.links.result) no_failover_links in
     let cause = c.in-Err-Refused.cause in
     let both = subst
     (IfRefused (λ cause. (route_of s.database s.number c.args.targets c.args.near links ≡ None)
@@ -32,9 +32,9 @@ pub returns-in_ok-put-in-Ok-clause-log : goal.returns-in_ok-put-in-Ok-clause-log
 returns-in_ok-put-in-Ok-clause-log c =
     let at = traveller_standing_kept c.args.at in
     let s = c.args.switch.now in
-    let links : List ℕ = unwrap_or (option_copied c.links.result) no_links in
+    let links : List ℕ = unwrap_or (option_copied c.links.result) no_failover_links in
     let route : List ℕ = c.in-Ok.route in
-    let kept : Flight = travels_by (flight_begun_at at c.args.leg c.args.targets route) c.args.at.version
+    let kept : TravellingFlight = travels_by (travelling_flight_begun_at at c.args.leg c.args.targets route) c.args.at.version
     c.args.at.rule in
     let now : Log = record c.args.self.now { journal = c.push.new.self; travelling = c.put.new.self } in
     let item_is : c.world_log_takes_route-item.result ≡ machine_takes_route c.args.at.packet c.args.leg route =

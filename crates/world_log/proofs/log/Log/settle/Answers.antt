@@ -3,8 +3,8 @@ use Rattle.std.proofs.Common.{[], ◌+◌, ◌∙◌, ◌∷◌, List, length, m
 use Rattle.base.proofs.Exports.{both_written}
 use Rattle.update_machine.specs.Exports.{Item, machine_sent_items_from}
 use Rattle.journal.specs.declared.item.Item.TheVariants as item
-use Rattle.message_bag.specs.Exports.{Post, new_post}
-use Rattle.switch_core.specs.Exports.{answer_of, switch_core_cache_rule, set_out, switch_site_of}
+use Rattle.message_bag.specs.Exports.{Post, new_bag_post}
+use Rattle.switch_core.specs.Exports.{switch_arrival_by_forwarding, switch_core_cache_rule, switch_set_out, switch_site_of}
 use Rattle.switch_core.specs.declared.forwarding.Forwarding.{Forwarding}
 use Rattle.travelling.specs.Travelling.{traveller_standing_kept}
 use Rattle.world_log.specs.Exports.{LogAfter, log_arrived_flight, log_arrived_items, log_arrived_posts, log_cache_message, log_message_list, log_packet_standing}
@@ -17,7 +17,7 @@ pub returns-in-Out-clause-log : goal.returns-in-Out-clause-log
 returns-in-Out-clause-log c =
     let at = traveller_standing_kept c.args.at in
     let P : Forwarding → Type 0 = λ forwarding.
-    let what = answer_of c.args.switch.now (switch_site_of c.args.site) (log_packet_standing at) forwarding in
+    let what = switch_arrival_by_forwarding c.args.switch.now (switch_site_of c.args.site) (log_packet_standing at) forwarding in
     LogAfter c.end.result
     (log_arrived_items (length c.args.self.now.bag + 1) at c.args.at.version c.args.at.rule what)
     (log_arrived_posts at what) c.args.at.packet
@@ -33,7 +33,7 @@ pub returns-in_err-send_rule-in-Decided-clause-log : goal.returns-in_err-send_ru
 returns-in_err-send_rule-in-Decided-clause-log c =
     let at = traveller_standing_kept c.args.at in
     let P : Forwarding → Type 0 = λ forwarding.
-    let what = answer_of c.args.switch.now (switch_site_of c.args.site) (log_packet_standing at) forwarding in
+    let what = switch_arrival_by_forwarding c.args.switch.now (switch_site_of c.args.site) (log_packet_standing at) forwarding in
     LogAfter c.from_residual-in_err-send_rule-in-Decided.result
     (log_arrived_items (length c.args.self.now.bag + 1) at c.args.at.version c.args.at.rule what)
     (log_arrived_posts at what) c.args.at.packet
@@ -52,9 +52,9 @@ returns-in_ok-send_rule-in-Decided-clause-log c =
     let decided : Item = item.Decided at.packet decision.version decision.rule decision.action
     decision.how in
     let sends : List Item = machine_sent_items_from (length c.args.self.now.bag + 1) (log_message_list message) in
-    let posts : List Post = map new_post (log_message_list message) in
+    let posts : List Post = map new_bag_post (log_message_list message) in
     let P : Forwarding → Type 0 = λ forwarding.
-    let what = answer_of c.args.switch.now (switch_site_of c.args.site) (log_packet_standing at) forwarding in
+    let what = switch_arrival_by_forwarding c.args.switch.now (switch_site_of c.args.site) (log_packet_standing at) forwarding in
     LogAfter c.leave.result
     (log_arrived_items (length c.args.self.now.bag + 1) at c.args.at.version c.args.at.rule what)
     (log_arrived_posts at what) c.args.at.packet
@@ -74,7 +74,7 @@ returns-in-Seek-clause-log c =
     let s = c.args.switch.now in
     let leg = c.in-Seek.leg in
     let P : Forwarding → Type 0 = λ forwarding.
-    let what = answer_of s site (log_packet_standing at) forwarding in
+    let what = switch_arrival_by_forwarding s site (log_packet_standing at) forwarding in
     LogAfter c.set_out.result
     (log_arrived_items (length c.args.self.now.bag + 1) at c.args.at.version c.args.at.rule what)
     (log_arrived_posts at what) c.args.at.packet
@@ -83,4 +83,4 @@ returns-in-Seek-clause-log c =
     subst P (sym c.in-Seek.is)
     (sought c.set_out.result at c.args.at.packet c.args.self.now c.set_out.new.self
     (length c.args.self.now.bag + 1) leg c.args.at.version c.args.at.rule
-    (set_out s site.near (log_packet_standing at) leg c.in-Seek.targets) c.set_out.ensures.log)
+    (switch_set_out s site.near (log_packet_standing at) leg c.in-Seek.targets) c.set_out.ensures.log)

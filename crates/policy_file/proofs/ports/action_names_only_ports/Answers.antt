@@ -1,7 +1,7 @@
 use Rattle.std.proofs.Common.{◌∙◌, arith, le-ltb, sym}
 use Rattle.base.specs.Exports.{has}
 use Rattle.base.proofs.Exports.{has_above}
-use Rattle.policy_file.proofs.ports.policy_file_has_port.Goals as goal
+use Rattle.policy_file.proofs.ports.action_names_only_ports.Goals as goal
 
 pub returns-else-port-lt64 : goal.returns-else-port-lt64
 unfolding has

@@ -1,8 +1,8 @@
 use Rattle.std.proofs.Common.{◌+◌, List, Option, ap, arith, subst, sym}
 use Rattle.world.specs.declared.files.Compiled.{Compiled}
 use Rattle.world.proofs.WorldKeptFiles.{AreForgotten, all_forgotten, change_forgotten, none_forgotten, whole_kept, whole_own}
-use Rattle.world.proofs.files.forget_world_changed_files.Goals as goal
-use Rattle.world.proofs.files.forget_world_changed_files.Goals.{in-Whole, in-Change+in-None-1, in-Change+in-Some+in-Planned+in-All-1, in-Change+in-Some+in-Planned+in-Words-1, in-Change+in-Some+in-Refused-1}
+use Rattle.world.proofs.files.forget_world_change_plans.Goals as goal
+use Rattle.world.proofs.files.forget_world_change_plans.Goals.{in-Whole, in-Change+in-None-1, in-Change+in-Some+in-Planned+in-All-1, in-Change+in-Some+in-Planned+in-Words-1, in-Change+in-Some+in-Refused-1}
 
 pub loop-place-init : goal.loop-place-init
 loop-place-init c = none_forgotten c.args.files.now c.args.compiled.now.items

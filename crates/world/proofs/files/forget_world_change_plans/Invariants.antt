@@ -1,5 +1,5 @@
 use Rattle.world.proofs.WorldKeptFiles.{AreForgotten}
-use Rattle.world.proofs.files.forget_world_changed_files.Given as goal
+use Rattle.world.proofs.files.forget_world_change_plans.Given as goal
 
 -- what became of changes is forgotten so far
 abbrev pub invariant-loop-place : goal.invariant-loop-place
