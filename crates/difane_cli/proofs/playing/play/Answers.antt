@@ -12,7 +12,7 @@ use Rattle.command_inputs.specs.declared.status.Status.TheVariants.{NoMemory}
 use Rattle.difane_cli.proofs.ProgramPlayOutcomes.{judged, played, told, unjudged}
 use Rattle.difane_cli.proofs.ProgramStatus.{after_work, by_failed, by_memory, of_failed, on_err, out_of_judging, out_of_writing}
 use Rattle.difane_cli.proofs.playing.play.Goals as goal
-use Rattle.difane_cli.proofs.playing.play.Goals.{After-write_report, in-Err, in-Ok-write_report}
+use Rattle.difane_cli.proofs.playing.play.Goals.{After-drop-events-2, After-write_report, in-Err, in-Ok-write_report}
 use Rattle.difane_cli.proofs.playing.play.Given.{Over}
 
 -- what the play comes to, by what became of its text
@@ -78,35 +78,27 @@ memory_of g c command own is = out_of_writing command (task_inputs_stated c.args
     c.in-Ok.played.full g.K.Sink.takes_memory _ _ _ own
     (c.write_report.ensures.no_memory (by_memory c.write_report.result c.in-Ok.played.full is))
 
-pub returns-clause-outcome : goal.returns-clause-outcome
-returns-clause-outcome g c = λ command files asked read. let ended : c.match-write_report.status
-    ≡ command_status_after c.write_report.result c.in-Ok.played.full = elim c.match-write_report.branch [
+-- its status is by what became of its text
+status_of : (g : Over) (c : After-drop-events-2 g) → c.match-write_report.status
+    ≡ command_status_after c.write_report.result c.in-Ok.played.full
+status_of g c = let full = c.in-Ok.played.full in
+    elim c.match-write_report.branch [
       | in-Ok-write_report w ↦ w.status-is ∙ w.written-status.ensures
-          ∙ ap (λ result. command_status_after result c.in-Ok.played.full) (sym w.in-Ok-write_report.is)
+          ∙ ap (λ result. command_status_after result full) (sym w.in-Ok-write_report.is)
       | in-Err w ↦ w.status-is ∙ w.from-status.ensures
-          ∙ ap (λ result. command_status_after result c.in-Ok.played.full) (sym w.in-Err.is)
-    ] in
-    rw ended (outcome_of g (goal.at.returns-clause-outcome g c).After-write_report command files asked read)
+          ∙ ap (λ result. command_status_after result full) (sym w.in-Err.is)
+    ]
+
+pub returns-clause-outcome : goal.returns-clause-outcome
+returns-clause-outcome g c = λ command files asked read. rw (status_of g c) (outcome_of g
+    (goal.at.returns-clause-outcome g c).After-write_report command files asked read)
 
 pub returns-clause-ended : goal.returns-clause-ended
-returns-clause-ended g c = let ended : c.match-write_report.status
-    ≡ command_status_after c.write_report.result c.in-Ok.played.full = elim c.match-write_report.branch [
-      | in-Ok-write_report w ↦ w.status-is ∙ w.written-status.ensures
-          ∙ ap (λ result. command_status_after result c.in-Ok.played.full) (sym w.in-Ok-write_report.is)
-      | in-Err w ↦ w.status-is ∙ w.from-status.ensures
-          ∙ ap (λ result. command_status_after result c.in-Ok.played.full) (sym w.in-Err.is)
-    ] in
-    rw ended (ends_of g (goal.at.returns-clause-ended g c).After-write_report)
+returns-clause-ended g c = rw (status_of g c) (ends_of g (goal.at.returns-clause-ended g c).After-write_report)
 
 pub returns-clause-no_memory : goal.returns-clause-no_memory
-returns-clause-no_memory g c = λ command own is. let ended : c.match-write_report.status
-    ≡ command_status_after c.write_report.result c.in-Ok.played.full = elim c.match-write_report.branch [
-      | in-Ok-write_report w ↦ w.status-is ∙ w.written-status.ensures
-          ∙ ap (λ result. command_status_after result c.in-Ok.played.full) (sym w.in-Ok-write_report.is)
-      | in-Err w ↦ w.status-is ∙ w.from-status.ensures
-          ∙ ap (λ result. command_status_after result c.in-Ok.played.full) (sym w.in-Err.is)
-    ] in
-    memory_of g (goal.at.returns-clause-no_memory g c).After-write_report command own (rw ended at is)
+returns-clause-no_memory g c = λ command own is. memory_of g
+    (goal.at.returns-clause-no_memory g c).After-write_report command own (rw (status_of g c) at is)
 
 pub returns-in_default-judge_quiet_network-clause-outcome : goal.returns-in_default-judge_quiet_network-clause-outcome
 returns-in_default-judge_quiet_network-clause-outcome g c = λ command files asked read.

@@ -11,7 +11,7 @@ use Rattle.command_inputs.specs.Exports.{AreCommandPlayInputs, Play, command_sta
 use Rattle.difane_cli.proofs.ProgramPlayOutcomes.{played}
 use Rattle.difane_cli.proofs.ProposalOutcomes.{out_of_proposing, proposing_ends, whole_told}
 use Rattle.difane_cli.proofs.proposing.run_program_proposal.Goals as goal
-use Rattle.difane_cli.proofs.proposing.run_program_proposal.Goals.{After-write_program_proposal, in-Err-write_program_proposal, in-Ok-write_program_proposal}
+use Rattle.difane_cli.proofs.proposing.run_program_proposal.Goals.{After-drop-inputs-4, After-write_program_proposal, in-Err-write_program_proposal, in-Ok-write_program_proposal}
 use Rattle.difane_cli.proofs.proposing.run_program_proposal.Given.{Over}
 
 pub write_program_proposal-requires-clause-plan : goal.write_program_proposal-requires-clause-plan
@@ -44,34 +44,25 @@ outcome_of g c command files own read = let inputs = task_inputs_stated c.args.i
     whole_told command files inputs journal full plan takes_memory before now written answer
     c.in-Ok.ensures.plan after
 
-pub returns-clause-outcome : goal.returns-clause-outcome
-returns-clause-outcome g c = λ command files own read. let ended : c.match-write_program_proposal.status
-    ≡ command_status_after c.write_program_proposal.result c.in-Ok.played.full = elim c.match-write_program_proposal.branch [
+-- its status is by what became of its text
+status_of : (g : Over) (c : After-drop-inputs-4 g) → c.match-write_program_proposal.status
+    ≡ command_status_after c.write_program_proposal.result c.in-Ok.played.full
+status_of g c = let full = c.in-Ok.played.full in
+    elim c.match-write_program_proposal.branch [
       | in-Ok-write_program_proposal w ↦ w.status-is ∙ w.written-status.ensures
-          ∙ ap (λ result. command_status_after result c.in-Ok.played.full) (sym w.in-Ok-write_program_proposal.is)
+          ∙ ap (λ result. command_status_after result full) (sym w.in-Ok-write_program_proposal.is)
       | in-Err-write_program_proposal w ↦ w.status-is ∙ w.from-status.ensures
-          ∙ ap (λ result. command_status_after result c.in-Ok.played.full) (sym w.in-Err-write_program_proposal.is)
-    ] in
-    rw ended (outcome_of g (goal.at.returns-clause-outcome g c).After-write_program_proposal command files own read)
+          ∙ ap (λ result. command_status_after result full) (sym w.in-Err-write_program_proposal.is)
+    ]
+
+pub returns-clause-outcome : goal.returns-clause-outcome
+returns-clause-outcome g c = λ command files own read. rw (status_of g c) (outcome_of g
+    (goal.at.returns-clause-outcome g c).After-write_program_proposal command files own read)
 
 pub returns-clause-no_memory : goal.returns-clause-no_memory
-returns-clause-no_memory g c = λ is. let ended : c.match-write_program_proposal.status
-    ≡ command_status_after c.write_program_proposal.result c.in-Ok.played.full = elim c.match-write_program_proposal.branch [
-      | in-Ok-write_program_proposal w ↦ w.status-is ∙ w.written-status.ensures
-          ∙ ap (λ result. command_status_after result c.in-Ok.played.full) (sym w.in-Ok-write_program_proposal.is)
-      | in-Err-write_program_proposal w ↦ w.status-is ∙ w.from-status.ensures
-          ∙ ap (λ result. command_status_after result c.in-Ok.played.full) (sym w.in-Err-write_program_proposal.is)
-    ] in
-    out_of_proposing _ _ _ _ c.in-Ok.played.full _ _ _ c.write_program_proposal.result
-    c.write_program_proposal.ensures (rw ended at is)
+returns-clause-no_memory g c = λ is. out_of_proposing _ _ _ _ c.in-Ok.played.full _ _ _ c.write_program_proposal.result
+    c.write_program_proposal.ensures (rw (status_of g c) at is)
 
 pub returns-clause-ended : goal.returns-clause-ended
-returns-clause-ended g c = let ended : c.match-write_program_proposal.status
-    ≡ command_status_after c.write_program_proposal.result c.in-Ok.played.full = elim c.match-write_program_proposal.branch [
-      | in-Ok-write_program_proposal w ↦ w.status-is ∙ w.written-status.ensures
-          ∙ ap (λ result. command_status_after result c.in-Ok.played.full) (sym w.in-Ok-write_program_proposal.is)
-      | in-Err-write_program_proposal w ↦ w.status-is ∙ w.from-status.ensures
-          ∙ ap (λ result. command_status_after result c.in-Ok.played.full) (sym w.in-Err-write_program_proposal.is)
-    ] in
-    rw ended (proposing_ends _ _ _ _ c.in-Ok.played.full
+returns-clause-ended g c = rw (status_of g c) (proposing_ends _ _ _ _ c.in-Ok.played.full
     g.K.Sink.takes_memory _ _ c.write_program_proposal.result c.write_program_proposal.ensures)
